@@ -11,7 +11,7 @@ use Rattle.fuse_wire.specs.declared.errno.Errno.TheVariants.{EINVAL, ENOTDIR, ES
 use Rattle.fuse_wire.specs.declared.limits.TheConstants.{MAX_DATA_SIZE}
 use Rattle.stack_model.specs.Attributes.{is_directory, is_directory_at, kind_at}
 use Rattle.stack_model.specs.Numbers.{Place, node_of}
-use Rattle.stack_table.specs.Stacked.{Stacked}
+use Rattle.stack_model.specs.Listing.{Stacked}
 use Rattle.reply_model.specs.declared.session.Agreement.{Agreement}
 use Rattle.reply_model.specs.Services.{refuse_if}
 use Rattle.reply_model.specs.Refusals.{first_refusal, refused_at}
@@ -55,7 +55,7 @@ module _ {A : Type 0} (stack : Stacked) (agreed : Agreement) (n offset size : �
       → nat_lt MAX_DATA_SIZE size ≡ false → size ≤ MAX_DATA_SIZE → AreListed stack n offset size plus l → is_cut_short l ≡ false
       → IsAnswerAt stack agreed (listing_op plus offset size) p (Rows l)
   rows_at_place false l p is directory large small listed whole_rows =
-      let form = dirent_of stack.layers stack.entries in
+      let form = dirent_of stack in
       let good = plain stack in
       let bytes = data_same stack false form good n offset size p is directory l listed in
       record {
@@ -67,7 +67,7 @@ module _ {A : Type 0} (stack : Stacked) (agreed : Agreement) (n offset size : �
         sized = whole false l listed small;
       }
   rows_at_place true l p is directory large small listed whole_rows =
-      let form = direntplus_of stack.layers stack.entries in
+      let form = direntplus_of stack in
       let good = with_entries stack in
       let bytes = data_same stack true form good n offset size p is directory l listed in
       record {
@@ -82,14 +82,14 @@ module _ {A : Type 0} (stack : Stacked) (agreed : Agreement) (n offset size : �
 
   cut_at_place : (plus : Bool) (l : Listing A) (p : Place) → node_of stack.entries n ≡ Some p → is_directory_at stack.layers p ≡ true
       → AreListed stack n offset size plus l → is_cut_short l ≡ true
-      → refused_at stack.layers stack.entries agreed (listing_op plus offset size) p ≡ Some EINVAL
+      → refused_at stack agreed (listing_op plus offset size) p ≡ Some EINVAL
   cut_at_place false l p is directory listed short =
-      let form = dirent_of stack.layers stack.entries in
+      let form = dirent_of stack in
       cut (is_directory_at stack.layers p) (nat_lt MAX_DATA_SIZE size) (is_too_small form size (rows_after stack.entries p offset))
       directory
       (sym (cut_same stack false form (plain stack) n offset size p is directory l listed) ∙ short)
   cut_at_place true l p is directory listed short =
-      let form = direntplus_of stack.layers stack.entries in
+      let form = direntplus_of stack in
       cut (is_directory_at stack.layers p) (nat_lt MAX_DATA_SIZE size) (is_too_small form size (rows_after stack.entries p offset))
       directory
       (sym (cut_same stack true form (with_entries stack) n offset size p is directory l listed) ∙ short)
@@ -97,7 +97,7 @@ module _ {A : Type 0} (stack : Stacked) (agreed : Agreement) (n offset size : �
   -- what is decided at a directory
   at_directory : (plus : Bool) (r : Result (Answer A) Errno) → TellsKind stack n (told_kind Directory)
       → ((p : Place) → node_of stack.entries n ≡ Some p → is_directory_at stack.layers p ≡ true
-      → MatchResult r (IsAnswerAt stack agreed (listing_op plus offset size) p) (λ errno. refused_at stack.layers stack.entries agreed
+      → MatchResult r (IsAnswerAt stack agreed (listing_op plus offset size) p) (λ errno. refused_at stack agreed
       (listing_op plus offset size) p ≡ Some errno))
       → DecidesAt stack agreed n (listing_op plus offset size) r
   at_directory plus r kind each = go (node_of stack.entries n) refl kind
@@ -105,7 +105,7 @@ module _ {A : Type 0} (stack : Stacked) (agreed : Agreement) (n offset size : �
       go : (o : Option Place) → node_of stack.entries n ≡ o
           → MatchOption o (told_kind Directory ≡ Err ESTALE) (λ p. told_kind Directory ≡ Ok (kind_at stack.layers p))
           → MatchOption o (r ≡ Err ESTALE) (λ p. MatchResult r (IsAnswerAt stack agreed (listing_op plus offset size) p)
-          (λ errno. refused_at stack.layers stack.entries agreed (listing_op plus offset size) p ≡ Some errno))
+          (λ errno. refused_at stack agreed (listing_op plus offset size) p ≡ Some errno))
       go None is kind = absurd (cc)
       go (Some p) is kind = let kind_is : kind_at stack.layers p ≡ Directory = cc in each p is (ap is_directory kind_is)
 

@@ -10,12 +10,11 @@ use Rattle.std.proofs.lemmas.List.{drop-map, take-map, drop_min, length-drop, le
 use Rattle.std.proofs.lemmas.List.FromFn.{length-enumerate_from}
 use Rattle.fuse_wire.specs.Structures.{dirent, direntplus}
 use Rattle.fuse_wire.proofs.Sizes.{length-dirent, length-direntplus}
-use Rattle.stack_model.specs.Listing.{Entry}
 use Rattle.stack_model.specs.Attributes.{is_directory_at, mode, attr_of}
 use Rattle.stack_model.specs.Numbers.{Place, Child, number, node_of, parent, children}
 use Rattle.node_attr.specs.declared.attr.Attr.{Attr}
 use Rattle.stack_table.specs.Rows.{Line}
-use Rattle.stack_table.specs.Stacked.{Stacked}
+use Rattle.stack_model.specs.Listing.{Entry, Stacked}
 use Rattle.stack_table.specs.Readers.{parent_at, rows_at}
 use Rattle.reply_model.specs.declared.moves.Move.{Move}
 use Rattle.reply_model.specs.Services.{give}
@@ -73,22 +72,22 @@ numbered_rows entries n p offset is =
     numbered_rest entries offset (enumerate_from 1 (rows entries p)) (numbered_from entries 1 (rows entries p) all)
 
 -- what the rows give
-given_rows : (layers : List (List ℕ)) (entries : List Entry) (rs : List Row)
+given_rows : (stack : Stacked) (rs : List Row)
     → map (λ (r : NumberedLine). let m : Move = record { node = r.1.number; amount = pos 1 } in
-    m) (filter is_child_line (map (line_of entries) rs))
-    ≡ map (λ r. give layers entries r.1.place) (filter is_child rs)
-given_rows layers entries [] = refl
-given_rows layers entries (r ∷ rs) = go (nat_lt 2 r.0) (given_rows layers entries rs)
+    m) (filter is_child_line (map (line_of stack.entries) rs))
+    ≡ map (λ r. give stack r.1.place) (filter is_child rs)
+given_rows stack [] = refl
+given_rows stack (r ∷ rs) = go (nat_lt 2 r.0) (given_rows stack rs)
   where
     go : (b : Bool)
         → map (λ (r : NumberedLine). let m : Move = record { node = r.1.number; amount = pos 1 } in
-        m) (filter is_child_line (map (line_of entries) rs))
-        ≡ map (λ r. give layers entries r.1.place) (filter is_child rs)
+        m) (filter is_child_line (map (line_of stack.entries) rs))
+        ≡ map (λ r. give stack r.1.place) (filter is_child rs)
         → map (λ (r : NumberedLine). let m : Move = record { node = r.1.number; amount = pos 1 } in
-        m) (cond b (line_of entries r ∷ filter is_child_line (map (line_of entries) rs))
-        (filter is_child_line (map (line_of entries) rs)))
-        ≡ map (λ r. give layers entries r.1.place) (cond b (r ∷ filter is_child rs) (filter is_child rs))
-    go true e = ap (λ t. give layers entries r.1.place ∷ t) e
+        m) (cond b (line_of stack.entries r ∷ filter is_child_line (map (line_of stack.entries) rs))
+        (filter is_child_line (map (line_of stack.entries) rs)))
+        ≡ map (λ r. give stack r.1.place) (cond b (r ∷ filter is_child rs) (filter is_child rs))
+    go true e = ap (λ t. give stack r.1.place ∷ t) e
     go false e = e
 
 -- a form of the definitions' rows has the length and, where places have numbers, the bytes of a
@@ -98,23 +97,23 @@ pub record IsForm (stack : Stacked) (plus : Bool) (form : Row → List ℕ) : Ty
   pub written : (r : Row) → IsNumbered stack.entries r.1.place → line_bytes stack plus (line_of stack.entries r) ≡ form r
 
 -- the rows of READDIR are such a form
-pub plain : (stack : Stacked) → IsForm stack false (dirent_of stack.layers stack.entries)
+pub plain : (stack : Stacked) → IsForm stack false (dirent_of stack)
 unfolding dirent_of
 plain stack = record {
   sized = λ r. (let e = length-dirent (number stack.entries r.1.place) r.0 (mode stack.layers r.1.place / 2 ^ 12) r.1.name in omega arith);
   written = λ r numbered. ap (λ o. dirent (number stack.entries r.1.place) r.0 (option_map_or (λ (a : Attr). a.mode / 2 ^ 12)
-      (option_map (attr_of stack.layers stack.entries) o) 0) r.1.name) numbered;
+      (option_map (attr_of stack) o) 0) r.1.name) numbered;
 }
 
 -- the rows of READDIRPLUS are such a form
-pub with_entries : (stack : Stacked) → IsForm stack true (direntplus_of stack.layers stack.entries)
+pub with_entries : (stack : Stacked) → IsForm stack true (direntplus_of stack)
 unfolding direntplus_of
 with_entries stack = record {
-  sized = λ r. (let e = length-direntplus (cond (nat_lt 2 r.0) (Some (attr_of stack.layers stack.entries r.1.place)) None)
+  sized = λ r. (let e = length-direntplus (cond (nat_lt 2 r.0) (Some (attr_of stack r.1.place)) None)
       (number stack.entries r.1.place) r.0 (mode stack.layers r.1.place / 2 ^ 12) r.1.name in omega arith);
-  written = λ r numbered. ap (λ o. direntplus (cond (nat_lt 2 r.0) (option_map (attr_of stack.layers stack.entries) o)
+  written = λ r numbered. ap (λ o. direntplus (cond (nat_lt 2 r.0) (option_map (attr_of stack) o)
       None) (number stack.entries r.1.place) r.0 (option_map_or (λ (a : Attr). a.mode / 2 ^ 12)
-      (option_map (attr_of stack.layers stack.entries) o) 0) r.1.name) numbered;
+      (option_map (attr_of stack) o) 0) r.1.name) numbered;
 }
 
 module _ {A : Type 0} (stack : Stacked) (plus : Bool) (form : Row → List ℕ) (good : IsForm stack plus form) (n offset size : ℕ) (p : Place)
@@ -205,11 +204,11 @@ module _ {A : Type 0} (stack : Stacked) (plus : Bool) (form : Row → List ℕ) 
   -- a listing's rows give what the rows that fit give
   pub moves_same : map (λ (r : NumberedLine). let m : Move = record { node = r.1.number; amount = pos 1 } in
       m) (filter is_child_line (lines_answered l))
-      ≡ map (λ r. give stack.layers stack.entries r.1.place) (filter is_child (fitting form size rest))
+      ≡ map (λ r. give stack r.1.place) (filter is_child (fitting form size rest))
   moves_same =
       ap (λ t. map (λ (r : NumberedLine). let m : Move = record { node = r.1.number; amount = pos 1 } in m) (filter is_child_line t))
       answered_same
-      ∙ given_rows stack.layers stack.entries (fitting form size rest)
+      ∙ given_rows stack (fitting form size rest)
 
   -- a listing is cut short exactly where its first row does not fit
   pub cut_same : is_cut_short l ≡ is_too_small form size rest

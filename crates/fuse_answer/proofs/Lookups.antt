@@ -13,7 +13,7 @@ use Rattle.fuse_wire.specs.declared.limits.TheConstants.{MAX_NAME_SIZE}
 use Rattle.fuse_wire.specs.Requests.{lookup}
 use Rattle.stack_model.specs.Attributes.{is_directory, is_directory_at, kind_at, attr_of}
 use Rattle.stack_model.specs.Numbers.{Place, number, node_of, parent, child}
-use Rattle.stack_table.specs.Stacked.{Stacked}
+use Rattle.stack_model.specs.Listing.{Stacked}
 use Rattle.stack_table.specs.Readers.{attr_at}
 use Rattle.reply_model.specs.declared.session.Agreement.{Agreement}
 use Rattle.reply_model.specs.Lookups.{is_itself, is_parent, looked_up}
@@ -51,7 +51,7 @@ module _ {A : Type 0} (stack : Stacked) (agreed : Agreement) (n : ℕ) (name : L
   entry_at : (p c : Place) → kind_at stack.layers p ≡ Directory → is_itself agreed.export name ≡ false → nat_lt MAX_NAME_SIZE (length name)
       ≡ false
       → looked_up stack.entries agreed.export p name ≡ Some c → IsAnswerAt {A = A} stack agreed (lookup name) p
-      (Entry (attr_of stack.layers stack.entries c))
+      (Entry (attr_of stack c))
   entry_at p c kind other short found = record {
     taken = free (kind_at stack.layers p) (is_itself agreed.export name) (nat_lt MAX_NAME_SIZE (length name)) agreed.lasting
         (looked_up stack.entries agreed.export p name) c kind short found;
@@ -66,25 +66,25 @@ module _ {A : Type 0} (stack : Stacked) (agreed : Agreement) (n : ℕ) (name : L
   found_below kind other short finds entry = go (node_of stack.entries n) refl kind finds
     where
       done : (p c : Place) → kind_at stack.layers p ≡ Directory → looked_up stack.entries agreed.export p name ≡ Some c
-          → r ≡ Ok (Entry (attr_of stack.layers stack.entries c))
-          → MatchResult r (IsAnswerAt stack agreed (lookup name) p) (λ errno. refused_at stack.layers stack.entries agreed (lookup name) p
+          → r ≡ Ok (Entry (attr_of stack c))
+          → MatchResult r (IsAnswerAt stack agreed (lookup name) p) (λ errno. refused_at stack agreed (lookup name) p
           ≡ Some errno)
       done p c kind found is =
-          subst (λ r. MatchResult r (IsAnswerAt stack agreed (lookup name) p) (λ errno. refused_at stack.layers stack.entries agreed
+          subst (λ r. MatchResult r (IsAnswerAt stack agreed (lookup name) p) (λ errno. refused_at stack agreed
           (lookup name) p ≡ Some errno)) (sym is)
           (entry_at p c kind other short found)
 
       told : (c : Place) → IsNumbered stack.entries c → number stack.entries c ≡ f
-          → r ≡ Ok (Entry (attr_of stack.layers stack.entries c))
+          → r ≡ Ok (Entry (attr_of stack c))
       told c numbered same =
           let P : Option Attr → Type 0 = λ o. MatchOption o (r ≡ Err ENOENT) (λ attr. r ≡ Ok (Entry attr)) in
-          let held : attr_at stack f ≡ Some (attr_of stack.layers stack.entries c) =
-          ap (attr_at stack) (sym same) ∙ ap (λ o. option_map (attr_of stack.layers stack.entries) o) numbered in
+          let held : attr_at stack f ≡ Some (attr_of stack c) =
+          ap (attr_at stack) (sym same) ∙ ap (λ o. option_map (attr_of stack) o) numbered in
           subst P held entry
 
       below : (p : Place) (o : Option Place) → node_of stack.entries n ≡ Some p → kind_at stack.layers p ≡ Directory
           → looked_up stack.entries agreed.export p name ≡ o → Some f ≡ option_map (number stack.entries) o
-          → MatchResult r (IsAnswerAt stack agreed (lookup name) p) (λ errno. refused_at stack.layers stack.entries agreed (lookup name) p
+          → MatchResult r (IsAnswerAt stack agreed (lookup name) p) (λ errno. refused_at stack agreed (lookup name) p
           ≡ Some errno)
       below p None is kind found same = absurd (cc)
       below p (Some c) is kind found same =
@@ -96,7 +96,7 @@ module _ {A : Type 0} (stack : Stacked) (agreed : Agreement) (n : ℕ) (name : L
           → MatchOption o (Some f ≡ None) (λ p. is_directory_at stack.layers p ≡ true → is_itself agreed.export name ≡ false
           → Some f ≡ option_map (number stack.entries) (looked_up stack.entries agreed.export p name))
           → MatchOption o (r ≡ Err ESTALE) (λ p. MatchResult r (IsAnswerAt stack agreed (lookup name) p)
-          (λ errno. refused_at stack.layers stack.entries agreed (lookup name) p ≡ Some errno))
+          (λ errno. refused_at stack agreed (lookup name) p ≡ Some errno))
       go None is kind finds = absurd (cc)
       go (Some p) is kind finds =
           let kind_is : kind_at stack.layers p ≡ Directory = cc in

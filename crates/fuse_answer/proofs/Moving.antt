@@ -9,7 +9,7 @@ use Rattle.std.proofs.lemmas.Int.{ints}
 use Rattle.fuse_wire.specs.declared.forget.Forget.{Forget}
 use Rattle.fuse_wire.specs.declared.limits.TheConstants.{MAX_FORGETS}
 use Rattle.stack_model.specs.Numbers.{Place, node_of}
-use Rattle.stack_table.specs.Stacked.{Stacked}
+use Rattle.stack_model.specs.Listing.{Stacked}
 use Rattle.reply_model.specs.declared.moves.Move.{Move}
 use Rattle.reply_model.specs.Moves.{take_back}
 use Rattle.lookup_balances.specs.Balances.{AreWithin, IsMoved, weight}
@@ -139,7 +139,7 @@ module _ {A : Type 0} (l : Listing A) where
 -- what is taken back of some and then others
 taken_on : (stack : Stacked) (xs ys : List Forget) → taken_back stack (xs ++ ys) ≡ taken_back stack xs ++ taken_back stack ys
 taken_on stack [] ys = refl
-taken_on stack (x ∷ xs) ys = go (take_back stack.layers stack.entries x) (taken_on stack xs ys)
+taken_on stack (x ∷ xs) ys = go (take_back stack x) (taken_on stack xs ys)
   where
     go : (o : Option Move) → taken_back stack (xs ++ ys) ≡ taken_back stack xs ++ taken_back stack ys
         → cons_option o (taken_back stack (xs ++ ys)) ≡ cons_option o (taken_back stack xs) ++ taken_back stack ys

@@ -11,7 +11,7 @@ use Rattle.fuse_wire.specs.Structures.{init_out, entry_out, negative_entry_out, 
 use Rattle.romfs_format.specs.declared.head.Kind.{Kind}
 use Rattle.stack_model.specs.Attributes.{kind_at, is_directory_at}
 use Rattle.stack_model.specs.Numbers.{Place, number, node_of}
-use Rattle.stack_table.specs.Stacked.{Stacked}
+use Rattle.stack_model.specs.Listing.{Stacked}
 use Rattle.stack_table.specs.Readers.{attr_at}
 use Rattle.reply_model.specs.declared.moves.Move.{Move}
 use Rattle.reply_model.specs.declared.session.Agreement.{Agreement}
@@ -41,7 +41,7 @@ answer_data stack (AllForgotten items) = []
 
 -- what is taken back of the nodes that are in use
 abbrev pub taken_back : Stacked → List Forget → List Move
-taken_back stack forgets = filter_map (take_back stack.layers stack.entries) forgets
+taken_back stack forgets = filter_map (take_back stack) forgets
 
 -- what it gives and takes
 abbrev pub answer_moves : {A : Type 0} → Stacked → Answer A → List Move
@@ -78,10 +78,10 @@ IsSized stack _ = Unit {0}
 -- the answer to a request about the node at a place
 pub record IsAnswerAt {A : Type 0} (stack : Stacked) (agreed : Agreement) (op : NodeOp) (p : Place)
     (a : Answer A) : Type 0 where
-  pub taken : refused_at stack.layers stack.entries agreed op p ≡ None
-  pub data_is : answer_data stack a ≡ answer_at stack.layers stack.entries agreed op p
+  pub taken : refused_at stack agreed op p ≡ None
+  pub data_is : answer_data stack a ≡ answer_at stack agreed op p
   pub sized : IsSized stack a
-  pub moves_are : answer_moves stack a ≡ gives_at stack.layers stack.entries agreed op p
+  pub moves_are : answer_moves stack a ≡ gives_at stack agreed op p
 
 -- what is decided about a request at the node with this number: it is answered, or refused
 abbrev pub DecidesAt : {A : Type 0} → Stacked → Agreement → ℕ → NodeOp → Result (Answer A) Errno
@@ -89,22 +89,22 @@ abbrev pub DecidesAt : {A : Type 0} → Stacked → Agreement → ℕ → NodeOp
 DecidesAt stack agreed node op result =
     MatchOption (node_of stack.entries node) (result ≡ Err ESTALE)
     (λ p. MatchResult result (IsAnswerAt stack agreed op p)
-    (λ errno. refused_at stack.layers stack.entries agreed op p ≡ Some errno))
+    (λ errno. refused_at stack agreed op p ≡ Some errno))
 
 -- the answer to a request that is not refused, in a session that is fresh or not
 pub record IsAnswer {A : Type 0} (stack : Stacked) (fresh : Bool) (agreed : Agreement) (q : Asked)
     (a : Answer A) : Type 0 where
-  pub taken : refusal_in stack.layers stack.entries fresh agreed q.node q.op ≡ None
-  pub data_is : answer_data stack a ≡ answer stack.layers stack.entries agreed q.node q.op
+  pub taken : refusal_in stack fresh agreed q.node q.op ≡ None
+  pub data_is : answer_data stack a ≡ answer stack agreed q.node q.op
   pub sized : IsSized stack a
-  pub moves_are : answer_moves stack a ≡ moved stack.layers stack.entries agreed q.node q.op
+  pub moves_are : answer_moves stack a ≡ moved stack agreed q.node q.op
 
 -- what is decided about a request
 abbrev pub DecidesIn : {A : Type 0} → Stacked → Bool → Agreement → Asked → Result (Answer A) Errno
     → Type 0
 DecidesIn stack fresh agreed q result =
     MatchResult result (IsAnswer stack fresh agreed q)
-    (λ errno. refusal_in stack.layers stack.entries fresh agreed q.node q.op ≡ Some errno)
+    (λ errno. refusal_in stack fresh agreed q.node q.op ≡ Some errno)
 
 -- the same, in a session
 abbrev pub Decides : {A : Type 0} → Stacked → Session → Asked → Result (Answer A) Errno → Type 0

@@ -2,12 +2,10 @@
 use Rattle.std.specs.Prelude.{◌≡◌, ◌+◌, ◌<◌, ◌≤◌, ◌^◌, ℤ, unsigned_abs, List, ◌++◌, length, Result, OnOk, OnErr, vec_len, vec_capacity}
 use Rattle.std.specs.List.{All}
 use Rattle.std.specs.declared.vec.Vec.{Vec}
-use Rattle.fuse_wire.specs.Appends.{Appends, Filled}
 use Rattle.fuse_wire.specs.Requests.{Asked}
-use Rattle.stack_table.specs.Stacked.{Stacked}
+use Rattle.stack_model.specs.Listing.{Stacked}
 use Rattle.reply_model.specs.declared.moves.Move.{Move}
 use Rattle.reply_model.specs.declared.session.Session.{Session}
-use Rattle.reply_model.specs.Replies.{reply}
 use Rattle.reply_model.specs.Moves.{moves}
 use Rattle.lookup_balances.specs.Balances.{IsMoved}
 
@@ -32,22 +30,13 @@ Grows {X = X} result before after appended =
 abbrev pub AreSmall : List Move → Type 0
 AreSmall moves = All (λ m. unsigned_abs m.amount ≤ 2 ^ 64) moves
 
--- the reply to a request over a stack is appended; or, where there is no room for it, nothing
-abbrev pub PutsReply : {E : Type 0} → Stacked → Session → Asked → Result (Unit {0}) E → Filled
-    → Filled → Type 0
-PutsReply stack s q result before after =
-    Appends result before after (reply stack.layers stack.entries s q)
-
 -- what a request over a stack moves is appended; or, where there is no room for it, nothing
 abbrev pub PutsMoves : {A E : Type 0} → Stacked → Session → Asked → Result (Unit {0}) E → Vec Move A
     → Vec Move A → Type 0
 PutsMoves stack s q result before after =
-    Puts result before after (moves stack.layers stack.entries s q)
+    Puts result before after (moves stack s q)
 
--- the balances rise by what a request over a stack moves; or, where memory is refused, they are as
--- before
-abbrev pub AddsMoves : {E : Type 0} → Stacked → Session → Asked → Result (Unit {0}) E → List ℤ
-    → List ℤ → Type 0
-AddsMoves stack s q result before after =
-    OnOk result (IsMoved (moves stack.layers stack.entries s q) before after)
-    × OnErr result (after ≡ before)
+-- the balances rise by these moves; or, where memory is refused, they are as before
+abbrev pub AddsMoves : {E : Type 0} → List Move → Result (Unit {0}) E → List ℤ → List ℤ → Type 0
+AddsMoves moves result before after =
+    OnOk result (IsMoved moves before after) × OnErr result (after ≡ before)

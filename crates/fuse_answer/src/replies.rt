@@ -1,16 +1,18 @@
 //! One request's reply.
 
 ghost use Rattle.fuse_wire.specs.Reads.{asked_of, op_said};
-ghost use Rattle.reply_model.specs.Replies.{is_silent};
+ghost use Rattle.fuse_wire.specs.Appends.{Appends};
+ghost use Rattle.reply_model.specs.Moves.{moves};
+ghost use Rattle.reply_model.specs.Replies.{is_silent, reply};
 ghost use Rattle.fuse_answer.specs.Answers.{Decides};
 ghost use Rattle.std.specs.Prelude.{◌≡◌, ◌^◌};
 ghost use Rattle.lookup_balances.specs.Balances.{AreWithin};
-ghost use Rattle.fuse_answer.specs.Puts.{PutsReply, AddsMoves};
+ghost use Rattle.fuse_answer.specs.Puts.{AddsMoves};
 
 use crate::balances::add_answer_moves;
 use crate::decide::decide;
 use crate::outcome::Answer;
-use crate::rows::put_rows;
+use crate::rows::put_rows_and_move;
 use crate::write::write;
 use fuse_wire::{Errno, Op, Replies, Request, opcode, put_error};
 use reply_model::Session;
@@ -36,7 +38,8 @@ pub fn answer<A: Allocator, O: Allocator>(
     request: &Request<'_>,
     out: &mut Replies<O>,
 ) -> Result<(), AllocError>
-    ensures { PutsReply table.now session (asked_of request.now) result out.old out.new }
+    ensures { Appends result out.old out.new
+        (reply table.now session (asked_of request.now)) }
 {
     tell(
         table,
@@ -65,8 +68,9 @@ pub fn answer_and_move<A: Allocator, O: Allocator>(
     balances: &mut [i128],
 ) -> Result<(), AllocError>
     requires { AreWithin (2 ^ 123) balances.old }
-    ensures reply { PutsReply table.now session (asked_of request.now) result out.old out.new }
-    ensures moves { AddsMoves table.now session (asked_of request.now) result
+    ensures reply { Appends result out.old out.new
+        (reply table.now session (asked_of request.now)) }
+    ensures moves { AddsMoves (moves table.now session (asked_of request.now)) result
         balances.old balances.new }
 {
     let asked = InSession {
@@ -97,10 +101,11 @@ fn settle<A: Allocator, O: Allocator>(
     balances: &mut [i128],
 ) -> Result<(), AllocError>
     requires { AreWithin (2 ^ 123) balances.old }
-    ensures reply { PutsReply table.now asked.entry.session (asked_of asked.entry.request.now)
-        result out.old out.new }
-    ensures moves { AddsMoves table.now asked.entry.session (asked_of asked.entry.request.now)
-        result balances.old balances.new }
+    ensures reply { Appends result out.old out.new
+        (reply table.now asked.entry.session (asked_of asked.entry.request.now)) }
+    ensures moves { AddsMoves
+        (moves table.now asked.entry.session (asked_of asked.entry.request.now)) result
+        balances.old balances.new }
 {
     let InSession {
         session,
@@ -112,7 +117,7 @@ fn settle<A: Allocator, O: Allocator>(
     // says here
     if let Ok(Answer::Rows(rows)) = &decided {
         if !is_silent(&request.op) {
-            return put_rows(table, request.unique, rows, out, balances);
+            return put_rows_and_move(table, request.unique, rows, out, balances);
         }
     }
     tell(table, session, request, &decided, out)?;
@@ -132,7 +137,8 @@ fn tell<A: Allocator, O: Allocator>(
     out: &mut Replies<O>,
 ) -> Result<(), AllocError>
     requires { Decides table.now session (asked_of request.now) decided.now }
-    ensures { PutsReply table.now session (asked_of request.now) result out.old out.new }
+    ensures { Appends result out.old out.new
+        (reply table.now session (asked_of request.now)) }
 {
     if is_silent(&request.op) {
         return Ok(());

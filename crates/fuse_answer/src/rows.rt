@@ -26,7 +26,7 @@ const DOTS: &[u8; 22] = b"..\0\0\0\0\0\0\0\0\0\0\0\0\0\0\0\0\0\0\0\0";
 /// Appends the reply with a directory's rows, in one growth: once there is room for it, nothing
 /// fails. What they give is added to the balances, as each is put.
 #[inline(never)]
-pub(crate) fn put_rows<A: Allocator, O: Allocator>(
+pub(crate) fn put_rows_and_move<A: Allocator, O: Allocator>(
     table: &Table<A>,
     unique: u64,
     rows: &Listing<'_, A>,

@@ -5,7 +5,7 @@ ghost use Rattle.fuse_answer.specs.Answers.{IsSized, answer_data};
 ghost use Rattle.fuse_wire.specs.Appends.{Appends};
 
 use crate::outcome::Answer;
-use crate::rows::put_rows;
+use crate::rows::put_rows_and_move;
 use fuse_wire::{
     Replies, put_attr, put_data, put_entry, put_head, put_init, put_negative_entry, put_open,
     put_statfs,
@@ -37,6 +37,6 @@ pub(crate) fn write<A: Allocator, O: Allocator>(
         Answer::Opened(flags) => put_open(out, unique, *flags),
         Answer::Data(bytes) => put_data(out, unique, bytes),
         Answer::Totals { blocks, nodes } => put_statfs(out, unique, *blocks, *nodes),
-        Answer::Rows(rows) => put_rows(table, unique, rows, out, &mut []),
+        Answer::Rows(rows) => put_rows_and_move(table, unique, rows, out, &mut []),
     }
 }

@@ -11,7 +11,7 @@ use Rattle.romfs_format.specs.declared.head.Kind.{Kind}
 use Rattle.romfs_format.specs.declared.head.Kind.TheVariants.{HardLink, Directory, Regular, SymLink, Block, Character, Socket, Fifo}
 use Rattle.romfs_format.specs.Fields.{kind, exec, size, spec}
 use Rattle.romfs_reader.specs.Readers.{data_size}
-use Rattle.stack_model.specs.Listing.{Entry as Listed}
+use Rattle.stack_model.specs.Listing.{Entry as Listed, stacked}
 use Rattle.stack_model.specs.Numbers.{Place as ModelPlace, Child, place, same_place, nodes, children}
 use Rattle.stack_model.specs.Attributes.{is_directory, is_directory_at, kind_at, mode_of, mode, size_of, size_at, rdev_of, rdev, nlink, blocks_all}
 use Rattle.shown_tree.specs.declared.place.Place.{Place}
@@ -96,7 +96,7 @@ module _ {layers : List (List ℕ)} {entries : List Listed} {tell : Place → �
     below : AgreeBelow layers entries tell (visit_place visit) linked.added.children
     below = agrees.below linked.added.children linked.added.below linked.added.forest
 
-    nlink_directory : node.nlink ≡ nlink layers entries (visit_place visit)
+    nlink_directory : node.nlink ≡ nlink (stacked layers entries) (visit_place visit)
     nlink_directory =
         linked.nlink_is ∙ ap (λ n. min (2 + n) (2 ^ 32 - 1)) (linked.added.count_is ∙ below.count_is)
         ∙ sym (ap (λ b. min (cond b (2 + count_by (λ (c : Child). is_directory_at layers c.place) (children entries (visit_place visit)))
@@ -114,7 +114,7 @@ module _ {layers : List (List ℕ)} {entries : List Listed} {tell : Place → �
   -- how often it is linked, and its directory
   held_by : (b : Bool) → is_directory_at layers (visit_place visit) ≡ b
       → AddsByKind tell visit.now above paths b node.nlink old.all new.all old.rows new.rows old.keys new.keys
-      → (node.nlink ≡ nlink layers entries (visit_place visit)) × (is_directory_at layers (visit_place visit) ≡ true
+      → (node.nlink ≡ nlink (stacked layers entries) (visit_place visit)) × (is_directory_at layers (visit_place visit) ≡ true
       → HoldsDirectory layers entries new.all new.rows new.keys (completed node) (visit_place visit))
   held_by true is_one linked = (nlink_directory is_one linked, λ again. has_directory is_one linked)
   held_by false is_none nothing = (
@@ -123,7 +123,7 @@ module _ {layers : List (List ℕ)} {entries : List Listed} {tell : Place → �
         cc),
   )
 
-  holds_both : (node.nlink ≡ nlink layers entries (visit_place visit)) × (is_directory_at layers (visit_place visit) ≡ true
+  holds_both : (node.nlink ≡ nlink (stacked layers entries) (visit_place visit)) × (is_directory_at layers (visit_place visit) ≡ true
       → HoldsDirectory layers entries new.all new.rows new.keys (completed node) (visit_place visit))
   holds_both = held_by (is_directory_at layers (visit_place visit)) refl
       (subst (λ b. AddsByKind tell visit.now above paths b node.nlink old.all new.all old.rows new.rows old.keys new.keys) directory_is

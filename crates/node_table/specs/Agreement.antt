@@ -1,7 +1,7 @@
 -- Where the first branches of places agree with the listing, so that a table can be made of them.
 use Rattle.std.specs.Prelude.{◌≡◌, ℕ, List, length, map, slice_get, slice_index, count_by, Some, false}
 use Rattle.romfs_reader.specs.Readers.{data_of_header as data_in}
-use Rattle.stack_model.specs.Listing.{Entry as Listed, IsListing}
+use Rattle.stack_model.specs.Listing.{Entry as Listed, IsListing, stacked}
 use Rattle.stack_model.specs.Numbers.{Place, Child, nodes, number, parent, children}
 use Rattle.stack_model.specs.Attributes.{kind_at, is_directory_at, nlink, data_of}
 use Rattle.path_tree.specs.Rows.{Subtree, spread, IsForest}
@@ -37,7 +37,7 @@ pub record AgreesAtPlace (layers : List (List ℕ)) (entries : List Listed) (tel
   pub below : (cs : List (Subtree Entry)) → visit.now.below ≡ spread cs → IsForest cs
       → AgreeBelow layers entries tell (visit_place visit) cs
   pub paths_are : is_directory_at layers (visit_place visit) ≡ false
-      → paths ≡ nlink layers entries (visit_place visit)
+      → paths ≡ nlink (stacked layers entries) (visit_place visit)
 
 -- the first branches of all places, in the order of numbers, agree with the listing: where each one
 -- stands, and what the number above is there

@@ -5,7 +5,7 @@ use Rattle.std.proofs.Common.{◌≡◌, ℕ, List, [], ◌∷◌, ◌++◌, Som
 use Rattle.stack_model.specs.Numbers.{Place, node_of}
 use Rattle.stack_model.specs.Attributes.{attr_of}
 use Rattle.node_attr.specs.declared.attr.Attr.{Attr}
-use Rattle.stack_table.specs.Stacked.{Stacked}
+use Rattle.stack_model.specs.Listing.{Stacked}
 use Rattle.stack_table.specs.Readers.{attr_at}
 use Rattle.path_list.specs.Lines.{fields_text, line_with}
 use Rattle.path_list.specs.Walks.{line_as}
@@ -16,8 +16,8 @@ pub line_is : (stack : Stacked) (n : ℕ) (text : List ℕ) (p : Place) (attr : 
     → (fields_text attr.ino attr.mode attr.nlink attr.size p.0 ++ text) ++ 10 ∷ [] ≡ line_as stack n text
 unfolding line_with
 line_is stack n text p attr e f =
-    let g : Some attr ≡ Some (attr_of stack.layers stack.entries p) = rw e at f in
-    let v : attr ≡ attr_of stack.layers stack.entries p = cc in
+    let g : Some attr ≡ Some (attr_of stack p) = rw e at f in
+    let v : attr ≡ attr_of stack p = cc in
     rw (e, v) refl
 
 -- texts that stand one before the other are these in a row

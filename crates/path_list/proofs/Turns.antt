@@ -7,7 +7,7 @@ use Rattle.std.specs.Prelude.{flat_map, Result}
 use Rattle.devices.specs.declared.failed.Failed.{Failed}
 use Rattle.devices.specs.States.{SinkState}
 use Rattle.stack_model.specs.Stack.{Path}
-use Rattle.stack_table.specs.Stacked.{Stacked}
+use Rattle.stack_model.specs.Listing.{Stacked}
 use Rattle.stack_table.specs.Rows.{Line}
 use Rattle.stack_table.specs.Readers.{rows_at}
 use Rattle.path_list.specs.declared.path_text.TheConstants.{LONGEST}

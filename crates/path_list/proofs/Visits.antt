@@ -10,7 +10,7 @@ use Rattle.stack_model.specs.Listing.{Entry, Rises, IsAmong}
 use Rattle.stack_model.specs.Numbers.{Place, Child, place, same_place, number_of, number, node_of, name_below, child_in, children}
 use Rattle.stack_model.specs.Attributes.{is_directory_at}
 use Rattle.stack_model.proofs.Numbering.{number_used, entries_numbered}
-use Rattle.stack_table.specs.Stacked.{Stacked}
+use Rattle.stack_model.specs.Listing.{Stacked}
 use Rattle.stack_table.specs.Rows.{Line}
 use Rattle.stack_table.specs.Readers.{rows_at}
 use Rattle.path_list.specs.declared.path_text.TheConstants.{LONGEST}

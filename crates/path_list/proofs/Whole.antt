@@ -9,7 +9,7 @@ use Rattle.stack_model.specs.Stack.{Path}
 use Rattle.stack_model.specs.Listing.{Entry, path_cmp, IsAmong, IsListing}
 use Rattle.stack_model.specs.Numbers.{place, nodes, number, number_of, node_of}
 use Rattle.stack_model.proofs.Numbering.{numbers_all, root_first}
-use Rattle.stack_table.specs.Stacked.{Stacked}
+use Rattle.stack_model.specs.Listing.{Stacked}
 use Rattle.path_list.specs.Lines.{line_of, line, lines}
 use Rattle.path_list.specs.Below.{is_below, below, AreImages, AreTree, AreShort}
 use Rattle.path_list.specs.Walks.{line_at, lines_below, IsVisited}

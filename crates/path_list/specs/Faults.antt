@@ -2,7 +2,7 @@
 use Rattle.std.specs.Prelude.{◌≡◌, ◌+◌, ◌≤◌}
 use Rattle.std.specs.Io.KnownBytes.{Appends}
 use Rattle.devices.specs.States.{SinkState}
-use Rattle.stack_table.specs.Stacked.{Stacked}
+use Rattle.stack_model.specs.Listing.{Stacked}
 use Rattle.path_list.specs.declared.walk.ListFault.{ListFault}
 use Rattle.path_list.specs.declared.walk.ListFault.TheVariants.{Write, Memory}
 use Rattle.path_list.specs.Lines.{lines}

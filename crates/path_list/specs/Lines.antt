@@ -2,7 +2,7 @@
 use Rattle.std.specs.Prelude.{ℕ, ◌+◌, ◌/◌, ◌%◌, ◌^◌, List, [], ◌∷◌, ◌++◌, Bool, ◌&&◌, ◌==◌, not, nat_lt, nat_le, flat_map, if◌then◌else◌}
 use Rattle.std.specs.Fmt.{decimal}
 use Rattle.stack_model.specs.Stack.{Path}
-use Rattle.stack_model.specs.Listing.{Entry}
+use Rattle.stack_model.specs.Listing.{Entry, stacked}
 use Rattle.stack_model.specs.Numbers.{Place, place, number}
 use Rattle.stack_model.specs.Attributes.{mode, size_at, nlink}
 
@@ -60,7 +60,7 @@ module _ (layers : List (List ℕ)) (entries : List Entry) where
   -- the fields of the place, and the text of a path
   unfoldable pub line_with : Place → List ℕ → List ℕ
   line_with p text =
-      fields_text (number entries p) (mode layers p) (nlink layers entries p) (size_at layers p) p.0
+      fields_text (number entries p) (mode layers p) (nlink (stacked layers entries) p) (size_at layers p) p.0
       ++ text ++ 10 ∷ []
 
   -- the line of a place and a path

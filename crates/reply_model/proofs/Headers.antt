@@ -7,7 +7,7 @@ use Rattle.fuse_wire.specs.declared.errno.Errno.{Errno}
 use Rattle.fuse_wire.specs.Requests.{Asked}
 use Rattle.fuse_wire.specs.Structures.{u32, u64, errno_number}
 use Rattle.fuse_wire.specs.Replies.{reply_head, reply_with, error_reply}
-use Rattle.stack_model.specs.Listing.{Entry}
+use Rattle.stack_model.specs.Listing.{Stacked}
 use Rattle.reply_model.specs.declared.session.Session.{Session}
 use Rattle.reply_model.specs.Sessions.{agreement_of}
 use Rattle.reply_model.specs.Refusals.{refusal}
@@ -47,16 +47,16 @@ with_error unique errno =
     record { error = e; rest = []; is = ap (λ n. u32 n ++ u32 e ++ u64 unique) (sym l) ∙ sym (append-nil _) }
 
 -- a reply is empty, or begins with its own length and has its request's unique
-pub headed : (layers : List (List ℕ)) (entries : List Entry) (s : Session) (q : Asked) →
-    (reply layers entries s q ≡ []) ⊎ IsReplyTo q.unique (reply layers entries s q)
-headed layers entries s q = silent (is_silent q.op) refl
+pub headed : (stack : Stacked) (s : Session) (q : Asked) →
+    (reply stack s q ≡ []) ⊎ IsReplyTo q.unique (reply stack s q)
+headed stack s q = silent (is_silent q.op) refl
   where
     refused : (o : Option Errno)
         → IsReplyTo q.unique (option_map_or (error_reply q.unique) o
-        (reply_with q.unique (answer layers entries (agreement_of s) q.node q.op)))
-    refused None = with_data q.unique (answer layers entries (agreement_of s) q.node q.op)
+        (reply_with q.unique (answer stack (agreement_of s) q.node q.op)))
+    refused None = with_data q.unique (answer stack (agreement_of s) q.node q.op)
     refused (Some errno) = with_error q.unique errno
 
-    silent : (b : Bool) → is_silent q.op ≡ b → (reply layers entries s q ≡ []) ⊎ IsReplyTo q.unique (reply layers entries s q)
+    silent : (b : Bool) → is_silent q.op ≡ b → (reply stack s q ≡ []) ⊎ IsReplyTo q.unique (reply stack s q)
     silent true e = inl (rw e refl)
-    silent false e = inr (rw e (refused (refusal layers entries s q.node q.op)))
+    silent false e = inr (rw e (refused (refusal stack s q.node q.op)))

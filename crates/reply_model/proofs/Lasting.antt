@@ -15,7 +15,7 @@ use Rattle.fuse_wire.specs.declared.reply.InitOut.TheVariants.{Version, Terms}
 use Rattle.fuse_wire.specs.Requests.{NodeOp, Op, Asked, asked, init, at_node, lookup, open_file, opendir, done, flush, destroy}
 use Rattle.fuse_wire.specs.Structures.{u16, u32, u64, zeros, errno_number, has_export, has_no_open, has_no_opendir, init_out, init_out_22, init_out_rest, entry_out, negative_entry_out, open_out}
 use Rattle.fuse_wire.specs.Replies.{reply_head, reply_with, error_reply}
-use Rattle.stack_model.specs.Listing.{Entry}
+use Rattle.stack_model.specs.Listing.{Stacked}
 use Rattle.stack_model.specs.Numbers.{Place, node_of}
 use Rattle.stack_model.specs.Attributes.{is_directory, kind_at, attr_of}
 use Rattle.reply_model.specs.declared.session.Agreement.{Agreement}
@@ -29,6 +29,7 @@ use Rattle.reply_model.specs.Replies.{answer_at, reply}
 use Rattle.reply_model.specs.Moves.{moves, balance}
 use Rattle.reply_model.specs.Streams.{moves_by, balance_after}
 use Rattle.reply_model.specs.Laws.{is_moving}
+use Rattle.reply_model.specs.LastingExamples.{LastingStayExamples}
 use Rattle.reply_model.specs.Lasting.{usual_of, Becomes, told_of_opening, LastsAs}
 use Rattle.reply_model.proofs.Given.{others_move_nothing, fresh_moves_nothing}
 
@@ -130,7 +131,7 @@ entered_lasts unique true true = turns _ _
 entered_lasts unique false true = turns _ _
 entered_lasts unique no_opendir false = stays _ _ _ (error_no_data unique ENOTDIR _)
 
-module _ (layers : List (List ℕ)) (entries : List Entry) where
+module _ (stack : Stacked) where
   -- LOOKUP at a node: the name finds the node itself or the node is a directory; it is too long; it
   -- finds a node
   abbrev sought : Bool → Bool → Bool → Bool → Option Place → Option Errno
@@ -141,7 +142,7 @@ module _ (layers : List (List ℕ)) (entries : List Entry) where
   abbrev looked : ℕ → Bool → Bool → Bool → Bool → Option Place → List ℕ
   looked unique lasting itself directory long found =
       option_map_or (error_reply unique) (sought lasting itself directory long found)
-      (reply_with unique (option_map_or (λ c. entry_out (attr_of layers entries c)) found negative_entry_out))
+      (reply_with unique (option_map_or (λ c. entry_out (attr_of stack c)) found negative_entry_out))
 
   looked_lasts : (unique : ℕ) (itself directory long : Bool) (found : Option Place)
       → Becomes (error_reply unique ENOENT) (reply_with unique negative_entry_out)
@@ -155,8 +156,8 @@ module _ (layers : List (List ℕ)) (entries : List Entry) where
   looked_lasts unique true directory false (Some c) = stays _ _ _ (data_no_error unique ENOENT _)
 
   looked_moves : (itself directory long : Bool) (found : Option Place)
-      → cond (is_some (sought true itself directory long found)) [] (map (give layers entries) (option_to_list found))
-      ≡ cond (is_some (sought false itself directory long found)) [] (map (give layers entries) (option_to_list found))
+      → cond (is_some (sought true itself directory long found)) [] (map (give stack) (option_to_list found))
+      ≡ cond (is_some (sought false itself directory long found)) [] (map (give stack) (option_to_list found))
   looked_moves false false long found = refl
   looked_moves false true true found = refl
   looked_moves false true false None = refl
@@ -175,53 +176,53 @@ module _ (layers : List (List ℕ)) (entries : List Entry) where
     -- a request about a node in a ready session, off the place that its number finds
     abbrev replied : Agreement → ℕ → NodeOp → Option Place → List ℕ
     replied agreed unique op o =
-        option_map_or (error_reply unique) (first_refusal (option_map_or (refused_at layers entries agreed op) o (Some ESTALE) ∷ []))
-        (reply_with unique (option_map_or (answer_at layers entries agreed op) o []))
+        option_map_or (error_reply unique) (first_refusal (option_map_or (refused_at stack agreed op) o (Some ESTALE) ∷ []))
+        (reply_with unique (option_map_or (answer_at stack agreed op) o []))
 
     node_lasts : (unique : ℕ) (op : NodeOp) (o : Option Place)
         → LastsAs lastingly unique (at_node op) (replied usually unique op o) (replied lastingly unique op o)
     node_lasts unique (lookup name) None = stays _ _ _ (other_error unique ESTALE refl)
     node_lasts unique (lookup name) (Some p) =
-        looked_lasts unique (is_itself export name) (is_directory (kind_at layers p))
-        (nat_lt MAX_NAME_SIZE (length name)) (looked_up entries export p name)
+        looked_lasts unique (is_itself export name) (is_directory (kind_at stack.layers p))
+        (nat_lt MAX_NAME_SIZE (length name)) (looked_up stack.entries export p name)
     node_lasts unique (open_file flags) None = stays _ _ _ (error_no_data unique ESTALE _)
-    node_lasts unique (open_file flags) (Some p) = opened_lasts unique no_open (kind_at layers p) (not (flags % 4 == 0))
+    node_lasts unique (open_file flags) (Some p) = opened_lasts unique no_open (kind_at stack.layers p) (not (flags % 4 == 0))
     node_lasts unique opendir None = stays _ _ _ (error_no_data unique ESTALE _)
-    node_lasts unique opendir (Some p) = entered_lasts unique no_opendir (is_directory (kind_at layers p))
+    node_lasts unique opendir (Some p) = entered_lasts unique no_opendir (is_directory (kind_at stack.layers p))
     node_lasts unique _ o = refl
 
     ready_lasts : (unique node : ℕ) (op : Op) →
-        LastsAs lastingly unique op (reply layers entries (Ready export) (asking unique node op))
-        (reply layers entries (LastingReady export no_open no_opendir) (asking unique node op))
+        LastsAs lastingly unique op (reply stack (Ready export) (asking unique node op))
+        (reply stack (LastingReady export no_open no_opendir) (asking unique node op))
     ready_lasts unique node (init major minor readahead flags) = stays _ _ _ (error_no_data unique EIO _)
-    ready_lasts unique node (at_node op) = node_lasts unique op (node_of entries node)
+    ready_lasts unique node (at_node op) = node_lasts unique op (node_of stack.entries node)
     ready_lasts unique node (done flush) = turns _ _
     ready_lasts unique node (done _) = refl
     ready_lasts unique node _ = refl
 
     looked_up_moves : (unique node : ℕ) (name : List ℕ) →
-        moves layers entries (LastingReady export no_open no_opendir) (asking unique node (at_node (lookup name)))
-        ≡ moves layers entries (Ready export) (asking unique node (at_node (lookup name)))
-    looked_up_moves unique node name = at_place (node_of entries node)
+        moves stack (LastingReady export no_open no_opendir) (asking unique node (at_node (lookup name)))
+        ≡ moves stack (Ready export) (asking unique node (at_node (lookup name)))
+    looked_up_moves unique node name = at_place (node_of stack.entries node)
       where
         at_place : (o : Option Place)
-            → cond (is_some (first_refusal (option_map_or (refused_at layers entries lastingly (lookup name)) o (Some ESTALE) ∷ []))) []
-            (option_map_or (λ p. map (give layers entries) (option_to_list (looked_up entries export p name))) o [])
-            ≡ cond (is_some (first_refusal (option_map_or (refused_at layers entries usually (lookup name)) o (Some ESTALE) ∷ []))) []
-            (option_map_or (λ p. map (give layers entries) (option_to_list (looked_up entries export p name))) o [])
+            → cond (is_some (first_refusal (option_map_or (refused_at stack lastingly (lookup name)) o (Some ESTALE) ∷ []))) []
+            (option_map_or (λ p. map (give stack) (option_to_list (looked_up stack.entries export p name))) o [])
+            ≡ cond (is_some (first_refusal (option_map_or (refused_at stack usually (lookup name)) o (Some ESTALE) ∷ []))) []
+            (option_map_or (λ p. map (give stack) (option_to_list (looked_up stack.entries export p name))) o [])
         at_place None = refl
-        at_place (Some p) = looked_moves (is_itself export name) (is_directory (kind_at layers p))
-            (nat_lt MAX_NAME_SIZE (length name)) (looked_up entries export p name)
+        at_place (Some p) = looked_moves (is_itself export name) (is_directory (kind_at stack.layers p))
+            (nat_lt MAX_NAME_SIZE (length name)) (looked_up stack.entries export p name)
 
     none_moved : (q : Asked) → is_moving q.op ≡ false
-        → moves layers entries (LastingReady export no_open no_opendir) q ≡ moves layers entries (Ready export) q
+        → moves stack (LastingReady export no_open no_opendir) q ≡ moves stack (Ready export) q
     none_moved q e =
-        others_move_nothing layers entries (LastingReady export no_open no_opendir) q e
-        ∙ sym (others_move_nothing layers entries (Ready export) q e)
+        others_move_nothing stack (LastingReady export no_open no_opendir) q e
+        ∙ sym (others_move_nothing stack (Ready export) q e)
 
     ready_moves : (unique node : ℕ) (op : Op) →
-        moves layers entries (LastingReady export no_open no_opendir) (asking unique node op)
-        ≡ moves layers entries (Ready export) (asking unique node op)
+        moves stack (LastingReady export no_open no_opendir) (asking unique node op)
+        ≡ moves stack (Ready export) (asking unique node op)
     ready_moves unique node (at_node (lookup name)) = looked_up_moves unique node name
     ready_moves unique node (at_node (open_file flags)) =
         none_moved (asking unique node (at_node (open_file flags))) refl
@@ -231,8 +232,8 @@ module _ (layers : List (List ℕ)) (entries : List Entry) where
     ready_moves unique node _ = refl
 
   fresh_lasts : (unique node : ℕ) (op : Op) →
-      LastsAs (agreement_of LastingFresh) unique op (reply layers entries Fresh (asking unique node op))
-      (reply layers entries LastingFresh (asking unique node op))
+      LastsAs (agreement_of LastingFresh) unique op (reply stack Fresh (asking unique node op))
+      (reply stack LastingFresh (asking unique node op))
   fresh_lasts unique node (init major minor readahead flags) =
       begun_lasts unique (nat_lt 7 major) (is_spoken major minor) minor readahead flags
   fresh_lasts unique node (at_node (lookup name)) = stays _ _ _ (other_error unique EIO refl)
@@ -245,17 +246,17 @@ module _ (layers : List (List ℕ)) (entries : List Entry) where
 
   -- a lasting session replies what the usual one does, but in the cases that `LastsAs` lists
   pub replies_last : (s : Session) (q : Asked) → (agreement_of s).lasting ≡ true
-      → LastsAs (agreement_of s) q.unique q.op (reply layers entries (usual_of s) q) (reply layers entries s q)
+      → LastsAs (agreement_of s) q.unique q.op (reply stack (usual_of s) q) (reply stack s q)
   replies_last Fresh q e = absurd (cc)
   replies_last (Ready export) q e = absurd (cc)
   replies_last LastingFresh q e = fresh_lasts q.unique q.node q.op
   replies_last (LastingReady export no_open no_opendir) q e = ready_lasts export no_open no_opendir q.unique q.node q.op
 
   -- a request moves in a lasting session what it moves in the usual one
-  pub moves_stay : (s : Session) (q : Asked) → moves layers entries s q ≡ moves layers entries (usual_of s) q
+  pub moves_stay : (s : Session) (q : Asked) → moves stack s q ≡ moves stack (usual_of s) q
   moves_stay Fresh q = refl
   moves_stay (Ready export) q = refl
-  moves_stay LastingFresh q = fresh_moves_nothing layers entries LastingFresh q refl ∙ sym (fresh_moves_nothing layers entries Fresh q refl)
+  moves_stay LastingFresh q = fresh_moves_nothing stack LastingFresh q refl ∙ sym (fresh_moves_nothing stack Fresh q refl)
   moves_stay (LastingReady export no_open no_opendir) q = ready_moves export no_open no_opendir q.unique q.node q.op
 
 -- sessions go on as the usual ones do
@@ -282,20 +283,24 @@ session_goes_on (LastingReady export no_open no_opendir) (done destroy) = refl
 session_goes_on (LastingReady export no_open no_opendir) (done _) = refl
 session_goes_on (LastingReady export no_open no_opendir) _ = refl
 
-module _ (layers : List (List ℕ)) (entries : List Entry) where
+module _ (stack : Stacked) where
   -- so a stream moves what it moves usually
-  moves_by_stay : (s : Session) (qs : List Asked) → moves_by (moves layers entries) s qs ≡ moves_by (moves layers entries) (usual_of s) qs
+  moves_by_stay : (s : Session) (qs : List Asked) → moves_by (moves stack) s qs ≡ moves_by (moves stack) (usual_of s) qs
   moves_by_stay s [] = refl
   moves_by_stay s (q ∷ qs) =
-      let moved = moves layers entries in
-      ap (λ m. m ++ moves_by moved (session_after s q.op) qs) (moves_stay layers entries s q)
+      let moved = moves stack in
+      ap (λ m. m ++ moves_by moved (session_after s q.op) qs) (moves_stay stack s q)
       ∙ ap (λ v. moved (usual_of s) q ++ v)
       (moves_by_stay (session_after s q.op) qs ∙ ap (λ t. moves_by moved t qs) (session_goes_on s q.op))
 
   -- a stream that is served lastingly leaves the balances that it leaves usually
   pub balances_are_usual : (messages : List (List ℕ)) (node : ℕ)
-      → balance_after layers entries LastingFresh messages node ≡ balance_after layers entries Fresh messages node
+      → balance_after stack LastingFresh messages node ≡ balance_after stack Fresh messages node
   balances_are_usual messages node = ap (balance node) (moves_by_stay LastingFresh (map asked messages))
+
+-- the examples of a reply that stays and of one that becomes another
+pub stay : LastingStayExamples
+stay = record { too_long = λ lasting b. b.elsewhere (other_error 2 ENAMETOOLONG refl); missing = λ lasting b. b.there refl }
 
 -- what differs and what stays where a stream is served lastingly
 pub ruleset lasting = (replies_last, moves_stay, session_goes_on, balances_are_usual)

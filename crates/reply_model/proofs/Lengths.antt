@@ -27,7 +27,7 @@ use Rattle.fuse_wire.specs.Stream.{said_length}
 use Rattle.fuse_wire.specs.Requests.{NodeOp, Op, Asked, init, at_node, lookup, getattr, readlink, open_file, read, opendir, readdir, readdirplus, statfs}
 use Rattle.fuse_wire.specs.Structures.{u32, u64, init_out, entry_out, negative_entry_out}
 use Rattle.fuse_wire.specs.Replies.{reply_with, error_reply}
-use Rattle.stack_model.specs.Listing.{Entry, IsListing}
+use Rattle.stack_model.specs.Listing.{Stacked, IsListing}
 use Rattle.stack_model.specs.Numbers.{Place, nodes, node_of}
 use Rattle.stack_model.specs.Attributes.{blocks_all, kind_at, size_at, layer_of, data_of, attr_of}
 use Rattle.stack_model.proofs.Listings.{IsLedTo, led_to}
@@ -90,32 +90,30 @@ said_header : (n error unique : ℕ) (rest : List ℕ) → n < 2 ^ 32 → said_l
 unfolding u32 u64
 said_header n error unique rest l = little_number-reads_back 4 n (u32 error ++ (u64 unique ++ rest)) l
 
-module _ (bs : List (List ℕ)) (entries : List Entry) (sound : All IsSound bs) (l : IsListing (map image bs) entries) where
-  abbrev layers : List (List ℕ)
-  layers = map image bs
-
+module _ (bs : List (List ℕ)) (stack : Stacked) (sound : All IsSound bs) (are : stack.layers ≡ map image bs)
+    (l : IsListing stack.layers stack.entries) where
   -- a symbolic link with a number has a short target
-  short_link : (node : ℕ) (p : Place) → node_of entries node ≡ Some p → kind_at layers p ≡ SymLink → length (data_of layers p)
+  short_link : (node : ℕ) (p : Place) → node_of stack.entries node ≡ Some p → kind_at stack.layers p ≡ SymLink → length (data_of stack.layers p)
       ≤ MAX_TARGET_SIZE
   short_link node p e k =
-      let m = number_listed entries node p e in
-      let t = subst (λ q. IsLedTo layers q.0 q.1) m.2 (led_to layers entries m.0 l m.1) in
-      let s = sound_layer bs p.0 t.bytes sound t.is in
-      let here : layer_of layers p ≡ image s.0 = get_or_from_slice_get layers p.0 t.bytes [] t.is ∙ s.2 in
+      let m = number_listed stack.entries node p e in
+      let t = subst (λ q. IsLedTo stack.layers q.0 q.1) m.2 (led_to stack.layers stack.entries m.0 l m.1) in
+      let s = sound_layer bs p.0 t.bytes sound (subst (λ ls. slice_get ls p.0 ≡ Some t.bytes) are t.is) in
+      let here : layer_of stack.layers p ≡ image s.0 = get_or_from_slice_get stack.layers p.0 t.bytes [] t.is ∙ s.2 in
       let has = subst (λ a. Has a t.path t.first) s.2 t.has in
       let ends = subst (λ a. IsFinal a t.first p.1) s.2 t.ends in
       let short = short_target s.0 s.1 t.path t.first p.1 has ends (subst (λ a. kind a p.1 ≡ SymLink) here k) in
-      link_data layers p MAX_TARGET_SIZE k (subst (λ a. size a p.1 ≤ MAX_TARGET_SIZE) (sym here) short)
+      link_data stack.layers p MAX_TARGET_SIZE k (subst (λ a. size a p.1 ≤ MAX_TARGET_SIZE) (sym here) short)
 
   -- what is not refused at a node is refused neither by its kind nor by the arguments
-  by_kind : (x : Agreement) (op : NodeOp) (p : Place) → refused_at layers entries x op p ≡ None
-      → (service layers entries x op).by_kind (kind_at layers p) ≡ None
-  by_kind x op p r = let asked = service layers entries x op in (both_none (asked.by_kind (kind_at layers p)) (asked.by_arguments p) r).0
+  by_kind : (x : Agreement) (op : NodeOp) (p : Place) → refused_at stack x op p ≡ None
+      → (service stack x op).by_kind (kind_at stack.layers p) ≡ None
+  by_kind x op p r = let asked = service stack x op in (both_none (asked.by_kind (kind_at stack.layers p)) (asked.by_arguments p) r).0
 
-  by_arguments : (x : Agreement) (op : NodeOp) (p : Place) → refused_at layers entries x op p ≡ None
-      → (service layers entries x op).by_arguments p ≡ None
-  by_arguments x op p r = let asked = service layers entries x op in
-      (both_none (asked.by_kind (kind_at layers p)) (asked.by_arguments p) r).1
+  by_arguments : (x : Agreement) (op : NodeOp) (p : Place) → refused_at stack x op p ≡ None
+      → (service stack x op).by_arguments p ≡ None
+  by_arguments x op p r = let asked = service stack x op in
+      (both_none (asked.by_kind (kind_at stack.layers p)) (asked.by_arguments p) r).1
 
   -- rows that are answered fit in 1 MiB
   short_rows : (form : Row → List ℕ) (rows : List Row) (n : ℕ) → refused_rows form n rows ≡ None
@@ -123,66 +121,66 @@ module _ (bs : List (List ℕ)) (entries : List Entry) (sound : All IsSound bs) 
   short_rows form rows n r = let a = not_large n (or_parts _ _ (if_none _ _ r)).0 in let f = (front form n rows).fits in omega arith
 
   -- the answer at a place that has a number
-  short_at : (x : Agreement) (node : ℕ) (op : NodeOp) (p : Place) → node_of entries node ≡ Some p → refused_at layers entries x op p ≡ None
-      → length (answer_at layers entries x op p) ≤ MAX_DATA_SIZE
-  short_at x node (lookup name) p e r = found (looked_up entries x.export p name)
+  short_at : (x : Agreement) (node : ℕ) (op : NodeOp) (p : Place) → node_of stack.entries node ≡ Some p → refused_at stack x op p ≡ None
+      → length (answer_at stack x op p) ≤ MAX_DATA_SIZE
+  short_at x node (lookup name) p e r = found (looked_up stack.entries x.export p name)
     where
-      found : (o : Option Place) → length (option_map_or (λ c. entry_out (attr_of layers entries c)) o negative_entry_out)
+      found : (o : Option Place) → length (option_map_or (λ c. entry_out (attr_of stack c)) o negative_entry_out)
           ≤ MAX_DATA_SIZE
       found None = let l = length-negative_entry_out in omega arith
-      found (Some c) = let l = length-entry_out (attr_of layers entries c) in omega arith
-  short_at x node getattr p e r = let l = length-attr_out (attr_of layers entries p) in omega arith
+      found (Some c) = let l = length-entry_out (attr_of stack c) in omega arith
+  short_at x node getattr p e r = let l = length-attr_out (attr_of stack p) in omega arith
   short_at x node readlink p e r = let l = short_link node p e (is_link _ (by_kind x readlink p r)) in omega arith
   short_at x node (open_file flags) p e r = let l = length-open_out 2 in omega arith
   short_at x node opendir p e r = let l = length-open_out (opendir_flags x.lasting) in omega arith
   short_at x node (read offset n) p e r =
       let a = not_large n (if_none _ _ (by_arguments x (read offset n) p r)) in
-      let f = length-front n (drop offset (data_of layers p)) in
+      let f = length-front n (drop offset (data_of stack.layers p)) in
       omega arith
-  short_at x node (readdir offset n) p e r = short_rows (dirent_of layers entries) _ n (by_arguments x (readdir offset n) p r)
-  short_at x node (readdirplus offset n) p e r = short_rows (direntplus_of layers entries) _ n (by_arguments x (readdirplus offset n) p r)
+  short_at x node (readdir offset n) p e r = short_rows (dirent_of stack) _ n (by_arguments x (readdir offset n) p r)
+  short_at x node (readdirplus offset n) p e r = short_rows (direntplus_of stack) _ n (by_arguments x (readdirplus offset n) p r)
 
   -- the answer to a request about a node
-  short_node : (x : Agreement) (node : ℕ) (op : NodeOp) (o : Option Place) → node_of entries node ≡ o
-      → option_map_or (refused_at layers entries x op) o (Some ESTALE) ≡ None
-      → length (option_map_or (answer_at layers entries x op) o []) ≤ MAX_DATA_SIZE
+  short_node : (x : Agreement) (node : ℕ) (op : NodeOp) (o : Option Place) → node_of stack.entries node ≡ o
+      → option_map_or (refused_at stack x op) o (Some ESTALE) ≡ None
+      → length (option_map_or (answer_at stack x op) o []) ≤ MAX_DATA_SIZE
   short_node x node op None e r = lit≤ tt
   short_node x node op (Some p) e r = short_at x node op p e r
 
   -- the answer to a request that is not refused
-  short_answer : (x : Agreement) (node : ℕ) (op : Op) → refused_by_itself layers entries x node op ≡ None
-      → length (answer layers entries x node op) ≤ MAX_DATA_SIZE
+  short_answer : (x : Agreement) (node : ℕ) (op : Op) → refused_by_itself stack x node op ≡ None
+      → length (answer stack x node op) ≤ MAX_DATA_SIZE
   short_answer x node (init major minor readahead flags) r = let l =
       short_init (cond (nat_lt 7 major) Version (Terms x.lasting minor readahead flags)) in omega arith
-  short_answer x node (at_node op) r = short_node x node op (node_of entries node) refl r
-  short_answer x node statfs r = let l = length-statfs_out (blocks_all layers) (length (nodes entries)) in omega arith
+  short_answer x node (at_node op) r = short_node x node op (node_of stack.entries node) refl r
+  short_answer x node statfs r = let l = length-statfs_out (blocks_all stack.layers) (length (nodes stack.entries)) in omega arith
   short_answer x node _ r = lit≤ tt
 
   -- a reply has at most 1 MiB behind a header of 16 bytes
-  pub short : (s : Session) (q : Asked) → length (reply layers entries s q) ≤ MAX_REPLY_SIZE
+  pub short : (s : Session) (q : Asked) → length (reply stack s q) ≤ MAX_REPLY_SIZE
   short s q = silent (is_silent q.op)
     where
-      replied : (o : Option Errno) → refusal layers entries s q.node q.op ≡ o
-          → length (option_map_or (error_reply q.unique) o (reply_with q.unique (answer layers entries (agreement_of s) q.node q.op)))
+      replied : (o : Option Errno) → refusal stack s q.node q.op ≡ o
+          → length (option_map_or (error_reply q.unique) o (reply_with q.unique (answer stack (agreement_of s) q.node q.op)))
           ≤ MAX_REPLY_SIZE
       replied (Some errno) e = let x = length-error_reply q.unique errno in omega arith
       replied None e =
-          let a = short_answer (agreement_of s) q.node q.op (not_by_itself layers entries s q.node q.op e) in
-          let x = length-reply_with q.unique (answer layers entries (agreement_of s) q.node q.op) in
+          let a = short_answer (agreement_of s) q.node q.op (not_by_itself stack s q.node q.op e) in
+          let x = length-reply_with q.unique (answer stack (agreement_of s) q.node q.op) in
           omega arith
 
       silent : (b : Bool)
-          → length (cond b [] (option_map_or (error_reply q.unique) (refusal layers entries s q.node q.op)
-          (reply_with q.unique (answer layers entries (agreement_of s) q.node q.op))))
+          → length (cond b [] (option_map_or (error_reply q.unique) (refusal stack s q.node q.op)
+          (reply_with q.unique (answer stack (agreement_of s) q.node q.op))))
           ≤ MAX_REPLY_SIZE
       silent true = lit≤ tt
-      silent false = replied (refusal layers entries s q.node q.op) refl
+      silent false = replied (refusal stack s q.node q.op) refl
 
   -- the length that a reply begins with is its own, if it is not empty
-  pub said : (s : Session) (q : Asked) → (reply layers entries s q ≡ [])
-      ⊎ (said_length (reply layers entries s q) ≡ length (reply layers entries s q))
-  said s q = elim (headed layers entries s q) [
+  pub said : (s : Session) (q : Asked) → (reply stack s q ≡ [])
+      ⊎ (said_length (reply stack s q) ≡ length (reply stack s q))
+  said s q = elim (headed stack s q) [
     | inl e ↦ inl e
-    | inr h ↦ inr (let x = short s q in ap said_length h.is ∙ said_header (length (reply layers entries s q)) h.error q.unique h.rest
+    | inr h ↦ inr (let x = short s q in ap said_length h.is ∙ said_header (length (reply stack s q)) h.error q.unique h.rest
         (omega arith))
   ]

@@ -6,7 +6,7 @@ use Rattle.std.specs.Option.{option_map_or}
 use Rattle.fuse_wire.specs.declared.errno.Errno.{Errno}
 use Rattle.fuse_wire.specs.declared.errno.Errno.TheVariants.{ESTALE}
 use Rattle.fuse_wire.specs.Requests.{NodeOp, Op, at_node}
-use Rattle.stack_model.specs.Listing.{Entry}
+use Rattle.stack_model.specs.Listing.{Stacked}
 use Rattle.stack_model.specs.Numbers.{Place, node_of}
 use Rattle.reply_model.specs.declared.session.Agreement.{Agreement}
 use Rattle.reply_model.specs.declared.session.Session.{Session}
@@ -28,21 +28,21 @@ pub if_none : (b : Bool) (errno : Errno) → refuse_if b errno ≡ None → b �
 if_none true errno e = absurd (cc)
 if_none false errno e = refl
 
-module _ (layers : List (List ℕ)) (entries : List Entry) where
+module _ (stack : Stacked) where
   -- a request that nothing refuses is not refused by itself
-  pub not_by_itself : (s : Session) (node : ℕ) (op : Op) → refusal layers entries s node op ≡ None
-      → refused_by_itself layers entries (agreement_of s) node op ≡ None
+  pub not_by_itself : (s : Session) (node : ℕ) (op : Op) → refusal stack s node op ≡ None
+      → refused_by_itself stack (agreement_of s) node op ≡ None
   not_by_itself s node op e =
-      (both_none (refused_by_session (is_fresh s) op) (refused_by_itself layers entries (agreement_of s) node op) e).1
+      (both_none (refused_by_session (is_fresh s) op) (refused_by_itself stack (agreement_of s) node op) e).1
 
   -- so one about a node has a node
   has_node : (agreed : Agreement) (op : NodeOp) (o : Option Place)
-      → option_map_or (refused_at layers entries agreed op) o (Some ESTALE) ≡ None
+      → option_map_or (refused_at stack agreed op) o (Some ESTALE) ≡ None
       → (p : Place) × (o ≡ Some p)
   has_node agreed op None e = absurd (cc)
   has_node agreed op (Some p) e = (p, refl)
 
   -- a request about a node that nothing refuses has the number of a node
-  pub node_found : (s : Session) (node : ℕ) (op : NodeOp) → refusal layers entries s node (at_node op) ≡ None
-      → (p : Place) × (node_of entries node ≡ Some p)
-  node_found s node op e = has_node (agreement_of s) op (node_of entries node) (not_by_itself s node (at_node op) e)
+  pub node_found : (s : Session) (node : ℕ) (op : NodeOp) → refusal stack s node (at_node op) ≡ None
+      → (p : Place) × (node_of stack.entries node ≡ Some p)
+  node_found s node op e = has_node (agreement_of s) op (node_of stack.entries node) (not_by_itself s node (at_node op) e)

@@ -8,7 +8,7 @@ use Rattle.std.proofs.lemmas.Nat.{and_le_l, and_le_r, or_lt}
 use Rattle.romfs_format.specs.declared.head.Kind.{Kind}
 use Rattle.romfs_format.specs.declared.head.Kind.TheVariants.{HardLink, Directory, Regular, SymLink, Block, Character, Socket, Fifo}
 use Rattle.romfs_format.specs.Fields.{word, exec, size, spec}
-use Rattle.stack_model.specs.Listing.{Entry}
+use Rattle.stack_model.specs.Listing.{Entry, Stacked}
 use Rattle.stack_model.specs.Numbers.{Place, nodes, number_of, number}
 use Rattle.stack_model.specs.Attributes.{mode_of, size_of, device, rdev_of, layer_of, kind_at, attr_of}
 use Rattle.stack_model.proofs.Numbering.{number_used, numbers_all}
@@ -56,16 +56,16 @@ word_fits a p b =
     omega arith
 
 -- over layers of bytes, the attributes of a place fit their fields, but for its number
-pub attributes_fit : (layers : List (List ℕ)) (entries : List Entry) (p : Place) → AreLayersOfBytes layers
-    → FitsFields (attr_of layers entries p)
-attributes_fit layers entries p b =
-    let a = layer_of layers p in
-    let s = size_fits (kind_at layers p) (size a p.1) (word_fits a (p.1 + 8) (b.each p.0)) in
-    let r = rdev_fits (kind_at layers p) (spec a p.1) (word_fits a (p.1 + 4) (b.each p.0)) in
+pub attributes_fit : (stack : Stacked) (p : Place) → AreLayersOfBytes stack.layers
+    → FitsFields (attr_of stack p)
+attributes_fit stack p b =
+    let a = layer_of stack.layers p in
+    let s = size_fits (kind_at stack.layers p) (size a p.1) (word_fits a (p.1 + 8) (b.each p.0)) in
+    let r = rdev_fits (kind_at stack.layers p) (spec a p.1) (word_fits a (p.1 + 4) (b.each p.0)) in
     record {
       size = omega arith;
       blocks = omega arith;
-      mode = mode_fits (kind_at layers p) (exec a p.1);
+      mode = mode_fits (kind_at stack.layers p) (exec a p.1);
       nlink = omega arith;
       rdev = r;
     }

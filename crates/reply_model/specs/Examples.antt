@@ -10,7 +10,7 @@ use Rattle.fuse_wire.specs.declared.limits.TheConstants.{HEADER_SIZE, MAX_DATA_S
 use Rattle.fuse_wire.specs.Requests.{init, done, destroy, asked}
 use Rattle.fuse_wire.specs.Stream.{IsMessage, IsUnfinished, IsBad}
 use Rattle.fuse_wire.specs.Structures.{u32, u64, zeros}
-use Rattle.stack_model.specs.Listing.{Entry}
+use Rattle.stack_model.specs.Listing.{Entry, Stacked, stacked}
 use Rattle.reply_model.specs.declared.session.Session.{Session}
 use Rattle.reply_model.specs.declared.session.Session.TheVariants.{Fresh, Ready}
 use Rattle.reply_model.specs.declared.moves.Move.{Move}
@@ -81,6 +81,14 @@ sample_entries =
     ∷ record { path = codes "null" ∷ []; layer = 0; header = 0x14d0 }
     ∷ []
 
+-- the stack of the empty image alone
+abbrev pub empty_stack : Stacked
+empty_stack = stacked (empty_image ∷ []) empty_entries
+
+-- the stack of the sample image alone
+abbrev pub sample_stack : Stacked
+sample_stack = stacked (sample_image ∷ []) sample_entries
+
 -- a message: opcode, unique, node, body; the sender is 0
 abbrev pub request : ℕ → ℕ → ℕ → List ℕ → List ℕ
 request opcode unique node body =
@@ -104,11 +112,11 @@ headed unique n = u32 n ++ u32 0 ++ u64 unique
 
 -- the reply to a message over the empty image, in this session
 abbrev pub over_empty : Session → List ℕ → List ℕ
-over_empty s m = reply (empty_image ∷ []) empty_entries s (asked m)
+over_empty s m = reply empty_stack s (asked m)
 
 -- the reply to a message over the sample image, in a session without EXPORT_SUPPORT
 abbrev pub over_sample : List ℕ → List ℕ
-over_sample m = reply (sample_image ∷ []) sample_entries (Ready false) (asked m)
+over_sample m = reply sample_stack (Ready false) (asked m)
 
 -- which of two faults is named
 pub record FaultOrder : Type 0 where
@@ -193,7 +201,7 @@ pub record InitExamples : Type 0 where
   pub newer : over_empty Fresh (request 26 1 0 (init_in 7 39 2097152 0x73fffffb ++ zeros 48))
       ≡ newer_init_reply
   pub agreed :
-      replies (empty_image ∷ []) empty_entries Fresh
+      replies empty_stack Fresh
       (request 26 1 0 (init_in 8 0 0 0) ∷ request 3 2 1 (zeros 16)
       ∷ request 26 3 0 (init_in 7 31 131072 0x6001)
       ∷ request 26 4 0 (init_in 7 31 131072 0x6001) ∷ [])
@@ -201,7 +209,7 @@ pub record InitExamples : Type 0 where
       ++ refused 4 0xfffffffb
   pub minor_22 : over_empty Fresh (request 26 1 0 (init_in 7 22 131072 0x1)) ≡ older_init_reply
   pub after_minor_22 :
-      length (replies (empty_image ∷ []) empty_entries Fresh
+      length (replies empty_stack Fresh
       (request 26 1 0 (init_in 7 22 131072 0x1) ∷ request 3 2 1 (zeros 16) ∷ []))
       ≡ 160
   pub minor_12 : length (over_empty Fresh (request 26 1 0 (init_in 7 12 131072 0x1))) ≡ 40
@@ -231,7 +239,7 @@ pub record SessionExamples : Type 0 where
   pub init_again : session_after (Ready true) (init 7 31 0 0) ≡ Ready true
   pub destroyed : session_after (Ready true) (done destroy) ≡ Fresh
   pub ended :
-      replies (empty_image ∷ []) empty_entries (Ready false)
+      replies empty_stack (Ready false)
       (request 38 1 0 [] ∷ request 3 2 1 (zeros 16) ∷ request 38 3 0 [] ∷ [])
       ≡ headed 1 16 ++ refused 2 0xfffffffb ++ refused 3 0xfffffffb
 
@@ -328,7 +336,7 @@ pub record LookupExamples : Type 0 where
 
 -- the reply to a message over the sample image, in a session with EXPORT_SUPPORT
 abbrev pub over_exported : List ℕ → List ℕ
-over_exported m = reply (sample_image ∷ []) sample_entries (Ready true) (asked m)
+over_exported m = reply sample_stack (Ready true) (asked m)
 
 -- the body of a LOOKUP of .
 abbrev pub itself : List ℕ
@@ -400,7 +408,7 @@ pub record NodeExamples : Type 0 where
       ++ zeros 28
   pub statfs_of_two_paths :
       take 8 (drop 40
-      (reply (empty_image ∷ []) two_paths (Ready false) (asked (request 17 2 0 []))))
+      (reply (stacked (empty_image ∷ []) two_paths) (Ready false) (asked (request 17 2 0 []))))
       ≡ u64 1
   pub readdir_of_file : over_sample (request 28 2 2 (read_in 0 4096)) ≡ refused 2 0xffffffec
   pub readdirplus_of_link : over_sample (request 44 2 5 (read_in 0 4096)) ≡ refused 2 0xffffffec
@@ -458,7 +466,7 @@ twelve_requests =
 -- their 1,531 bytes of replies
 pub record TwelveRequests : Type 0 where
   pub replies_are :
-      replies (sample_image ∷ []) sample_entries Fresh twelve_requests
+      replies sample_stack Fresh twelve_requests
       ≡ init_reply
       ++ over_sample (request 1 2 1 (codes "big" ++ zeros 1))
       ++ headed 3 920 ++ drop 4096 (counted 5000 0)
@@ -472,7 +480,7 @@ pub record TwelveRequests : Type 0 where
       ++ zeros 28
       ++ headed 11 16
       ++ refused 12 0xfffffffb
-  pub sized : length (replies (sample_image ∷ []) sample_entries Fresh twelve_requests) ≡ 1531
+  pub sized : length (replies sample_stack Fresh twelve_requests) ≡ 1531
 
 -- a session with EXPORT_SUPPORT that looks up, lists and forgets. Of the items of the BATCH_FORGET
 -- the count says three, two are there, and one of these is of no node; the last FORGET has no whole
@@ -493,15 +501,15 @@ looking_up =
 
 -- the balance of a node after them
 abbrev pub held : ℕ → ℤ
-held node = balance_after (sample_image ∷ []) sample_entries Fresh looking_up node
+held node = balance_after sample_stack Fresh looking_up node
 
 -- what one request of a session gives and takes
 abbrev pub moved_over_sample : Session → List ℕ → List Move
-moved_over_sample s m = moves (sample_image ∷ []) sample_entries s (asked m)
+moved_over_sample s m = moves sample_stack s (asked m)
 
 -- what these requests leave of each node, and what single ones give and take
 pub record BalanceExamples : Type 0 where
-  pub replies_sized : length (replies (sample_image ∷ []) sample_entries Fresh looking_up) ≡ 1648
+  pub replies_sized : length (replies sample_stack Fresh looking_up) ≡ 1648
   pub balances :
       map held (1 ∷ 2 ∷ 3 ∷ 4 ∷ 5 ∷ 6 ∷ 7 ∷ 9 ∷ [])
       ≡ pos 1 ∷ pos 1 ∷ pos 2 ∷ pos 0 ∷ pos 1 ∷ negsuc 3 ∷ pos 0 ∷ pos 0 ∷ []

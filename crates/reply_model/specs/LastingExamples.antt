@@ -1,18 +1,21 @@
 -- Worked examples of streams that are served lastingly: requests written out, and what they are
 -- answered, over the images of `Examples`.
 use Rattle.std.specs.Prelude.{◌≡◌, ℕ, pos, List, [], ◌∷◌, ◌++◌, length, map, take, drop, replicate, Bool, true, false, codes}
-use Rattle.fuse_wire.specs.Requests.{init, done, destroy, asked}
-use Rattle.fuse_wire.specs.Structures.{u32, zeros}
+use Rattle.fuse_wire.specs.declared.errno.Errno.TheVariants.{ENOENT, ENAMETOOLONG}
+use Rattle.fuse_wire.specs.Requests.{init, done, destroy, asked, at_node, lookup}
+use Rattle.fuse_wire.specs.Structures.{u32, zeros, negative_entry_out}
+use Rattle.fuse_wire.specs.Replies.{reply_with, error_reply}
 use Rattle.reply_model.specs.declared.session.Session.TheVariants.{Fresh, Ready, LastingFresh, LastingReady}
-use Rattle.reply_model.specs.Sessions.{session_after}
+use Rattle.reply_model.specs.Sessions.{session_after, agreement_of}
+use Rattle.reply_model.specs.Lasting.{LastsAs}
 use Rattle.reply_model.specs.Replies.{reply}
 use Rattle.reply_model.specs.Streams.{replies, balance_after}
-use Rattle.reply_model.specs.Examples.{dump, sample_image, sample_entries, request, init_in, refused, headed, over_empty, over_sample, over_exported, init_reply, older_init_reply, version_reply, newer_init_reply, x_entry_reply, itself, two_dots, twelve_requests, looking_up, held, moved_over_sample}
+use Rattle.reply_model.specs.Examples.{dump, sample_stack, request, init_in, refused, headed, over_empty, over_sample, over_exported, init_reply, older_init_reply, version_reply, newer_init_reply, x_entry_reply, itself, two_dots, twelve_requests, looking_up, held, moved_over_sample}
 
 -- a ready session whose client said EXPORT_SUPPORT, NO_OPEN_SUPPORT, NO_OPENDIR_SUPPORT or not
 abbrev pub over_lasting : Bool → Bool → Bool → List ℕ → List ℕ
 over_lasting export no_open no_opendir m =
-    reply (sample_image ∷ []) sample_entries (LastingReady export no_open no_opendir) (asked m)
+    reply sample_stack (LastingReady export no_open no_opendir) (asked m)
 
 -- INIT 7.39 of 104 bytes, as Linux 6 sends it, with all flags
 abbrev pub longer_init : List ℕ
@@ -137,6 +140,16 @@ pub record LastingFlushExamples : Type 0 where
   pub fsync : over_lasting false false false (request 20 2 2 (zeros 16)) ≡ headed 2 16
   pub fsyncdir : over_lasting false false false (request 30 2 3 (zeros 16)) ≡ headed 2 16
 
+-- of a LOOKUP that is refused ENAMETOOLONG, and of one that finds no entry: the one reply has to
+-- stay, and the other has to become an entry of no node
+pub record LastingStayExamples : Type 0 where
+  pub too_long : (lasting : List ℕ) → LastsAs (agreement_of (LastingReady false false false)) 2
+      (at_node (lookup (codes "x"))) (error_reply 2 ENAMETOOLONG) lasting
+      → lasting ≡ error_reply 2 ENAMETOOLONG
+  pub missing : (lasting : List ℕ) → LastsAs (agreement_of (LastingReady false false false)) 2
+      (at_node (lookup (codes "x"))) (error_reply 2 ENOENT) lasting
+      → lasting ≡ reply_with 2 negative_entry_out
+
 -- a session whose client need not open files, and after DESTROY one whose client need not open
 -- directories
 abbrev pub two_sessions : List (List ℕ)
@@ -160,12 +173,12 @@ begun_with unique flags =
 -- whole streams: the twelve requests are none that differ; a name that is none is no lookup
 pub record LastingStreamExamples : Type 0 where
   pub twelve :
-      replies (sample_image ∷ []) sample_entries LastingFresh twelve_requests
-      ≡ replies (sample_image ∷ []) sample_entries Fresh twelve_requests
-  pub sized : length (replies (sample_image ∷ []) sample_entries LastingFresh twelve_requests)
+      replies sample_stack LastingFresh twelve_requests
+      ≡ replies sample_stack Fresh twelve_requests
+  pub sized : length (replies sample_stack LastingFresh twelve_requests)
       ≡ 1531
   pub other_flags :
-      replies (sample_image ∷ []) sample_entries LastingFresh two_sessions
+      replies sample_stack LastingFresh two_sessions
       ≡ begun_with 1 0x20000
       ++ refused 2 0xffffffda
       ++ headed 3 32 ++ zeros 8 ++ u32 10 ++ zeros 4
@@ -179,6 +192,6 @@ pub record LastingStreamExamples : Type 0 where
   pub missing : moved_over_sample (LastingReady false false false)
       (request 1 2 1 (codes "x" ++ zeros 1)) ≡ []
   pub balances :
-      map (balance_after (sample_image ∷ []) sample_entries LastingFresh looking_up)
+      map (balance_after sample_stack LastingFresh looking_up)
       (0 ∷ 1 ∷ 2 ∷ 3 ∷ 4 ∷ 5 ∷ 6 ∷ 7 ∷ [])
       ≡ map held (0 ∷ 1 ∷ 2 ∷ 3 ∷ 4 ∷ 5 ∷ 6 ∷ 7 ∷ [])

@@ -6,7 +6,7 @@ use Rattle.node_attr.specs.declared.attr.Attr.{Attr}
 use Rattle.fuse_wire.specs.Requests.{Op, Asked, at_node, lookup, readdirplus, silent, forget, batch_forget}
 use Rattle.fuse_wire.specs.Structures.{u32, u64, entry_out, negative_entry_out}
 use Rattle.fuse_wire.specs.Replies.{reply_with, error_reply}
-use Rattle.stack_model.specs.Listing.{Entry}
+use Rattle.stack_model.specs.Listing.{Stacked}
 use Rattle.stack_model.specs.Numbers.{Place}
 use Rattle.reply_model.specs.declared.session.Session.{Session}
 use Rattle.stack_model.specs.Attributes.{attr_of}
@@ -29,25 +29,25 @@ pub record AreFirstThatFit (form : Row → List ℕ) (room : ℕ) (all rows : Li
   pub full : (next : Row) → slice_get all count ≡ Some next
       → room < length (flat_map form rows) + length (form next)
 
-module _ (layers : List (List ℕ)) (entries : List Entry) where
+module _ (stack : Stacked) where
   -- the request is answered an error, and gives nothing
   abbrev pub GivesNothing : Session → Asked → Type 0
   GivesNothing s q =
-      ((errno : Errno) × (reply layers entries s q ≡ error_reply q.unique errno))
-      × (moves layers entries s q ≡ [])
+      ((errno : Errno) × (reply stack s q ≡ error_reply q.unique errno))
+      × (moves stack s q ≡ [])
 
   -- it is answered the entry of a node, and gives one lookup of that node
   abbrev pub IsEntry : Session → Asked → Type 0
   IsEntry s q =
       (p : Place)
-      × (reply layers entries s q ≡ reply_with q.unique (entry_out (attr_of layers entries p)))
-      × (moves layers entries s q ≡ give layers entries p ∷ [])
+      × (reply stack s q ≡ reply_with q.unique (entry_out (attr_of stack p)))
+      × (moves stack s q ≡ give stack p ∷ [])
 
   -- it is answered that the name is none, and gives nothing
   abbrev pub IsNoEntry : Session → Asked → Type 0
   IsNoEntry s q =
-      (reply layers entries s q ≡ reply_with q.unique negative_entry_out)
-      × (moves layers entries s q ≡ [])
+      (reply stack s q ≡ reply_with q.unique negative_entry_out)
+      × (moves stack s q ≡ [])
 
   -- a LOOKUP gives one lookup of the node whose entry it is answered, or nothing
   abbrev pub GivesEntry : Session → Asked → Type 0
@@ -59,10 +59,10 @@ module _ (layers : List (List ℕ)) (entries : List Entry) where
   GivesRows s q =
       GivesNothing s q
       ⊎ ((rows : List Row)
-      × (reply layers entries s q
-      ≡ reply_with q.unique (flat_map (direntplus_of layers entries) rows))
-      × (moves layers entries s q
-      ≡ map (λ r. give layers entries r.1.place) (filter is_child rows)))
+      × (reply stack s q
+      ≡ reply_with q.unique (flat_map (direntplus_of stack) rows))
+      × (moves stack s q
+      ≡ map (λ r. give stack r.1.place) (filter is_child rows)))
 
 -- the requests that give or take
 abbrev pub is_moving : Op → Bool

@@ -5,7 +5,7 @@ use Rattle.std.specs.List.{filter_map}
 use Rattle.std.specs.Option.{option_map, option_map_or}
 use Rattle.fuse_wire.specs.declared.forget.Forget.{Forget}
 use Rattle.fuse_wire.specs.Requests.{NodeOp, SilentOp, Op, Asked, init, at_node, statfs, done, silent, forget, batch_forget, interrupt, modify, other, malformed}
-use Rattle.stack_model.specs.Listing.{Entry}
+use Rattle.stack_model.specs.Listing.{Stacked}
 use Rattle.stack_model.specs.Numbers.{Place, node_of}
 use Rattle.reply_model.specs.declared.session.Agreement.{Agreement}
 use Rattle.reply_model.specs.declared.session.Session.{Session}
@@ -25,20 +25,20 @@ forgotten node (forget nlookup) = record { node = node; nlookup = nlookup } ∷ 
 forgotten node (batch_forget items) = items
 forgotten node interrupt = []
 
-module _ (layers : List (List ℕ)) (entries : List Entry) where
+module _ (stack : Stacked) where
   -- what is forgotten is taken back, where the number is in use
   abbrev pub take_back : Forget → Option Move
   take_back f =
       option_map (λ p. record { node = f.node; amount = neg_ℤ (pos f.nlookup) })
-      (node_of entries f.node)
+      (node_of stack.entries f.node)
 
   -- what a request about a node gives
   abbrev pub gives_at : Agreement → NodeOp → Place → List Move
-  gives_at agreed op p = (service layers entries agreed op).gives p
+  gives_at agreed op p = (service stack agreed op).gives p
 
   -- what a request gives and takes that is not refused, in order
   abbrev pub moved : Agreement → ℕ → Op → List Move
-  moved agreed node (at_node op) = option_map_or (gives_at agreed op) (node_of entries node) []
+  moved agreed node (at_node op) = option_map_or (gives_at agreed op) (node_of stack.entries node) []
   moved agreed node (silent op) = filter_map take_back (forgotten node op)
   moved agreed node (init major minor readahead flags) = []
   moved agreed node statfs = []
@@ -51,5 +51,5 @@ module _ (layers : List (List ℕ)) (entries : List Entry) where
   -- changes nothing
   abbrev pub moves : Session → Asked → List Move
   moves s q =
-      if is_some (refusal layers entries s q.node q.op) then []
+      if is_some (refusal stack s q.node q.op) then []
       else moved (agreement_of s) q.node q.op

@@ -5,7 +5,7 @@ use Rattle.fuse_wire.specs.declared.errno.Errno.{Errno}
 use Rattle.fuse_wire.specs.declared.errno.Errno.TheVariants.{EIO, EINVAL, EROFS, ENOSYS, EPROTO, ESTALE}
 use Rattle.fuse_wire.specs.declared.opcode.TheConstants.{INIT}
 use Rattle.fuse_wire.specs.Requests.{NodeOp, DoneOp, Op, init, at_node, statfs, done, release, fsync, flush, releasedir, fsyncdir, destroy, silent, modify, other, malformed}
-use Rattle.stack_model.specs.Listing.{Entry}
+use Rattle.stack_model.specs.Listing.{Stacked}
 use Rattle.stack_model.specs.Numbers.{Place, node_of}
 use Rattle.stack_model.specs.Attributes.{kind_at}
 use Rattle.reply_model.specs.declared.session.Agreement.{Agreement}
@@ -38,12 +38,12 @@ refused_when_done agreed releasedir = None
 refused_when_done agreed fsyncdir = None
 refused_when_done agreed destroy = None
 
-module _ (layers : List (List ℕ)) (entries : List Entry) where
+module _ (stack : Stacked) where
   -- a request at a node: its kind, and then the arguments
   abbrev pub refused_at : Agreement → NodeOp → Place → Option Errno
   refused_at agreed op p =
-      let asked = service layers entries agreed op in
-      first_refusal (asked.by_kind (kind_at layers p) ∷ asked.by_arguments p ∷ [])
+      let asked = service stack agreed op in
+      first_refusal (asked.by_kind (kind_at stack.layers p) ∷ asked.by_arguments p ∷ [])
 
   -- requests that would change the tree, that are not served, or that are malformed; versions that
   -- are not spoken, but a client of a later major version is told the version; numbers that are not
@@ -55,7 +55,7 @@ module _ (layers : List (List ℕ)) (entries : List Entry) where
   refused_by_itself agreed node (init major minor readahead flags) =
       refuse_if (not (nat_lt 7 major || is_spoken major minor)) EPROTO
   refused_by_itself agreed node (at_node op) =
-      option_map_or (refused_at agreed op) (node_of entries node) (Some ESTALE)
+      option_map_or (refused_at agreed op) (node_of stack.entries node) (Some ESTALE)
   refused_by_itself agreed node statfs = None
   refused_by_itself agreed node (done op) = refused_when_done agreed op
   refused_by_itself agreed node (silent op) = None

@@ -6,7 +6,7 @@ use Rattle.fuse_wire.specs.declared.reply.InitOut.TheVariants.{Version, Terms}
 use Rattle.fuse_wire.specs.Requests.{NodeOp, Op, Asked, init, at_node, statfs, done, silent, modify, other, malformed, is_in}
 use Rattle.fuse_wire.specs.Structures.{init_out, statfs_out}
 use Rattle.fuse_wire.specs.Replies.{reply_with, error_reply}
-use Rattle.stack_model.specs.Listing.{Entry}
+use Rattle.stack_model.specs.Listing.{Stacked}
 use Rattle.stack_model.specs.Numbers.{Place, nodes, node_of}
 use Rattle.stack_model.specs.Attributes.{blocks_all}
 use Rattle.reply_model.specs.declared.session.Agreement.{Agreement}
@@ -26,17 +26,17 @@ is_silent (done op) = false
 is_silent modify = false
 is_silent other = false
 
-module _ (layers : List (List ℕ)) (entries : List Entry) where
+module _ (stack : Stacked) where
   -- what a request about a node is answered
   abbrev pub answer_at : Agreement → NodeOp → Place → List ℕ
-  answer_at agreed op p = (service layers entries agreed op).answer p
+  answer_at agreed op p = (service stack agreed op).answer p
 
   -- what a request is answered that is not refused
   abbrev pub answer : Agreement → ℕ → Op → List ℕ
   answer agreed node (init major minor readahead flags) =
       init_out (if nat_lt 7 major then Version else Terms agreed.lasting minor readahead flags)
-  answer agreed node (at_node op) = option_map_or (answer_at agreed op) (node_of entries node) []
-  answer agreed node statfs = statfs_out (blocks_all layers) (length (nodes entries))
+  answer agreed node (at_node op) = option_map_or (answer_at agreed op) (node_of stack.entries node) []
+  answer agreed node statfs = statfs_out (blocks_all stack.layers) (length (nodes stack.entries))
   answer agreed node (done op) = []
   answer agreed node (silent op) = []
   answer agreed node modify = []
@@ -47,5 +47,5 @@ module _ (layers : List (List ℕ)) (entries : List Entry) where
   abbrev pub reply : Session → Asked → List ℕ
   reply s q =
       if is_silent q.op then [] else
-      option_map_or (error_reply q.unique) (refusal layers entries s q.node q.op)
+      option_map_or (error_reply q.unique) (refusal stack s q.node q.op)
       (reply_with q.unique (answer (agreement_of s) q.node q.op))

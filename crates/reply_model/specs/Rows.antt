@@ -2,7 +2,7 @@
 use Rattle.std.specs.Prelude.{ℕ, ◌-◌, ◌/◌, ◌^◌, List, [], ◌∷◌, length, drop, Bool, false, nat_lt, nat_le, Some, None, if◌then◌else◌, codes}
 use Rattle.std.specs.List.{enumerate_from}
 use Rattle.fuse_wire.specs.Structures.{dirent, direntplus}
-use Rattle.stack_model.specs.Listing.{Entry}
+use Rattle.stack_model.specs.Listing.{Entry, Stacked}
 use Rattle.stack_model.specs.Numbers.{Place, Child, number, parent, children}
 use Rattle.stack_model.specs.Attributes.{mode, attr_of}
 
@@ -40,13 +40,13 @@ rows_after entries p offset = drop offset (enumerate_from 1 (rows entries p))
 abbrev pub rows_answered : List Entry → (Row → List ℕ) → Place → ℕ → ℕ → List Row
 rows_answered entries form p offset size = fitting form size (rows_after entries p offset)
 
-module _ (layers : List (List ℕ)) (entries : List Entry) where
+module _ (stack : Stacked) where
   -- a row as READDIR gives it: off is its place, and its type the upper bits of the node's mode
   unfoldable pub dirent_of : Row → List ℕ
-  dirent_of r = dirent (number entries r.1.place) r.0 (mode layers r.1.place / 2 ^ 12) r.1.name
+  dirent_of r = dirent (number stack.entries r.1.place) r.0 (mode stack.layers r.1.place / 2 ^ 12) r.1.name
 
   -- the same as READDIRPLUS gives it, with the node's entry; . and .. have none
   unfoldable pub direntplus_of : Row → List ℕ
   direntplus_of r =
-      direntplus (if is_child r then Some (attr_of layers entries r.1.place) else None)
-      (number entries r.1.place) r.0 (mode layers r.1.place / 2 ^ 12) r.1.name
+      direntplus (if is_child r then Some (attr_of stack r.1.place) else None)
+      (number stack.entries r.1.place) r.0 (mode stack.layers r.1.place / 2 ^ 12) r.1.name

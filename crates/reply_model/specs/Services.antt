@@ -10,7 +10,7 @@ use Rattle.fuse_wire.specs.declared.flags.TheConstants.{FOPEN_KEEP_CACHE, FOPEN_
 use Rattle.fuse_wire.specs.declared.limits.TheConstants.{MAX_DATA_SIZE, MAX_NAME_SIZE}
 use Rattle.fuse_wire.specs.Requests.{NodeOp, lookup, getattr, readlink, open_file, read, opendir, readdir, readdirplus}
 use Rattle.fuse_wire.specs.Structures.{entry_out, negative_entry_out, attr_out, open_out}
-use Rattle.stack_model.specs.Listing.{Entry}
+use Rattle.stack_model.specs.Listing.{Stacked}
 use Rattle.stack_model.specs.Numbers.{Place, number}
 use Rattle.stack_model.specs.Attributes.{is_directory, data_of, attr_of}
 use Rattle.reply_model.specs.declared.moves.Move.{Move}
@@ -66,17 +66,17 @@ abbrev pub tells : (Kind → Option Errno) → (Place → List ℕ) → Service
 tells by_kind answer =
     record { by_kind = by_kind; by_arguments = λ p. None; answer = answer; gives = λ p. [] }
 
-module _ (layers : List (List ℕ)) (entries : List Entry) where
+module _ (stack : Stacked) where
   -- an entry that is answered gives one lookup of its node
   abbrev pub give : Place → Move
-  give p = record { node = number entries p; amount = pos 1 }
+  give p = record { node = number stack.entries p; amount = pos 1 }
 
   -- the rows of a directory, in this form
   abbrev pub lists : (Row → List ℕ) → ℕ → ℕ → Service
   lists form offset size =
-      let answered = λ (p : Place). flat_map form (rows_answered entries form p offset size) in
+      let answered = λ (p : Place). flat_map form (rows_answered stack.entries form p offset size) in
       record (tells unless_directory answered) {
-        by_arguments = λ p. refused_rows form size (rows_after entries p offset);
+        by_arguments = λ p. refused_rows form size (rows_after stack.entries p offset);
       }
 
   -- each of them. With EXPORT_SUPPORT the name . finds a node of any kind; an access mode other
@@ -88,31 +88,31 @@ module _ (layers : List (List ℕ)) (entries : List Entry) where
     by_arguments = λ p.
         if nat_lt MAX_NAME_SIZE (length name) then Some ENAMETOOLONG
         else refuse_if
-        (is_none (looked_up entries agreed.export p name) && not agreed.lasting) ENOENT;
+        (is_none (looked_up stack.entries agreed.export p name) && not agreed.lasting) ENOENT;
     answer = λ p.
-        option_map_or (λ c. entry_out (attr_of layers entries c))
-        (looked_up entries agreed.export p name) negative_entry_out;
-    gives = λ p. map give (option_to_list (looked_up entries agreed.export p name));
+        option_map_or (λ c. entry_out (attr_of stack c))
+        (looked_up stack.entries agreed.export p name) negative_entry_out;
+    gives = λ p. map give (option_to_list (looked_up stack.entries agreed.export p name));
   }
-  service agreed getattr = tells of_any_kind (λ p. attr_out (attr_of layers entries p))
-  service agreed readlink = tells unless_link (λ p. data_of layers p)
+  service agreed getattr = tells of_any_kind (λ p. attr_out (attr_of stack p))
+  service agreed readlink = tells unless_link (λ p. data_of stack.layers p)
   service agreed (open_file flags) =
       record (tells unless_regular (λ p. open_out FOPEN_KEEP_CACHE)) {
         by_arguments = λ p.
             if not (flags % 4 == 0) then Some EROFS else refuse_if agreed.no_open ENOSYS;
       }
   service agreed (read offset size) =
-      record (tells unless_regular (λ p. take size (drop offset (data_of layers p)))) {
+      record (tells unless_regular (λ p. take size (drop offset (data_of stack.layers p)))) {
         by_arguments = λ p. refuse_if (is_too_large size) EINVAL;
       }
   service agreed opendir =
       record (tells unless_directory (λ p. open_out (opendir_flags agreed.lasting))) {
         by_arguments = λ p. refuse_if agreed.no_opendir ENOSYS;
       }
-  service agreed (readdir offset size) = lists (dirent_of layers entries) offset size
+  service agreed (readdir offset size) = lists (dirent_of stack) offset size
   service agreed (readdirplus offset size) =
-      record (lists (direntplus_of layers entries) offset size) {
+      record (lists (direntplus_of stack) offset size) {
         gives = λ p.
             map (λ r. give r.1.place)
-            (filter is_child (rows_answered entries (direntplus_of layers entries) p offset size));
+            (filter is_child (rows_answered stack.entries (direntplus_of stack) p offset size));
       }

@@ -1,7 +1,7 @@
 -- Requests one after another: their replies and their moves, the session carried along.
 use Rattle.std.specs.Prelude.{ℕ, List, [], ◌∷◌, ◌++◌, map, fold, ℤ}
 use Rattle.fuse_wire.specs.Requests.{Asked, asked}
-use Rattle.stack_model.specs.Listing.{Entry}
+use Rattle.stack_model.specs.Listing.{Stacked}
 use Rattle.reply_model.specs.declared.session.Session.{Session}
 use Rattle.reply_model.specs.declared.moves.Move.{Move}
 use Rattle.reply_model.specs.Sessions.{session_after}
@@ -23,11 +23,11 @@ moves_by moved s [] = []
 moves_by moved s (q ∷ qs) = moved s q ++ moves_by moved (session_after s q.op) qs
 
 -- the replies to messages, over the layers and the paths that they show
-abbrev pub replies : List (List ℕ) → List Entry → Session → List (List ℕ) → List ℕ
-replies layers entries s messages = replies_by (reply layers entries) s (map asked messages)
+abbrev pub replies : Stacked → Session → List (List ℕ) → List ℕ
+replies stack s messages = replies_by (reply stack) s (map asked messages)
 
 -- the lookups of a node that the client holds after these messages, which begin in this session; it
 -- may be below 0
-abbrev pub balance_after : List (List ℕ) → List Entry → Session → List (List ℕ) → ℕ → ℤ
-balance_after layers entries first messages node =
-    balance node (moves_by (moves layers entries) first (map asked messages))
+abbrev pub balance_after : Stacked → Session → List (List ℕ) → ℕ → ℤ
+balance_after stack first messages node =
+    balance node (moves_by (moves stack) first (map asked messages))

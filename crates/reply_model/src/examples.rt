@@ -3,7 +3,7 @@
 #![tactic(auto, unfolding(crate::proofs::Computing::replies_on_literals))]
 
 ghost use Rattle.reply_model.specs.Examples.{StreamExamples, FaultOrder, FaultExamples, EmptyImageFields, InitExamples, GetattrExamples, ReaddirExamples, ReaddirplusExamples, ReadExamples, LookupExamples, NodeExamples, OpenExamples, SessionExamples, ExportExamples, SilentExamples, RefusalOrder, TwelveRequests, BalanceExamples};
-ghost use Rattle.reply_model.specs.LastingExamples.{LastingInitExamples, LastingSessionExamples, LastingLookupExamples, LastingOpenExamples, LastingFlushExamples, LastingStreamExamples};
+ghost use Rattle.reply_model.specs.LastingExamples.{LastingInitExamples, LastingSessionExamples, LastingLookupExamples, LastingOpenExamples, LastingFlushExamples, LastingStayExamples, LastingStreamExamples};
 
 /// The fields of the empty image.
 pub fn the_empty_image_example()
@@ -121,6 +121,12 @@ pub fn lasting_open_example()
 /// FLUSH, lastingly, and what stays beside it.
 pub fn lasting_flush_example()
     ensures { LastingFlushExamples }
+{}
+
+/// A reply that stays where it is served lastingly, and one that becomes another.
+#[tactic(auto, using(crate::proofs::Lasting::stay))]
+pub fn lasting_stay_example()
+    ensures { LastingStayExamples }
 {}
 
 /// Whole streams that are served lastingly, and their balances.

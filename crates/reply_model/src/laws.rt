@@ -6,7 +6,7 @@ ghost use Rattle.romfs_format.specs.Rules.{IsSound};
 ghost use Rattle.fuse_wire.specs.Requests.{Op, Asked, at_node, lookup, readdirplus, done, destroy};
 ghost use Rattle.fuse_wire.specs.declared.limits.TheConstants.{MAX_REPLY_SIZE};
 ghost use Rattle.fuse_wire.specs.Stream.{said_length};
-ghost use Rattle.stack_model.specs.Listing.{Entry, IsListing};
+ghost use Rattle.stack_model.specs.Listing.{Entry, Stacked, IsListing};
 ghost use Rattle.reply_model.specs.declared.session.Session.{Session};
 ghost use Rattle.reply_model.specs.Replies.{reply};
 ghost use Rattle.reply_model.specs.declared.session.Session.TheVariants.{Fresh, LastingFresh};
@@ -24,22 +24,22 @@ ghost use Rattle.reply_model.specs.Rows.{Row, fitting};
 /// request's unique.
 #[tactic(auto, using(crate::proofs::Headers::headed))]
 pub fn replies_are_headed()
-    ensures { (layers : List (List ℕ)) (entries : List Entry) (s : Session) (q : Asked) →
-        (reply layers entries s q ≡ []) ⊎ IsReplyTo q.unique (reply layers entries s q) }
+    ensures { (stack : Stacked) (s : Session) (q : Asked) →
+        (reply stack s q ≡ []) ⊎ IsReplyTo q.unique (reply stack s q) }
 {}
 
 /// Over sound images a reply has at most 1 MiB of data behind its header of 16 bytes. So the length
 /// that a reply begins with is its length itself, whole in its 32 bits.
 #[tactic(auto, using(crate::proofs::Lengths::short, crate::proofs::Lengths::said))]
 pub fn replies_are_short()
-    ensures short { (bs : List (List ℕ)) (entries : List Entry) → All IsSound bs →
-        IsListing (map image bs) entries →
-        (s : Session) (q : Asked) → length (reply (map image bs) entries s q) ≤ MAX_REPLY_SIZE }
-    ensures said { (bs : List (List ℕ)) (entries : List Entry) → All IsSound bs →
-        IsListing (map image bs) entries →
-        (s : Session) (q : Asked) → (reply (map image bs) entries s q ≡ [])
-        ⊎ (said_length (reply (map image bs) entries s q)
-        ≡ length (reply (map image bs) entries s q)) }
+    ensures short { (bs : List (List ℕ)) (stack : Stacked) → All IsSound bs →
+        stack.layers ≡ map image bs → IsListing stack.layers stack.entries →
+        (s : Session) (q : Asked) → length (reply stack s q) ≤ MAX_REPLY_SIZE }
+    ensures said { (bs : List (List ℕ)) (stack : Stacked) → All IsSound bs →
+        stack.layers ≡ map image bs → IsListing stack.layers stack.entries →
+        (s : Session) (q : Asked) → (reply stack s q ≡ [])
+        ⊎ (said_length (reply stack s q)
+        ≡ length (reply stack s q)) }
 {}
 
 /// The rows that fit in a size are the first ones, whole, and as many as fit.
@@ -54,18 +54,18 @@ pub fn fitting_rows_are_the_first()
 /// where they are answered an error, or a LOOKUP that its name is none, nothing.
 #[tactic(auto, using(crate::proofs::Given::given))]
 pub fn entries_are_given()
-    ensures lookup { (layers : List (List ℕ)) (entries : List Entry) (s : Session)
+    ensures lookup { (stack : Stacked) (s : Session)
         (unique node : ℕ) (name : List ℕ) →
-        GivesEntry layers entries s
+        GivesEntry stack s
         (record { unique = unique; node = node; op = at_node (lookup name) }) }
-    ensures readdirplus { (layers : List (List ℕ)) (entries : List Entry) (s : Session)
+    ensures readdirplus { (stack : Stacked) (s : Session)
         (unique node offset size : ℕ) →
-        GivesRows layers entries s
+        GivesRows stack s
         (record { unique = unique; node = node; op = at_node (readdirplus offset size) }) }
-    ensures others { (layers : List (List ℕ)) (entries : List Entry) (s : Session) (q : Asked) →
-        is_moving q.op ≡ false → moves layers entries s q ≡ [] }
-    ensures fresh { (layers : List (List ℕ)) (entries : List Entry) (s : Session) (q : Asked) →
-        is_fresh s ≡ true → moves layers entries s q ≡ [] }
+    ensures others { (stack : Stacked) (s : Session) (q : Asked) →
+        is_moving q.op ≡ false → moves stack s q ≡ [] }
+    ensures fresh { (stack : Stacked) (s : Session) (q : Asked) →
+        is_fresh s ≡ true → moves stack s q ≡ [] }
 {}
 
 /// Requests may be taken in parts: their replies and moves are those of the parts, the session
@@ -84,11 +84,11 @@ pub fn parts_of_a_stream_add_up()
 /// A DESTROY leaves all balances.
 #[tactic(auto, using(crate::proofs::Given::destroy_leaves))]
 pub fn destroy_leaves_balances()
-    ensures { (layers : List (List ℕ)) (entries : List Entry) (s : Session)
+    ensures { (stack : Stacked) (s : Session)
         (qs : List Asked) (unique node n : ℕ) →
-        balance n (moves_by (moves layers entries) s
+        balance n (moves_by (moves stack) s
         (qs ++ record { unique = unique; node = node; op = done destroy } ∷ []))
-        ≡ balance n (moves_by (moves layers entries) s qs) }
+        ≡ balance n (moves_by (moves stack) s qs) }
 {}
 
 /// Served lastingly, a stream is replied as it is usually but for four things: other terms of INIT;
@@ -96,25 +96,25 @@ pub fn destroy_leaves_balances()
 /// a name that is none is no lookup; sessions go on alike, and a stream leaves the same balances.
 #[tactic(auto, using(crate::proofs::Lasting::lasting))]
 pub fn lasting_replies_differ_in_four_ways()
-    ensures replies { (layers : List (List ℕ)) (entries : List Entry) (s : Session) (q : Asked) →
+    ensures replies { (stack : Stacked) (s : Session) (q : Asked) →
         (agreement_of s).lasting ≡ true →
         LastsAs (agreement_of s) q.unique q.op
-        (reply layers entries (usual_of s) q) (reply layers entries s q) }
-    ensures moves { (layers : List (List ℕ)) (entries : List Entry) (s : Session) (q : Asked) →
-        moves layers entries s q ≡ moves layers entries (usual_of s) q }
+        (reply stack (usual_of s) q) (reply stack s q) }
+    ensures moves { (stack : Stacked) (s : Session) (q : Asked) →
+        moves stack s q ≡ moves stack (usual_of s) q }
     ensures sessions { (s : Session) (op : Op) →
         usual_of (session_after s op) ≡ session_after (usual_of s) op }
-    ensures balances { (layers : List (List ℕ)) (entries : List Entry)
+    ensures balances { (stack : Stacked)
         (messages : List (List ℕ)) (node : ℕ) →
-        balance_after layers entries LastingFresh messages node
-        ≡ balance_after layers entries Fresh messages node }
+        balance_after stack LastingFresh messages node
+        ≡ balance_after stack Fresh messages node }
 {}
 
 /// Attributes fit their fields, and numbers are no more than the nodes.
 #[tactic(auto, using(crate::proofs::Widths::attributes_fit, crate::proofs::Widths::numbers_fit))]
 pub fn attributes_fit_their_fields()
-    ensures fields { (layers : List (List ℕ)) (entries : List Entry) (p : Place) →
-        AreLayersOfBytes layers → FitsFields (attr_of layers entries p) }
+    ensures fields { (stack : Stacked) (p : Place) →
+        AreLayersOfBytes stack.layers → FitsFields (attr_of stack p) }
     ensures numbers { (entries : List Entry) (p : Place) →
         number entries p ≤ length (nodes entries) }
 {}

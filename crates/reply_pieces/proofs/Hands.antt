@@ -17,7 +17,7 @@ use Rattle.draw_board.specs.Counter.{draw_answer}
 use Rattle.draw_board.specs.Hands.{positions, seen_below, total_of}
 use Rattle.draw_board.specs.Positions.{Unites, numbers, times}
 use Rattle.draw_board.proofs.Numbers.{all_numbers, both_numbers}
-use Rattle.stack_table.specs.Stacked.{Stacked}
+use Rattle.stack_model.specs.Listing.{Stacked}
 use Rattle.reply_model.specs.declared.moves.Move.{Move}
 use Rattle.reply_model.specs.Moves.{balance}
 use Rattle.lookup_balances.specs.Balances.{weight}

@@ -14,7 +14,7 @@ use Rattle.fuse_wire.specs.declared.opcode.TheConstants.{FORGET, GETATTR, OPEN, 
 use Rattle.fuse_wire.specs.Requests.{Op, init, at_node, lookup, getattr, open_file, read, opendir, readdir, readdirplus, silent, forget, batch_forget, modify, other, malformed, asked, forgets_in, forgets_of, op_of, served, sized, modifying, is_in}
 use Rattle.fuse_wire.specs.Stream.{IsMessage, field}
 use Rattle.fuse_wire.proofs.Sizes.{length-direntplus}
-use Rattle.stack_model.specs.Listing.{Entry}
+use Rattle.stack_model.specs.Listing.{Stacked}
 use Rattle.stack_model.specs.Numbers.{Place, number, node_of}
 use Rattle.stack_model.specs.Attributes.{mode, attr_of}
 use Rattle.reply_model.specs.declared.moves.Move.{Move}
@@ -183,28 +183,28 @@ fitting_few form some room (r ∷ rows) = go (nat_le (length (form r)) room) ref
     go true e rest = let one = some r in let fits = leb-true (length (form r)) room e in omega arith
     go false e rest = omega arith
 
-module _ (layers : List (List ℕ)) (entries : List Entry) where
-  weight_given : (rows : List Row) → weight (map (λ (r : Row). give layers entries r.1.place) (filter is_child rows)) ≤ length rows
+module _ (stack : Stacked) where
+  weight_given : (rows : List Row) → weight (map (λ (r : Row). give stack r.1.place) (filter is_child rows)) ≤ length rows
   weight_given [] = omega arith
   weight_given (r ∷ rows) = go (is_child r) (weight_given rows)
     where
-      go : (child : Bool) → weight (map (λ (r : Row). give layers entries r.1.place) (filter is_child rows)) ≤ length rows
-          → weight (map (λ (r : Row). give layers entries r.1.place) (cond child (r ∷ filter is_child rows) (filter is_child rows)))
+      go : (child : Bool) → weight (map (λ (r : Row). give stack r.1.place) (filter is_child rows)) ≤ length rows
+          → weight (map (λ (r : Row). give stack r.1.place) (cond child (r ∷ filter is_child rows) (filter is_child rows)))
           ≤ suc (length rows)
       go true l = omega (arith, ints)
       go false l = omega arith
 
   -- a row of READDIRPLUS has at least one byte
-  pub row_some : (r : Row) → 1 ≤ length (direntplus_of layers entries r)
+  pub row_some : (r : Row) → 1 ≤ length (direntplus_of stack r)
   unfolding direntplus_of
   row_some r =
-      let entry = if is_child r then Some (attr_of layers entries r.1.place) else None in
-      let l = length-direntplus entry (number entries r.1.place) r.0 (mode layers r.1.place / 2 ^ 12) r.1.name in
+      let entry = if is_child r then Some (attr_of stack r.1.place) else None in
+      let l = length-direntplus entry (number stack.entries r.1.place) r.0 (mode stack.layers r.1.place / 2 ^ 12) r.1.name in
       omega arith
 
-  weight_taken : (f : Forget) (rest : List Move) → f.nlookup < 2 ^ 64 → weight (cons_option (take_back layers entries f) rest) ≤ 2 ^ 64
+  weight_taken : (f : Forget) (rest : List Move) → f.nlookup < 2 ^ 64 → weight (cons_option (take_back stack f) rest) ≤ 2 ^ 64
       + weight rest
-  weight_taken f rest small = go (node_of entries f.node)
+  weight_taken f rest small = go (node_of stack.entries f.node)
     where
       go : (o : Option Place) → weight (cons_option (option_map
           (λ p. let m : Move = record { node = f.node; amount = neg_ℤ (pos f.nlookup) } in m) o) rest) ≤ 2 ^
@@ -212,10 +212,10 @@ module _ (layers : List (List ℕ)) (entries : List Entry) where
       go None = omega arith
       go (Some p) = omega (arith, ints)
 
-  weight_items : (items : List Forget) → AreSmall items → weight (filter_map (take_back layers entries) items) ≤ 2 ^ 64 * length items
+  weight_items : (items : List Forget) → AreSmall items → weight (filter_map (take_back stack) items) ≤ 2 ^ 64 * length items
   weight_items [] small = omega arith
   weight_items (f ∷ items) small =
-      let one = weight_taken f (filter_map (take_back layers entries) items) small.0 in
+      let one = weight_taken f (filter_map (take_back stack) items) small.0 in
       let rest = weight_items items small.1 in
       omega arith
 
@@ -225,36 +225,36 @@ module _ (layers : List (List ℕ)) (entries : List Entry) where
     nothing_given None = omega arith
     nothing_given (Some p) = omega arith
 
-    lookup_given : (name : List ℕ) (o : Option Place) → weight (option_map_or (gives_at layers entries agreed (lookup name)) o [])
+    lookup_given : (name : List ℕ) (o : Option Place) → weight (option_map_or (gives_at stack agreed (lookup name)) o [])
         ≤ 2 ^ 64 * bytes
     lookup_given name None = omega arith
-    lookup_given name (Some p) = go (looked_up entries agreed.export p name)
+    lookup_given name (Some p) = go (looked_up stack.entries agreed.export p name)
       where
-        go : (o : Option Place) → weight (map (give layers entries) (option_to_list o)) ≤ 2 ^ 64 * bytes
+        go : (o : Option Place) → weight (map (give stack) (option_to_list o)) ≤ 2 ^ 64 * bytes
         go None = omega arith
         go (Some c) = omega (arith, ints)
 
     rows_given : (offset size : ℕ) → size < 2 ^ 64 → (o : Option Place)
-        → weight (option_map_or (gives_at layers entries agreed (readdirplus offset size)) o [])
+        → weight (option_map_or (gives_at stack agreed (readdirplus offset size)) o [])
         ≤ 2 ^ 64 * bytes
     rows_given offset size small None = omega arith
     rows_given offset size small (Some p) =
-        let rows = fitting (direntplus_of layers entries) size (rows_after entries p offset) in
+        let rows = fitting (direntplus_of stack) size (rows_after stack.entries p offset) in
         let w = weight_given rows in
-        let f = fitting_few (direntplus_of layers entries) row_some size (rows_after entries p offset) in
+        let f = fitting_few (direntplus_of stack) row_some size (rows_after stack.entries p offset) in
         omega arith
 
-    moved_light : (op : Op) → IsModest bytes op → weight (moved layers entries agreed node op) ≤ 2 ^ 64 * bytes
-    moved_light (at_node (lookup name)) m = lookup_given name (node_of entries node)
-    moved_light (at_node (readdirplus offset size)) m = rows_given offset size m (node_of entries node)
-    moved_light (at_node _) m = nothing_given (node_of entries node)
+    moved_light : (op : Op) → IsModest bytes op → weight (moved stack agreed node op) ≤ 2 ^ 64 * bytes
+    moved_light (at_node (lookup name)) m = lookup_given name (node_of stack.entries node)
+    moved_light (at_node (readdirplus offset size)) m = rows_given offset size m (node_of stack.entries node)
+    moved_light (at_node _) m = nothing_given (node_of stack.entries node)
     moved_light (silent (forget nlookup)) m = let w = weight_taken (record { node = node; nlookup = nlookup }) [] m in omega arith
     moved_light (silent (batch_forget items)) m = let w = weight_items items m.0 in let n = m.1 in omega arith
     moved_light _ m = omega arith
 
   -- what a message moves is light
-  pub message_light : (s : Session) (m : List ℕ) → IsMessage m → AreBytes m → IsLight (moves layers entries s (asked m)) (length m)
-  message_light s m is b = go (is_some (refusal layers entries s (asked m).node (asked m).op))
+  pub message_light : (s : Session) (m : List ℕ) → IsMessage m → AreBytes m → IsLight (moves stack s (asked m)) (length m)
+  message_light s m is b = go (is_some (refusal stack s (asked m).node (asked m).op))
     where
       long : HEADER_SIZE ≤ length m
       long = is.good.0
@@ -265,7 +265,7 @@ module _ (layers : List (List ℕ)) (entries : List Entry) where
       modest : IsModest (length body) (asked m).op
       modest = op_modest body (bytes_after HEADER_SIZE m b) (field 4 4 m)
 
-      go : (refused : Bool) → weight (cond refused [] (moved layers entries (agreement_of s) (asked m).node (asked m).op))
+      go : (refused : Bool) → weight (cond refused [] (moved stack (agreement_of s) (asked m).node (asked m).op))
           ≤ 2 ^ 64 * length m
       go true = omega arith
       go false = moved_light (length m) (omega arith) (agreement_of s) (asked m).node (asked m).op (larger (asked m).op modest)

@@ -8,7 +8,7 @@ use Rattle.std.specs.List.{AllByRecursion, flat_map}
 use Rattle.fuse_wire.specs.Reads.{asked_of}
 use Rattle.fuse_wire.specs.Requests.{asked}
 use Rattle.fuse_wire.specs.Stream.{BeginsMessage, IsMessage, IsRest}
-use Rattle.stack_table.specs.Stacked.{Stacked}
+use Rattle.stack_model.specs.Listing.{Stacked}
 use Rattle.reply_model.specs.declared.moves.Move.{Move}
 use Rattle.reply_model.specs.declared.session.Session.{Session}
 use Rattle.reply_model.specs.Moves.{balance, moves}
@@ -64,27 +64,27 @@ one_taken s stream round js all rest len after job f e begins before asks next m
 module _ (stack : Stacked) where
   -- jobs are replied to as their messages are
   jobs_told : (s : Session) (ms : List (List ℕ)) (js : List Job) → AreJobs s ms js
-      → flat_map (reply_to stack) js ≡ replies_by (reply stack.layers stack.entries) s (map asked ms)
+      → flat_map (reply_to stack) js ≡ replies_by (reply stack) s (map asked ms)
   jobs_told s [] [] a = refl
   jobs_told s [] (j ∷ js) a = absurd a
   jobs_told s (m ∷ ms) [] a = absurd a
   jobs_told s (m ∷ ms) (j ∷ js) a =
-      let one : reply_to stack j ≡ reply stack.layers stack.entries s (asked m) =
-      ap (λ t. reply stack.layers stack.entries t (asked_of j.1)) a.0 ∙ ap (reply stack.layers stack.entries s) a.1 in
+      let one : reply_to stack j ≡ reply stack s (asked m) =
+      ap (λ t. reply stack t (asked_of j.1)) a.0 ∙ ap (reply stack s) a.1 in
       ap (λ xs. xs ++ flat_map (reply_to stack) js) one
-      ∙ ap (λ xs. reply stack.layers stack.entries s (asked m) ++ xs) (jobs_told (session_after s (asked m).op) ms js a.2)
+      ∙ ap (λ xs. reply stack s (asked m) ++ xs) (jobs_told (session_after s (asked m).op) ms js a.2)
 
   -- and move what their messages move
   jobs_moved : (s : Session) (ms : List (List ℕ)) (js : List Job) → AreJobs s ms js
-      → flat_map (moved_by stack) js ≡ moves_by (moves stack.layers stack.entries) s (map asked ms)
+      → flat_map (moved_by stack) js ≡ moves_by (moves stack) s (map asked ms)
   jobs_moved s [] [] a = refl
   jobs_moved s [] (j ∷ js) a = absurd a
   jobs_moved s (m ∷ ms) [] a = absurd a
   jobs_moved s (m ∷ ms) (j ∷ js) a =
-      let one : moved_by stack j ≡ moves stack.layers stack.entries s (asked m) =
-      ap (λ t. moves stack.layers stack.entries t (asked_of j.1)) a.0 ∙ ap (moves stack.layers stack.entries s) a.1 in
+      let one : moved_by stack j ≡ moves stack s (asked m) =
+      ap (λ t. moves stack t (asked_of j.1)) a.0 ∙ ap (moves stack s) a.1 in
       ap (λ xs. xs ++ flat_map (moved_by stack) js) one
-      ∙ ap (λ xs. moves stack.layers stack.entries s (asked m) ++ xs) (jobs_moved (session_after s (asked m).op) ms js a.2)
+      ∙ ap (λ xs. moves stack s (asked m) ++ xs) (jobs_moved (session_after s (asked m).op) ms js a.2)
 
 front_bytes : (m r : List ℕ) → AreBytes (m ++ r) → AreBytes m
 front_bytes [] r b k = omega arith
@@ -97,11 +97,11 @@ back_bytes (x ∷ m) r b = back_bytes m r (λ i. b (suc i))
 
 -- what messages move is light
 messages_light : (stack : Stacked) (s : Session) (ms : List (List ℕ)) → AllByRecursion IsMessage ms → AreBytes (joined ms)
-    → IsLight (moves_by (moves stack.layers stack.entries) s (map asked ms)) (length (joined ms))
+    → IsLight (moves_by (moves stack) s (map asked ms)) (length (joined ms))
 messages_light stack s [] each b = omega arith
 messages_light stack s (m ∷ ms) each b =
-    subst (λ n. IsLight (moves_by (moves stack.layers stack.entries) s (map asked (m ∷ ms))) n) (sym (length-append m (joined ms)))
-    (light_on _ _ _ _ (message_light stack.layers stack.entries s m each.0 (front_bytes m (joined ms) b))
+    subst (λ n. IsLight (moves_by (moves stack) s (map asked (m ∷ ms))) n) (sym (length-append m (joined ms)))
+    (light_on _ _ _ _ (message_light stack s m each.0 (front_bytes m (joined ms) b))
     (messages_light stack (session_after s (asked m).op) ms each.1 (back_bytes m (joined ms) b)))
 
 -- moves with the same balances move the same
@@ -114,7 +114,7 @@ pub by_jobs : {A : Type 0} (first : Session) (stack : Stacked) (s : Session) (st
     → AreFirstJobs s stream round jobs → (0 < round.messages) ⊎ IsRest (drop round.used stream) → AnswerAll stack jobs size pieces
     → AreAppended pieces old new b → AppendsRound (answering first stack) s stream round old new b
 by_jobs first stack s stream round jobs size pieces old new b some bytes f o a p = (
-  replies_by (reply stack.layers stack.entries) s (map asked f.messages),
+  replies_by (reply stack) s (map asked f.messages),
   p.bytes ∙ ap (λ (v : List ℕ). old ++ v) ((whole stack jobs size pieces some a.answered a.once).replies p.ordered p.order
       ∙ jobs_told stack s f.messages jobs f.as_jobs),
   record {
@@ -124,7 +124,7 @@ by_jobs first stack s stream round jobs size pieces old new b some bytes f o a p
     answered = record {
       session = f.session;
       told = refl;
-      moves = moved_same (flat_map (λ piece. piece.moves.items) p.ordered) (moves_by (moves stack.layers stack.entries) s
+      moves = moved_same (flat_map (λ piece. piece.moves.items) p.ordered) (moves_by (moves stack) s
           (map asked f.messages)) b.old b.new
           (λ node. (all_move stack jobs size pieces p.ordered node some a.answered a.once p.order
           ∙ ap (balance node) (jobs_moved stack s f.messages jobs f.as_jobs))) p.moves;

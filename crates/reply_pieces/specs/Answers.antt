@@ -1,5 +1,5 @@
 -- Answers over the table of a stack.
-use Rattle.stack_table.specs.Stacked.{Stacked}
+use Rattle.stack_model.specs.Listing.{Stacked}
 use Rattle.reply_model.specs.declared.session.Session.{Session}
 use Rattle.reply_model.specs.Replies.{reply}
 use Rattle.reply_model.specs.Moves.{moves}
@@ -10,6 +10,6 @@ use Rattle.serve_loop.specs.Rounds.{Answering}
 abbrev pub answering : Session → Stacked → Answering
 answering first stack = record {
   first = first;
-  reply = reply stack.layers stack.entries;
-  moved = moves stack.layers stack.entries;
+  reply = reply stack;
+  moved = moves stack;
 }

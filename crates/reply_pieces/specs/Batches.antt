@@ -4,7 +4,7 @@ use Rattle.std.specs.List.{All, flat_map, range_with_len}
 use Rattle.std.specs.List.Sorted.{IsPermutation, IsNonDecreasingBy}
 use Rattle.fuse_wire.specs.declared.limits.TheConstants.{MAX_ROUND_MESSAGES}
 use Rattle.draw_board.specs.Positions.{times}
-use Rattle.stack_table.specs.Stacked.{Stacked}
+use Rattle.stack_model.specs.Listing.{Stacked}
 use Rattle.lookup_balances.specs.Balances.{weight}
 use Rattle.reply_pieces.specs.declared.pieces.Rounded.{Rounded}
 use Rattle.reply_pieces.specs.declared.pieces.Piece.{Piece}

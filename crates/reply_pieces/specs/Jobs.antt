@@ -5,7 +5,7 @@ use Rattle.fuse_wire.specs.declared.request.Request.{Request}
 use Rattle.fuse_wire.specs.Reads.{asked_of}
 use Rattle.fuse_wire.specs.Requests.{Op, at_node, readdirplus, silent, batch_forget}
 use Rattle.fuse_wire.specs.declared.limits.TheConstants.{MAX_FORGETS}
-use Rattle.stack_table.specs.Stacked.{Stacked}
+use Rattle.stack_model.specs.Listing.{Stacked}
 use Rattle.reply_model.specs.declared.moves.Move.{Move}
 use Rattle.reply_model.specs.declared.session.Session.{Session}
 use Rattle.reply_model.specs.Replies.{reply}
@@ -19,11 +19,11 @@ Job = Session × Request
 
 -- the reply to a job
 abbrev pub reply_to : Stacked → Job → List ℕ
-reply_to stack job = reply stack.layers stack.entries job.0 (asked_of job.1)
+reply_to stack job = reply stack job.0 (asked_of job.1)
 
 -- what a job moves
 abbrev pub moved_by : Stacked → Job → List Move
-moved_by stack job = moves stack.layers stack.entries job.0 (asked_of job.1)
+moved_by stack job = moves stack job.0 (asked_of job.1)
 
 -- the replies to jobs one after another, and the sums of what they move by node
 pub record IsRounded {A : Type 0} (stack : Stacked) (jobs : List Job)

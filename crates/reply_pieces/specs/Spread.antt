@@ -6,7 +6,7 @@ use Rattle.fuse_wire.specs.Reads.{asked_of}
 use Rattle.fuse_wire.specs.Requests.{asked}
 use Rattle.fuse_wire.specs.Stream.{IsRest}
 use Rattle.draw_board.specs.Positions.{times}
-use Rattle.stack_table.specs.Stacked.{Stacked}
+use Rattle.stack_model.specs.Listing.{Stacked}
 use Rattle.reply_model.specs.declared.session.Session.{Session}
 use Rattle.reply_model.specs.Sessions.{session_after}
 use Rattle.reply_model.specs.Streams.{session_at}

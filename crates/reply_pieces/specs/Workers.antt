@@ -8,7 +8,7 @@ use Rattle.draw_board.specs.declared.board.Board.{Board}
 use Rattle.draw_board.specs.declared.hand.Hand.{Hand}
 use Rattle.draw_board.specs.Hands.{IsHandOf, KeepsShare, MovesMisses, TakesIn, left, positions, seen_below, total_of}
 use Rattle.draw_board.specs.Positions.{Unites, numbers, times}
-use Rattle.stack_table.specs.Stacked.{Stacked}
+use Rattle.stack_model.specs.Listing.{Stacked}
 use Rattle.reply_pieces.specs.declared.pieces.Piece.{Piece}
 use Rattle.reply_pieces.specs.Batches.{AreOrdered, IsPiece, batches, numbers_of}
 use Rattle.reply_pieces.specs.Jobs.{Job, reply_to}

@@ -81,7 +81,14 @@ pub fn worth_workers<A: Allocator>(table: &Table<A>, stream: &[u8]) -> Option<us
     if WORTH <= time { Some(messages) } else { None }
 }
 
-// What the reply to a request is expected to take.
+// Of a reply without data and rows.
+const SHORT: Load = Load {
+    time: REPLY_TIME,
+    room: SHORT_REPLY,
+};
+
+// What the reply to a request is expected to take. Each opcode is named, so that one more does not
+// compile before its reply is thought of.
 fn expected<A: Allocator>(table: &Table<A>, request: &Request<'_>) -> Load {
     match request.op {
         Op::Read { offset, size } if size <= MAX_DATA_SIZE => {
@@ -93,10 +100,13 @@ fn expected<A: Allocator>(table: &Table<A>, request: &Request<'_>) -> Load {
         Op::Readdirplus { offset, size } if size <= MAX_DATA_SIZE => {
             rows_load(left(rows(table, request.node), offset), size, true)
         }
-        _ => Load {
-            time: REPLY_TIME,
-            room: SHORT_REPLY,
-        },
+        Op::Read { .. } | Op::Readdir { .. } | Op::Readdirplus { .. } => SHORT,
+        Op::Init { .. } | Op::Destroy | Op::Interrupt => SHORT,
+        Op::Lookup { .. } | Op::Forget { .. } | Op::BatchForget { .. } => SHORT,
+        Op::Getattr | Op::Readlink | Op::Statfs => SHORT,
+        Op::Open { .. } | Op::Release | Op::Fsync | Op::Flush => SHORT,
+        Op::Opendir | Op::Releasedir | Op::Fsyncdir => SHORT,
+        Op::Modify | Op::Other | Op::Malformed { .. } => SHORT,
     }
 }
 

@@ -1,8 +1,7 @@
 -- Images that are prepared for serving: checked, and stacked.
 use Rattle.std.specs.Prelude.{ℕ, List}
 use Rattle.romfs_format.specs.declared.rule.Profile.{Profile}
-use Rattle.stack_model.specs.Listing.{IsListing}
-use Rattle.stack_table.specs.Stacked.{Stacked}
+use Rattle.stack_model.specs.Listing.{Stacked, IsListing}
 use Rattle.layer_check.specs.Layers.{AreLayers}
 
 -- all images keep the rules of the profile, and this is the stack of their accessible bytes

@@ -5,7 +5,7 @@ use Rattle.romfs_format.specs.declared.head.Kind.{Kind}
 use Rattle.romfs_format.specs.declared.head.Kind.TheVariants.{HardLink, Directory, Regular, SymLink, Block, Character, Socket, Fifo}
 use Rattle.romfs_format.specs.Fields.{kind, exec, size, spec, name, data_at}
 use Rattle.node_attr.specs.declared.attr.Attr.{Attr}
-use Rattle.stack_model.specs.Listing.{Entry}
+use Rattle.stack_model.specs.Listing.{Stacked}
 use Rattle.stack_model.specs.Numbers.{Place, place, same_place, number, children}
 use Rattle.std.specs.Prelude.{length}
 
@@ -75,29 +75,31 @@ module _ (layers : List (List ℕ)) where
   abbrev pub rdev : Place → ℕ
   rdev p = rdev_of (kind_at p) (spec (layer_of p) p.1)
 
-  -- how many shown paths have the place; for a directory 2 plus its shown subdirectories
-  abbrev pub links : List Entry → Place → ℕ
-  links entries p =
-      if is_directory_at p then 2 + count_by (λ c. is_directory_at c.place) (children entries p)
-      else count_by (λ e. same_place p (place e)) entries
-
-  -- the same, held at the field's greatest value
-  abbrev pub nlink : List Entry → Place → ℕ
-  nlink entries p = min (links entries p) (2 ^ 32 - 1)
-
-  -- all of these of a place, with its number
-  abbrev pub attr_of : List Entry → Place → Attr
-  attr_of entries p = record {
-    ino = number entries p;
-    size = size_at p;
-    blocks = blocks_of (size_at p);
-    mode = mode p;
-    nlink = nlink entries p;
-    rdev = rdev p;
-  }
-
   -- the data of a regular file, or the target of a symbolic link
   unfoldable pub data_of : Place → List ℕ
   data_of p =
       let a = layer_of p in
       take (size_at p) (drop (option_map_or (data_at p.1) (name a p.1) 0) a)
+
+module _ (stack : Stacked) where
+  -- how many shown paths have the place; for a directory 2 plus its shown subdirectories
+  abbrev pub links : Place → ℕ
+  links p =
+      if is_directory_at stack.layers p then
+      2 + count_by (λ c. is_directory_at stack.layers c.place) (children stack.entries p)
+      else count_by (λ e. same_place p (place e)) stack.entries
+
+  -- the same, held at the field's greatest value
+  abbrev pub nlink : Place → ℕ
+  nlink p = min (links p) (2 ^ 32 - 1)
+
+  -- all attributes of a place, with its number
+  abbrev pub attr_of : Place → Attr
+  attr_of p = record {
+    ino = number stack.entries p;
+    size = size_at stack.layers p;
+    blocks = blocks_of (size_at stack.layers p);
+    mode = mode stack.layers p;
+    nlink = nlink p;
+    rdev = rdev stack.layers p;
+  }

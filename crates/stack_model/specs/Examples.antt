@@ -2,7 +2,7 @@
 -- nested directories.
 use Rattle.std.specs.Prelude.{◌≡◌, ℕ, false, true, List, [], ◌∷◌, ◌++◌, map, Some, None, codes}
 use Rattle.std.specs.declared.cmp.Ordering.TheVariants.{Less}
-use Rattle.stack_model.specs.Listing.{Entry, path_cmp}
+use Rattle.stack_model.specs.Listing.{Entry, Stacked, stacked, path_cmp}
 use Rattle.stack_model.specs.Numbers.{place, path_of, number, parent, children, child}
 use Rattle.romfs_format.specs.declared.head.Kind.TheVariants.{Directory, Regular, SymLink, Block, Character, Socket, Fifo}
 use Rattle.stack_model.specs.Attributes.{mode_of, size_of, device, rdev_of, blocks_of, blocks_all, links, data_of}
@@ -73,7 +73,7 @@ pub record LayerExamples : Type 0 where
   pub named : child two_layers (1, 0x60) (codes "x") ≡ Some (0, 0x60)
   pub longer_name : child two_layers (1, 0x60) (codes "xx") ≡ None
   pub front_of_a_name : child two_layers (1, 0x60) [] ≡ None
-  pub names_of_a_file : links [] two_layers (0, 0x60) ≡ 2
+  pub names_of_a_file : links (stacked [] two_layers) (0, 0x60) ≡ 2
   pub order : path_cmp (codes "a" ∷ codes "b" ∷ []) (codes "a!" ∷ []) ≡ Less
 
 -- the first word of a directory's header, with the executable bit
@@ -100,6 +100,10 @@ nested =
     ∷ record { path = codes "c" ∷ codes "f" ∷ []; layer = 0; header = 16 }
     ∷ []
 
+-- this layer, and these entries of it
+abbrev pub nested_stack : Stacked
+nested_stack = stacked (six_headers ∷ []) nested
+
 -- what lies in one directory lies in no other one, and not in those above it; directories have no
 -- data
 pub record NestedExamples : Type 0 where
@@ -111,11 +115,11 @@ pub record NestedExamples : Type 0 where
   pub above_b : parent nested (0, 8) ≡ (0, 4)
   pub above_f : parent nested (0, 16) ≡ (0, 12)
   pub above_g : parent nested (0, 20) ≡ (0, 8)
-  pub names_of_root : links (six_headers ∷ []) nested (0, 0) ≡ 4
-  pub names_of_a : links (six_headers ∷ []) nested (0, 4) ≡ 3
-  pub names_of_b : links (six_headers ∷ []) nested (0, 8) ≡ 2
-  pub names_of_c : links (six_headers ∷ []) nested (0, 12) ≡ 2
-  pub names_of_f : links (six_headers ∷ []) nested (0, 16) ≡ 1
+  pub names_of_root : links nested_stack (0, 0) ≡ 4
+  pub names_of_a : links nested_stack (0, 4) ≡ 3
+  pub names_of_b : links nested_stack (0, 8) ≡ 2
+  pub names_of_c : links nested_stack (0, 12) ≡ 2
+  pub names_of_f : links nested_stack (0, 16) ≡ 1
   pub no_data : data_of (six_headers ∷ []) (0, 0) ≡ []
 
 -- the limit of a stack

@@ -15,6 +15,15 @@ pub record Entry : Type 0 where
   pub layer : ℕ
   pub header : ℕ
 
+-- layers, the lowest first, and entries that they show
+pub record Stacked : Type 0 where
+  pub layers : List (List ℕ)
+  pub entries : List Entry
+
+-- the same, of its parts
+abbrev pub stacked : List (List ℕ) → List Entry → Stacked
+stacked layers entries = record { layers = layers; entries = entries }
+
 -- by names, these by bytes; a list comes before its extensions
 abbrev pub path_cmp : Path → Path → Ordering
 path_cmp = slice_cmp (slice_cmp nat_cmp)

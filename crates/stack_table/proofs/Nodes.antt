@@ -7,14 +7,14 @@ use Rattle.std.specs.List.{slice_index_or}
 use Rattle.std.specs.Option.{option_map, option_map_or, option_and_then}
 use Rattle.std.proofs.lemmas.Option.{slice_get_within, slice_get-get_or, slice_get_past, slice_get_cases, get_or_from_slice_get}
 use Rattle.romfs_reader.specs.Readers.{bytes_at, IsPart}
-use Rattle.stack_model.specs.Listing.{Entry}
+use Rattle.stack_model.specs.Listing.{Entry, stacked}
 use Rattle.stack_model.specs.Numbers.{Place, Child, nodes, node_of, number_of, number, same_name, children, child}
 use Rattle.stack_model.specs.Attributes.{is_directory, is_directory_at, kind_at, attr_of}
 use Rattle.stack_model.proofs.Numbering.{number_used}
 use Rattle.stack_table.specs.declared.node.Node.{Node}
 use Rattle.stack_table.specs.declared.node.Brief.{Brief}
 use Rattle.stack_table.specs.declared.directory.Directory.{Directory}
-use Rattle.stack_table.specs.Stacked.{Stacked}
+use Rattle.stack_model.specs.Listing.{Stacked}
 use Rattle.stack_table.specs.Rows.{Line, number_named}
 use Rattle.stack_table.specs.Readers.{TellsNode, attr_at, parent_of, parent_at, child_of, child_at, rows_of, rows_at, data_of_number}
 use Rattle.stack_table.specs.Held.{held_at, kept_of, directory_held, brief_of, attr_held, HaveKeys, IsHeldDirectory, IsNode, IsTable}
@@ -85,7 +85,7 @@ module _ (layers : List (List ℕ)) (entries : List Entry) (held : List Node) (d
       record { place_is = h.is ∙ ap Some (sym h.holds.place); kind_is = h.holds.kind ∙ ap (kind_at layers) (sym h.holds.place) }
 
   attr_same : (n : ℕ) (node : Node) (p : Place) → IsNode layers entries directories rows keys node p → number entries p ≡ n
-      → attr_held n (brief_of node) ≡ attr_of layers entries p
+      → attr_held n (brief_of node) ≡ attr_of (stacked layers entries) p
   attr_same n node p h i =
       let size = h.size in
       let mode_is = h.mode_is in
@@ -176,7 +176,7 @@ module _ (layers : List (List ℕ)) (entries : List Entry) (held : List Node) (d
   pub have_keys : HaveKeys held directories keys
   have_keys = record { each = λ n d e. ((found n d e).holds.start, keys_end n d e) }
 
-  named_of : (p : Place) (name : List ℕ) → number_named name (rows_of layers entries p) ≡ child_of layers entries p name
+  named_of : (p : Place) (name : List ℕ) → number_named name (rows_of (stacked layers entries) p) ≡ child_of (stacked layers entries) p name
   named_of p name = go (is_directory_at layers p)
     where
       go : (b : Bool) → number_named name (cond b (map (λ c. record { number = number entries c.place; name = c.name })
@@ -197,7 +197,7 @@ module _ (layers : List (List ℕ)) (entries : List Entry) (held : List Node) (d
   pub rows_none : (n : ℕ) → directory_held held directories n ≡ None → [] ≡ rows_at stack n
   rows_none n e = go (node_of entries n) (not_found n e)
     where
-      go : (o : Option Place) → option_map_or (is_directory_at layers) o false ≡ false → [] ≡ option_map_or (rows_of layers entries) o []
+      go : (o : Option Place) → option_map_or (is_directory_at layers) o false ≡ false → [] ≡ option_map_or (rows_of (stacked layers entries)) o []
       go None f = refl
       go (Some p) f = rw f refl
 
@@ -206,7 +206,7 @@ module _ (layers : List (List ℕ)) (entries : List Entry) (held : List Node) (d
   child_none n name e = go (node_of entries n) (not_found n e)
     where
       go : (o : Option Place) → option_map_or (is_directory_at layers) o false ≡ false
-          → None ≡ option_and_then (λ p. child_of layers entries p name) o
+          → None ≡ option_and_then (λ p. child_of (stacked layers entries) p name) o
       go None f = refl
       go (Some p) f = rw f refl
 
@@ -214,7 +214,7 @@ module _ (layers : List (List ℕ)) (entries : List Entry) (held : List Node) (d
   pub parent_none : (n : ℕ) → directory_held held directories n ≡ None → None ≡ parent_at stack n
   parent_none n e = go (node_of entries n) (not_found n e)
     where
-      go : (o : Option Place) → option_map_or (is_directory_at layers) o false ≡ false → None ≡ option_and_then (parent_of layers entries) o
+      go : (o : Option Place) → option_map_or (is_directory_at layers) o false ≡ false → None ≡ option_and_then (parent_of (stacked layers entries)) o
       go None f = refl
       go (Some p) f = rw f refl
 

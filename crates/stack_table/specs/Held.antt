@@ -2,7 +2,7 @@
 use Rattle.std.specs.Prelude.{◌≡◌, ℕ, zero, suc, ◌≤◌, List, length, map, slice_get, slice_range, All, Bool, Option, Some, None, true, if◌then◌else◌}
 use Rattle.std.specs.Option.{option_and_then}
 use Rattle.romfs_reader.specs.Readers.{bytes_at, IsPart}
-use Rattle.stack_model.specs.Listing.{Entry, IsListing}
+use Rattle.stack_model.specs.Listing.{Entry, IsListing, stacked}
 use Rattle.stack_model.specs.Numbers.{Place, nodes, number, parent}
 use Rattle.stack_model.specs.Attributes.{is_directory, kind_at, mode, size_at, rdev, nlink, blocks_of, blocks_all, data_of}
 use Rattle.node_attr.specs.declared.attr.Attr.{Attr}
@@ -61,7 +61,7 @@ pub record IsHeldDirectory (layers : List (List ℕ)) (entries : List Entry) (ro
   pub parent_is : directory.parent ≡ number entries (parent entries p)
   pub start : directory.rows_start ≤ directory.rows_end
   pub end : directory.rows_end ≤ length rows
-  pub rows_are : slice_range rows directory.rows_start directory.rows_end ≡ rows_of layers entries p
+  pub rows_are : slice_range rows directory.rows_start directory.rows_end ≡ rows_of (stacked layers entries) p
   pub keyed : AreKeyed directory.shared (slice_range keys directory.rows_start directory.rows_end)
       (names (slice_range rows directory.rows_start directory.rows_end))
 
@@ -81,7 +81,7 @@ pub record IsNode (layers : List (List ℕ)) (entries : List Entry) (directories
   pub kind : node.kind ≡ kind_at layers p
   pub size : node.part.len ≡ size_at layers p
   pub mode_is : node.mode ≡ mode layers p
-  pub nlink_is : node.nlink ≡ nlink layers entries p
+  pub nlink_is : node.nlink ≡ nlink (stacked layers entries) p
   pub rdev_is : node.rdev ≡ rdev layers p
   pub directory_is : is_directory node.kind ≡ true
       → HoldsDirectory layers entries directories rows keys node p

@@ -3,13 +3,8 @@ use Rattle.std.specs.Prelude.{◌≡◌, ℕ, List, refl}
 use Rattle.std.specs.Coded.{Coded, Coded-set, code_by, coded×, coded_ℕ, coded_list}
 use mathlib.Core.HLevel.{Σ_prop_path}
 use mathlib.Core.Logic.{∥∥₁_elim, ∥∥₁_prop}
-use Rattle.stack_model.specs.Listing.{Entry, IsListing}
+use Rattle.stack_model.specs.Listing.{Entry, Stacked, IsListing}
 use Rattle.stack_model.proofs.Listings.{one_listing}
-
--- layers, the lowest first, and their listing
-pub record Stacked : Type 0 where
-  pub layers : List (List ℕ)
-  pub entries : List Entry
 
 -- the stack of these layers
 pub record IsTableOf (layers : List (List ℕ)) (stack : Stacked) : Type 0 where

@@ -62,7 +62,7 @@ const _: () = prove!(size_of::<Node>() + size_of::<Row<Global>>() + size_of::<u6
 const _: () = prove!(size_of::<Directory>() <= 32);
 
 impl<A: Allocator> Model for Table<A> {
-    ghost use Rattle.stack_table.specs.Stacked.{Stacked};
+    ghost use Rattle.stack_model.specs.Listing.{Stacked};
     ghost use Rattle.stack_table.specs.Held.{IsHeld};
 
     ghost Value = { Stacked };

@@ -16,13 +16,13 @@ returns g c =
     let asks = c.read-request.ensures in
     let told = c.in_ok-answer_and_move.ensures.reply.0 in
     let moved = c.in_ok-answer_and_move.ensures.moves.0 in (
-      reply stack.layers stack.entries s (asked_of c.read-request.result),
+      reply stack s (asked_of c.read-request.result),
       told,
       record {
         session = c.after.ensures ∙ ap (λ (q : Asked). session_after s q.op) asks;
-        told = ap (reply stack.layers stack.entries s) asks;
-        moves = subst (λ (q : Asked). IsMoved (moves stack.layers stack.entries s q) c.args.balances.now c.answer_and_move.new.balances)
+        told = ap (reply stack s) asks;
+        moves = subst (λ (q : Asked). IsMoved (moves stack s q) c.args.balances.now c.answer_and_move.new.balances)
             asks moved;
-        light = message_light stack.layers stack.entries s c.args.message.now c.requires.message (λ k. Fits-lt-pow (c.type_inv.message k));
+        light = message_light stack s c.args.message.now c.requires.message (λ k. Fits-lt-pow (c.type_inv.message k));
       },
     )

@@ -5,7 +5,7 @@ use Rattle.fuse_wire.specs.Replies.{reply_head}
 use Rattle.fuse_answer.specs.Listings.{listed_data}
 use Rattle.fuse_answer.proofs.Fitting.{size_few}
 use Rattle.fuse_answer.proofs.Writing.{header_set, reply_long, room_left, rows_behind, size_is}
-use Rattle.fuse_answer.proofs.rows.put_rows.Goals as goal
+use Rattle.fuse_answer.proofs.rows.put_rows_and_move.Goals as goal
 
 pub returns-in_err-make_room-clause-reply : goal.returns-in_err-make_room-clause-reply
 returns-in_err-make_room-clause-reply g c =
