@@ -20,7 +20,7 @@ pub fn checked<A: Allocator + Copy>(
 
 /// The image of bytes that keep all rules.
 pub fn sound<A: Allocator>(bytes: Vec<u8, A>) -> Image<A>
-    requires { IsSound bytes.items }
+    requires { IsSound Profile.Usual bytes.items }
 {
     Image::of_sound(bytes)
 }

@@ -6,7 +6,7 @@ use Rattle.std.specs.declared.vec.Vec.{Vec}
 use Rattle.std.proofs.lemmas.List.{length-map, length-append, map-append, take-append-drop, length-take-le}
 use Rattle.std.proofs.lemmas.List.Elements.{All-push, All-append}
 use Rattle.romfs_format.specs.Fields.{image}
-use Rattle.romfs_format.specs.Rules.{IsFaultAs, IsSoundAs}
+use Rattle.romfs_format.specs.Rules.{IsFault, IsSound}
 use Rattle.romfs_format.specs.declared.rule.ImageFault.{ImageFault}
 use Rattle.romfs_format.specs.declared.rule.Profile.{Profile}
 use Rattle.serve_loop.specs.declared.stop.Stop.{Stop}
@@ -32,19 +32,19 @@ none_taken v profile all = record {
 module _ {X : Type 0} {v : X → List ℕ} {profile : Profile} {all : List (List ℕ)} {left : List X} {layers : List (List ℕ)}
     (t : AreTaken v profile all left layers) (x : X) (rest : List X) (next : left ≡ x ∷ rest) where
   -- an image that keeps the rules goes from what is left to what is taken
-  pub one_more : (checked : List ℕ) → checked ≡ image (v x) → IsSoundAs profile (v x) → AreTaken v profile all rest (layers ++ checked ∷ [])
+  pub one_more : (checked : List ℕ) → checked ≡ image (v x) → IsSound profile (v x) → AreTaken v profile all rest (layers ++ checked ∷ [])
   one_more checked f d = record {
     below = t.below ++ v x ∷ [];
     split = t.split ∙ ap (λ xs. t.below ++ map v xs) next ∙ sym (append_assoc t.below (v x ∷ []) (map v rest));
     checked = record {
-      sound = All-push (IsSoundAs profile) t.below (v x) t.checked.sound d;
+      sound = All-push (IsSound profile) t.below (v x) t.checked.sound d;
       are = ap (λ xs. xs ++ checked ∷ []) t.checked.are ∙ ap (λ n. map image t.below ++ n ∷ []) f
           ∙ sym (map-append image t.below (v x ∷ []));
     };
   }
 
   -- where the next image breaks a rule, it is the lowest that does
-  pub next_breaks : (first n : ℕ) (fault : ImageFault) → n ≡ length layers → IsFaultAs profile (v x) fault.rule fault.place
+  pub next_breaks : (first n : ℕ) (fault : ImageFault) → n ≡ length layers → IsFault profile (v x) fault.rule fault.place
       → IsBroken first profile all (Layer (first + n) fault)
   next_breaks first n fault h f = (
     n,
@@ -78,7 +78,7 @@ pub all_checked : {X : Type 0} {v : X → List ℕ} {profile : Profile} {all : L
 all_checked {v = v} {profile} {all} {left} t none =
     let same : all ≡ t.below = t.split ∙ ap (λ xs. t.below ++ map v xs) (nothing left none) ∙ append-nil t.below in
     record {
-      sound = subst (All (IsSoundAs profile)) (sym same) t.checked.sound;
+      sound = subst (All (IsSound profile)) (sym same) t.checked.sound;
       are = t.checked.are ∙ ap (map image) (sym same);
     }
 
@@ -86,7 +86,7 @@ all_checked {v = v} {profile} {all} {left} t none =
 pub whole : (profile : Profile) (lows highs xs ys : List (List ℕ)) → AreChecked profile lows xs → AreChecked profile highs ys
     → AreChecked profile (lows ++ highs) (xs ++ ys)
 whole profile lows highs xs ys low high = record {
-  sound = All-append (IsSoundAs profile) lows highs low.sound high.sound;
+  sound = All-append (IsSound profile) lows highs low.sound high.sound;
   are = ap (λ n. n ++ ys) low.are ∙ ap (λ n. map image lows ++ n) high.are ∙ sym (map-append image lows highs);
 }
 
@@ -126,7 +126,7 @@ broken_high first {profile} {lows} low highs (Layer layer fault) (n, at, broken)
     bytes = broken.bytes;
     images_are = ap (λ ys. lows ++ ys) broken.images_are ∙ sym (append_assoc lows broken.below (broken.bytes ∷ broken.above));
     layer_is = ap (λ m. length lows + m) broken.layer_is ∙ sym (length-append lows broken.below);
-    sound = All-append (IsSoundAs profile) lows broken.below low.sound broken.sound;
+    sound = All-append (IsSound profile) lows broken.below low.sound broken.sound;
     broken = broken.broken;
   },
 )

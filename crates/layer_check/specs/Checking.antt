@@ -3,7 +3,7 @@ use Rattle.std.specs.Prelude.{◌≡◌, ℕ, ◌+◌, ◌⊎◌, List, ◌++◌
 use Rattle.std.specs.declared.result.Result.{Result}
 use Rattle.std.specs.declared.vec.Vec.{Vec}
 use Rattle.romfs_format.specs.Fields.{image}
-use Rattle.romfs_format.specs.Rules.{IsSoundAs}
+use Rattle.romfs_format.specs.Rules.{IsSound}
 use Rattle.romfs_format.specs.declared.rule.Profile.{Profile}
 use Rattle.serve_loop.specs.declared.stop.Stop.{Stop}
 use Rattle.serve_loop.specs.declared.stop.Stop.TheVariants.{Layer, Memory}
@@ -11,7 +11,7 @@ use Rattle.layer_check.specs.Layers.{IsLowestBroken}
 
 -- all images keep the rules of the profile, and these are their accessible bytes
 pub record AreChecked (profile : Profile) (images layers : List (List ℕ)) : Type 0 where
-  pub sound : All (IsSoundAs profile) images
+  pub sound : All (IsSound profile) images
   pub are : layers ≡ map image images
 
 -- of images that are numbered from this number on, the lowest that breaks a rule, and its fault; or

@@ -3,7 +3,7 @@ use Rattle.std.specs.Prelude.{◌≡◌, ℕ, ◌<◌, ◌≤◌, ◌⊎◌, Lis
 use Rattle.std.specs.declared.vec.Vec.{Vec}
 use Rattle.stack_model.specs.declared.limits.TheConstants.{MAX_LAYERS}
 use Rattle.romfs_format.specs.Fields.{image}
-use Rattle.romfs_format.specs.Rules.{IsFaultAs, IsSoundAs}
+use Rattle.romfs_format.specs.Rules.{IsFault, IsSound}
 use Rattle.romfs_format.specs.declared.rule.Profile.{Profile}
 use Rattle.romfs_format.specs.declared.rule.ImageFault.{ImageFault}
 use Rattle.serve_loop.specs.declared.stop.Stop.{Stop}
@@ -20,7 +20,7 @@ IsFew count = (1 ≤ count) × (count ≤ MAX_LAYERS)
 -- all images keep the rules of the profile, and these are their accessible bytes
 pub record AreLayers (profile : Profile) (images layers : List (List ℕ)) : Type 0 where
   pub few : IsFew (length images)
-  pub sound : All (IsSoundAs profile) images
+  pub sound : All (IsSound profile) images
   pub are : layers ≡ map image images
 
 -- the image with this number is the lowest that breaks a rule of the profile, and this is its fault
@@ -31,8 +31,8 @@ pub record IsLowestBroken (profile : Profile) (images : List (List ℕ)) (layer 
   pub bytes : List ℕ
   pub images_are : images ≡ below ++ bytes ∷ above
   pub layer_is : layer ≡ length below
-  pub sound : All (IsSoundAs profile) below
-  pub broken : IsFaultAs profile bytes fault.rule fault.place
+  pub sound : All (IsSound profile) below
+  pub broken : IsFault profile bytes fault.rule fault.place
 
 -- why images can't be served: there are none or too many; or the lowest that is broken; or memory
 -- ran out

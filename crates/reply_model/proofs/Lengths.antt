@@ -10,6 +10,7 @@ use Rattle.std.proofs.lemmas.List.{length-take}
 use Rattle.std.proofs.lemmas.List.Elements.{All-head, All-tail}
 use Rattle.std.proofs.lemmas.Option.{get_or_from_slice_get}
 use Rattle.byteorder.specs.Numbers.{little_number-reads_back}
+use Rattle.romfs_format.specs.declared.rule.Profile.TheVariants.{Usual}
 use Rattle.romfs_format.specs.declared.head.Kind.{Kind}
 use Rattle.romfs_format.specs.declared.head.Kind.TheVariants.{SymLink}
 use Rattle.romfs_format.specs.declared.limits.TheConstants.{MAX_TARGET_SIZE}
@@ -69,11 +70,12 @@ is_link SymLink e = refl
 is_link _ e = absurd (cc)
 
 -- a layer is the accessible bytes of a sound image
-sound_layer : (bs : List (List ℕ)) (i : ℕ) (a : List ℕ) → All IsSound bs → slice_get (map image bs) i ≡ Some a → (b : List ℕ) × IsSound b
+sound_layer : (bs : List (List ℕ)) (i : ℕ) (a : List ℕ) → All (IsSound Usual) bs → slice_get (map image bs) i ≡ Some a
+    → (b : List ℕ) × IsSound Usual b
     × (a ≡ image b)
 sound_layer [] i a s e = absurd (cc)
-sound_layer (b ∷ bs) zero a s e = (b, All-head IsSound b bs s, (let q : image b ≡ a = cc in sym q))
-sound_layer (b ∷ bs) (suc i) a s e = sound_layer bs i a (All-tail IsSound b bs s) e
+sound_layer (b ∷ bs) zero a s e = (b, All-head (IsSound Usual) b bs s, (let q : image b ≡ a = cc in sym q))
+sound_layer (b ∷ bs) (suc i) a s e = sound_layer bs i a (All-tail (IsSound Usual) b bs s) e
 
 -- the data of a symbolic link is no longer than its header says
 link_data : (layers : List (List ℕ)) (p : Place) (n : ℕ) → kind_at layers p ≡ SymLink → size (layer_of layers p) p.1 ≤ n
@@ -90,7 +92,7 @@ said_header : (n error unique : ℕ) (rest : List ℕ) → n < 2 ^ 32 → said_l
 unfolding u32 u64
 said_header n error unique rest l = little_number-reads_back 4 n (u32 error ++ (u64 unique ++ rest)) l
 
-module _ (bs : List (List ℕ)) (stack : Stacked) (sound : All IsSound bs) (are : stack.layers ≡ map image bs)
+module _ (bs : List (List ℕ)) (stack : Stacked) (sound : All (IsSound Usual) bs) (are : stack.layers ≡ map image bs)
     (l : IsListing stack.layers stack.entries) where
   -- a symbolic link with a number has a short target
   short_link : (node : ℕ) (p : Place) → node_of stack.entries node ≡ Some p → kind_at stack.layers p ≡ SymLink → length (data_of stack.layers p)

@@ -1,6 +1,7 @@
 -- The worked examples of `specs/Examples` that need a step of their own: those of lengths and of
 -- faults. All others are computed (`Computing`).
 use Rattle.std.proofs.Common.{ℕ, inl, inr, refl, arith, lit<, lit≤, ap, get_or}
+use Rattle.romfs_format.specs.declared.rule.Profile.TheVariants.{Usual}
 use Rattle.romfs_format.specs.declared.rule.Rule.{Rule}
 use Rattle.romfs_format.specs.declared.rule.Rule.TheVariants.{Short, Magic}
 use Rattle.romfs_format.specs.Rules.{IsNamedBefore, Breaks, StartsWith, magic}
@@ -34,7 +35,7 @@ order = record {
 first_byte : ¬ StartsWith two_faults magic
 first_byte (rest, e) = false≢true (eq-eqb 46 45 (ap (λ xs. get_or xs 0 0) e))
 
-magic_first : (s : Rule) (q : ℕ) → Breaks two_faults s q → IsNamedBefore s q Magic 0 → ⊥
+magic_first : (s : Rule) (q : ℕ) → Breaks Usual two_faults s q → IsNamedBefore s q Magic 0 → ⊥
 magic_first Short q b n = let l = b.0 in omega arith
 magic_first s q b (inl l) = omega arith
 magic_first s q b (inr (e, inl l)) = omega arith

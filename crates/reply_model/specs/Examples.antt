@@ -3,6 +3,7 @@ use Rattle.std.specs.Prelude.{◌≡◌, false, map, ℤ, pos, negsuc, ℕ, zero
 use Rattle.std.specs.List.{flat_map}
 use Rattle.byteorder.specs.Endian.{big_bytes}
 use Rattle.romfs_format.specs.declared.head.Kind.TheVariants.{HardLink, Directory}
+use Rattle.romfs_format.specs.declared.rule.Profile.TheVariants.{Usual}
 use Rattle.romfs_format.specs.declared.rule.Rule.TheVariants.{Short, Magic, FullSize, NoRoot, Outside, NameBad, DataOutside, LinkedTwice, SameName, MajorLarge, TooDeep}
 use Rattle.romfs_format.specs.Rules.{IsNamedBefore, IsFault}
 use Rattle.romfs_format.specs.Fields.{padded, image, root, kind, exec, next, spec, size, name}
@@ -133,8 +134,8 @@ two_faults = dump (0x2e726f6d ∷ 0x3166732d ∷ 0x0000000f ∷ 0x2b271d06 ∷ [
 
 -- only the first of the two is its fault
 pub record FaultExamples : Type 0 where
-  pub magic : IsFault two_faults Magic 0
-  pub short : IsFault (take 15 two_faults) Short 0
+  pub magic : IsFault Usual two_faults Magic 0
+  pub short : IsFault Usual (take 15 two_faults) Short 0
 
 -- the header fields of the empty image
 pub record EmptyImageFields : Type 0 where

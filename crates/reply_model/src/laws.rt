@@ -1,6 +1,7 @@
 //! What holds of every reply.
 
 ghost use Rattle.std.specs.Prelude.{◌≡◌, ◌⊎◌, ◌≤◌, [], ◌∷◌, ◌++◌, ℕ, List, length, map, All, true, false, ◌+ℤ◌};
+ghost use Rattle.romfs_format.specs.declared.rule.Profile.TheVariants.{Usual};
 ghost use Rattle.romfs_format.specs.Fields.{image};
 ghost use Rattle.romfs_format.specs.Rules.{IsSound};
 ghost use Rattle.fuse_wire.specs.Requests.{Op, Asked, at_node, lookup, readdirplus, done, destroy};
@@ -32,10 +33,10 @@ pub fn replies_are_headed()
 /// that a reply begins with is its length itself, whole in its 32 bits.
 #[tactic(auto, using(crate::proofs::Lengths::short, crate::proofs::Lengths::said))]
 pub fn replies_are_short()
-    ensures short { (bs : List (List ℕ)) (stack : Stacked) → All IsSound bs →
+    ensures short { (bs : List (List ℕ)) (stack : Stacked) → All (IsSound Usual) bs →
         stack.layers ≡ map image bs → IsListing stack.layers stack.entries →
         (s : Session) (q : Asked) → length (reply stack s q) ≤ MAX_REPLY_SIZE }
-    ensures said { (bs : List (List ℕ)) (stack : Stacked) → All IsSound bs →
+    ensures said { (bs : List (List ℕ)) (stack : Stacked) → All (IsSound Usual) bs →
         stack.layers ≡ map image bs → IsListing stack.layers stack.entries →
         (s : Session) (q : Asked) → (reply stack s q ≡ [])
         ⊎ (said_length (reply stack s q)

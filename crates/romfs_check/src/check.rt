@@ -1,8 +1,8 @@
 //! Whether bytes are an image.
 
 ghost use Rattle.std.specs.Prelude.{IfOk, IfErr};
-ghost use Rattle.romfs_check.specs.Checks.{IsChecked, IsCheckedAs};
-ghost use Rattle.romfs_check.specs.Refusals.{IsRefusal, IsRefusalAs};
+ghost use Rattle.romfs_check.specs.Checks.{IsChecked};
+ghost use Rattle.romfs_check.specs.Refusals.{IsRefusal};
 
 use crate::refusal::CheckFault;
 use romfs_format::Profile;
@@ -45,8 +45,8 @@ impl<A: Allocator + Copy> Check for Image<A> {
     /// anywhere. Beside the image it takes at most a byte for each 40 of its bytes and 96 for each
     /// header that is reached, and keeps none of it.
     fn check(alloc: A, bytes: Vec<u8, A>) -> Result<Image<A>, CheckFault>
-        ensures ok { IfOk result (IsChecked bytes.items) }
-        ensures err { IfErr result (IsRefusal bytes.items) }
+        ensures ok { IfOk result (IsChecked Profile.Usual bytes.items) }
+        ensures err { IfErr result (IsRefusal Profile.Usual bytes.items) }
     {
         Image::check_as(alloc, bytes, Profile::Usual)
     }
@@ -56,8 +56,8 @@ impl<A: Allocator + Copy> Check for Image<A> {
     /// "checksum"). It costs one more pass over headers and names.
     #[tactic(auto, using(romfs_format::proofs::Faults::profile_sound))]
     fn check_as(alloc: A, bytes: Vec<u8, A>, profile: Profile) -> Result<Image<A>, CheckFault>
-        ensures ok { IfOk result (IsCheckedAs profile bytes.items) }
-        ensures err { IfErr result (IsRefusalAs profile bytes.items) }
+        ensures ok { IfOk result (IsChecked profile bytes.items) }
+        ensures err { IfErr result (IsRefusal profile bytes.items) }
     {
         match first_fault(alloc, &bytes, profile)? {
             Some(fault) => Err(CheckFault::Broken(fault)),

@@ -7,7 +7,7 @@ use Rattle.romfs_format.specs.declared.rule.Rule.{Rule}
 use Rattle.romfs_format.specs.declared.rule.Rule.TheVariants.{Short, Magic, FullSize, BadSum, VolumeName, NoRoot, Outside, NameOpen, NameBad, DataOutside, TargetLong, LinkedTwice, SameName, LinkLoop, LinkDirectory, MajorLarge, HeaderSum, TooDeep}
 use Rattle.romfs_format.specs.declared.rule.Profile.{Profile}
 use Rattle.romfs_format.specs.declared.rule.Profile.TheVariants.{Usual, Strict}
-use Rattle.romfs_format.specs.Rules.{rule_number, stage, Breaks, BreaksAs, IsFaultAs, IsSoundAs}
+use Rattle.romfs_format.specs.Rules.{rule_number, stage, Breaks, IsFault, IsSound}
 
 rules : List Rule
 rules = Short ∷ Magic ∷ FullSize ∷ BadSum ∷ VolumeName ∷ NoRoot ∷ Outside ∷ NameOpen ∷ NameBad ∷ DataOutside
@@ -39,7 +39,7 @@ pub one_rule : (r s : Rule) → rule_number r ≡ rule_number s → r ≡ s
 one_rule r s e = sym (numbered r) ∙ ap (λ n. get_or rules n Short) e ∙ numbered s
 
 -- two faults of one image under one profile are of the same rule, at the same place
-pub one_fault : (profile : Profile) (b : List ℕ) (r s : Rule) (p q : ℕ) → IsFaultAs profile b r p → IsFaultAs profile b s q
+pub one_fault : (profile : Profile) (b : List ℕ) (r s : Rule) (p q : ℕ) → IsFault profile b r p → IsFault profile b s q
     → (r ≡ s) × (p ≡ q)
 one_fault profile b r s p q x y =
     elim (cases_order (stage r) (stage s)) [
@@ -57,11 +57,11 @@ one_fault profile b r s p q x y =
     ]
 
 -- an image that is sound under a profile has no fault under it
-pub no_fault : (profile : Profile) (b : List ℕ) (r : Rule) (p : ℕ) → IsSoundAs profile b → ¬ IsFaultAs profile b r p
+pub no_fault : (profile : Profile) (b : List ℕ) (r : Rule) (p : ℕ) → IsSound profile b → ¬ IsFault profile b r p
 no_fault profile b r p s f = s.keeps r p f.broken
 
 -- what breaks a rule of the usual profile breaks it under the strict one
-strict_breaks : (b : List ℕ) (r : Rule) (p : ℕ) → Breaks b r p → BreaksAs Strict b r p
+strict_breaks : (b : List ℕ) (r : Rule) (p : ℕ) → Breaks Usual b r p → Breaks Strict b r p
 strict_breaks b Short p x = x
 strict_breaks b Magic p x = x
 strict_breaks b FullSize p x = x
@@ -82,10 +82,10 @@ strict_breaks b HeaderSum p x = absurd x
 strict_breaks b TooDeep p x = x
 
 -- what is sound under the strict profile is sound under the usual one
-pub strict_sound : (b : List ℕ) → IsSoundAs Strict b → IsSoundAs Usual b
+pub strict_sound : (b : List ℕ) → IsSound Strict b → IsSound Usual b
 strict_sound b s = record { keeps = λ r p x. s.keeps r p (strict_breaks b r p x) }
 
 -- what is sound under any profile is sound under the usual one
-pub profile_sound : (profile : Profile) (b : List ℕ) → IsSoundAs profile b → IsSoundAs Usual b
+pub profile_sound : (profile : Profile) (b : List ℕ) → IsSound profile b → IsSound Usual b
 profile_sound Usual b s = s
 profile_sound Strict b s = strict_sound b s

@@ -4,6 +4,7 @@
 use Rattle.std.proofs.Common.{◌≡◌, ◌≢◌, sym, subst, ℕ, zero, suc, ◌+◌, ◌≤◌, ◌⊎◌, inl, inr, List, [], ◌∷◌, length, arith, refl}
 use Rattle.std.proofs.lemmas.Bool.{cases_lt}
 use Rattle.romfs_format.specs.declared.head.Kind.TheVariants.{Directory, SymLink}
+use Rattle.romfs_format.specs.declared.rule.Profile.TheVariants.{Usual}
 use Rattle.romfs_format.specs.declared.rule.Rule.TheVariants.{NoRoot, Outside, TargetLong}
 use Rattle.romfs_format.specs.declared.limits.TheConstants.{HEAD_SIZE, MAX_TARGET_SIZE}
 use Rattle.romfs_format.specs.Fields.{image, root, IsInside, kind, size}
@@ -37,7 +38,7 @@ chain_reached : (a : List ℕ) (d n h : ℕ) → IsOpened a d → IsAt a d n h �
 chain_reached a d zero h o x = inr (inl (first_of d, (o, x)))
 chain_reached a d (suc n) h o x = inr (inl (next_of x.0, (d, record { opened = o; in_chain = (n, x.1) }, x.2)))
 
-module _ (b : List ℕ) (s : IsSound b) where
+module _ (b : List ℕ) (s : IsSound Usual b) where
   -- what is reached lies in the image
   reached_inside : (h : ℕ) → IsReached (image b) h → IsInside (image b) h
   reached_inside h r = elim (cases_lt h (root (image b))) [

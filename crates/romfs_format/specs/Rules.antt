@@ -75,48 +75,40 @@ HasBadSum a h =
     MatchOption (name a h) (h ≡ root a) (λ n. word_sum (header_bytes a h n) % 2 ^ 32 ≢ 0)
 
 -- the image with the accessible bytes a breaks the rule of the profile at the header h
-abbrev pub BreaksHeaderAs : Profile → List ℕ → Rule → ℕ → Type 0
-BreaksHeaderAs profile a Outside h = IsReached a h × ¬ IsInside a h
-BreaksHeaderAs profile a NameOpen h =
+abbrev pub BreaksHeader : Profile → List ℕ → Rule → ℕ → Type 0
+BreaksHeader profile a Outside h = IsReached a h × ¬ IsInside a h
+BreaksHeader profile a NameOpen h =
     IsReached a h × IsInside a h × (h ≢ root a) × IsNone (name a h)
-BreaksHeaderAs profile a NameBad h =
+BreaksHeader profile a NameBad h =
     IsSomeMember a h × IsInside a h × IsSomeAnd (name a h) IsBadName
-BreaksHeaderAs profile a DataOutside h =
+BreaksHeader profile a DataOutside h =
     IsUsed a h × HasData a h × IsSomeAnd (name a h) (EndsOutside a h)
-BreaksHeaderAs profile a TargetLong h = IsUsed a h × HasLongTarget a h
-BreaksHeaderAs profile a LinkedTwice h = IsLinkedTwice a h ⊎ IsRootElsewhere a h
-BreaksHeaderAs profile a SameName h = (g : ℕ) × IsNamesake a g h
-BreaksHeaderAs profile a LinkLoop h = IsSomeMember a h × IsHardLink a h × EndsAs a h Nowhere
-BreaksHeaderAs profile a LinkDirectory h =
+BreaksHeader profile a TargetLong h = IsUsed a h × HasLongTarget a h
+BreaksHeader profile a LinkedTwice h = IsLinkedTwice a h ⊎ IsRootElsewhere a h
+BreaksHeader profile a SameName h = (g : ℕ) × IsNamesake a g h
+BreaksHeader profile a LinkLoop h = IsSomeMember a h × IsHardLink a h × EndsAs a h Nowhere
+BreaksHeader profile a LinkDirectory h =
     IsSomeMember a h × IsHardLink a h × EndsAs a h AtDirectory
-BreaksHeaderAs profile a MajorLarge h = IsUsed a h × HasLargeMajor a h
-BreaksHeaderAs Strict a HeaderSum h = IsReached a h × IsInside a h × HasBadSum a h
-BreaksHeaderAs Usual a HeaderSum h = ⊥
-BreaksHeaderAs profile a TooDeep h =
+BreaksHeader profile a MajorLarge h = IsUsed a h × HasLargeMajor a h
+BreaksHeader Strict a HeaderSum h = IsReached a h × IsInside a h × HasBadSum a h
+BreaksHeader Usual a HeaderSum h = ⊥
+BreaksHeader profile a TooDeep h =
     (path : List (List ℕ)) × Has a path h × (MAX_NAMES < length path)
-BreaksHeaderAs profile a _ h = ⊥
+BreaksHeader profile a _ h = ⊥
 
 -- no header fits at the root's place, or it is no directory's
 abbrev pub HasNoRoot : List ℕ → Type 0
 HasNoRoot a = (length a < root a + HEAD_SIZE) ⊎ (kind a (root a) ≢ Directory)
 
 -- the bytes b break the rule of the profile at the place p
-abbrev pub BreaksAs : Profile → List ℕ → Rule → ℕ → Type 0
-BreaksAs profile b Short p = (length b < HEAD_SIZE) × (p ≡ 0)
-BreaksAs profile b Magic p = (¬ StartsWith b magic) × (p ≡ 0)
-BreaksAs profile b FullSize p = ((length b < word b 8) ⊎ (word b 8 < HEAD_SIZE)) × (p ≡ 8)
-BreaksAs profile b BadSum p = (word_sum (summed (image b)) % 2 ^ 32 ≢ 0) × (p ≡ 12)
-BreaksAs profile b VolumeName p = IsNone (text_at (image b) HEAD_SIZE) × (p ≡ HEAD_SIZE)
-BreaksAs profile b NoRoot p = HasNoRoot (image b) × (p ≡ root (image b))
-BreaksAs profile b r p = BreaksHeaderAs profile (image b) r p
-
--- the image with the accessible bytes a breaks the rule at the header h, under the usual profile
-abbrev pub BreaksHeader : List ℕ → Rule → ℕ → Type 0
-BreaksHeader a r h = BreaksHeaderAs Usual a r h
-
--- the bytes b break the rule at the place p, under the usual profile
-abbrev pub Breaks : List ℕ → Rule → ℕ → Type 0
-Breaks b r p = BreaksAs Usual b r p
+abbrev pub Breaks : Profile → List ℕ → Rule → ℕ → Type 0
+Breaks profile b Short p = (length b < HEAD_SIZE) × (p ≡ 0)
+Breaks profile b Magic p = (¬ StartsWith b magic) × (p ≡ 0)
+Breaks profile b FullSize p = ((length b < word b 8) ⊎ (word b 8 < HEAD_SIZE)) × (p ≡ 8)
+Breaks profile b BadSum p = (word_sum (summed (image b)) % 2 ^ 32 ≢ 0) × (p ≡ 12)
+Breaks profile b VolumeName p = IsNone (text_at (image b) HEAD_SIZE) × (p ≡ HEAD_SIZE)
+Breaks profile b NoRoot p = HasNoRoot (image b) × (p ≡ root (image b))
+Breaks profile b r p = BreaksHeader profile (image b) r p
 
 -- the rules in order
 abbrev pub rule_number : Rule → ℕ
@@ -152,27 +144,19 @@ IsNamedBefore r p s q =
     × ((p < q) ⊎ ((p ≡ q) × (rule_number r < rule_number s))))
 
 -- the image breaks r at p, and nothing that is named before it, under the profile
-pub record IsFaultAs (profile : Profile) (b : List ℕ) (r : Rule) (p : ℕ) : Type 0 where
-  pub broken : BreaksAs profile b r p
-  pub first : (s : Rule) (q : ℕ) → BreaksAs profile b s q → ¬ IsNamedBefore s q r p
+pub record IsFault (profile : Profile) (b : List ℕ) (r : Rule) (p : ℕ) : Type 0 where
+  pub broken : Breaks profile b r p
+  pub first : (s : Rule) (q : ℕ) → Breaks profile b s q → ¬ IsNamedBefore s q r p
 
 -- no rule of the volume header is broken: they are the first six, and of every profile
 pub record IsVolume (b : List ℕ) : Type 0 where
-  pub keeps : (r : Rule) (p : ℕ) → rule_number r < 6 → ¬ Breaks b r p
+  pub keeps : (r : Rule) (p : ℕ) → rule_number r < 6 → ¬ Breaks Usual b r p
 
 -- no rule of the profile is broken
-pub record IsSoundAs (profile : Profile) (b : List ℕ) : Type 0 where
-  pub keeps : (r : Rule) (p : ℕ) → ¬ BreaksAs profile b r p
+pub record IsSound (profile : Profile) (b : List ℕ) : Type 0 where
+  pub keeps : (r : Rule) (p : ℕ) → ¬ Breaks profile b r p
 
 -- the fault of b under the profile; none where it is sound
-abbrev pub IsFaultOfAs : Profile → List ℕ → Option ImageFault → Type 0
-IsFaultOfAs profile b fault =
-    MatchOption fault (IsSoundAs profile b) (λ f. IsFaultAs profile b f.rule f.place)
-
--- the image breaks r at p, and nothing that is named before it, under the usual profile
-abbrev pub IsFault : List ℕ → Rule → ℕ → Type 0
-IsFault b r p = IsFaultAs Usual b r p
-
--- no rule of the usual profile is broken
-abbrev pub IsSound : List ℕ → Type 0
-IsSound b = IsSoundAs Usual b
+abbrev pub IsFaultOf : Profile → List ℕ → Option ImageFault → Type 0
+IsFaultOf profile b fault =
+    MatchOption fault (IsSound profile b) (λ f. IsFault profile b f.rule f.place)

@@ -6,6 +6,7 @@ use Rattle.std.proofs.lemmas.Bool.{cases_order}
 use Rattle.std.proofs.lemmas.List.{take_all}
 use Rattle.romfs_format.specs.declared.head.Kind.{Kind}
 use Rattle.romfs_format.specs.declared.head.Kind.TheVariants.{HardLink, Directory, Regular, SymLink, Block, Character, Socket, Fifo}
+use Rattle.romfs_format.specs.declared.rule.Profile.TheVariants.{Usual}
 use Rattle.romfs_format.specs.declared.rule.Rule.{Rule}
 use Rattle.romfs_format.specs.declared.rule.Rule.TheVariants.{NoRoot, Outside, NameOpen, DataOutside, LinkedTwice, LinkLoop, LinkDirectory}
 use Rattle.romfs_format.specs.Fields.{image, root, IsInside, kind, name}
@@ -50,31 +51,31 @@ some_name (Some n) f = refl
 some_name None f = absurd (f refl)
 
 module _ (a : List ℕ) (i : IsImage a) where
-  to_image : (r : Rule) (h : ℕ) → BreaksHeader a r h → BreaksHeader (image a) r h
-  to_image r h x = subst (λ y. BreaksHeader y r h) (sym (whole a i)) x
+  to_image : (r : Rule) (h : ℕ) → BreaksHeader Usual a r h → BreaksHeader Usual (image a) r h
+  to_image r h x = subst (λ y. BreaksHeader Usual y r h) (sym (whole a i)) x
 
   -- no header that is reached lies outside the image
-  pub not_outside : (h : ℕ) → ¬ BreaksHeader a Outside h
+  pub not_outside : (h : ℕ) → ¬ BreaksHeader Usual a Outside h
   not_outside h x = i.sound.keeps Outside h (to_image Outside h x)
 
   -- no header that is reached, but the root's, has a name that is not ended
-  pub not_open : (h : ℕ) → ¬ BreaksHeader a NameOpen h
+  pub not_open : (h : ℕ) → ¬ BreaksHeader Usual a NameOpen h
   not_open h x = i.sound.keeps NameOpen h (to_image NameOpen h x)
 
   -- no header that is used has data that end beyond the image
-  pub not_data_outside : (h : ℕ) → ¬ BreaksHeader a DataOutside h
+  pub not_data_outside : (h : ℕ) → ¬ BreaksHeader Usual a DataOutside h
   not_data_outside h x = i.sound.keeps DataOutside h (to_image DataOutside h x)
 
   -- no header is named by two fields, nor is the root's in the chain of another directory
-  pub not_twice : (h : ℕ) → ¬ BreaksHeader a LinkedTwice h
+  pub not_twice : (h : ℕ) → ¬ BreaksHeader Usual a LinkedTwice h
   not_twice h x = i.sound.keeps LinkedTwice h (to_image LinkedTwice h x)
 
   -- no member is a hard link whose chain ends nowhere
-  pub not_loop : (h : ℕ) → ¬ BreaksHeader a LinkLoop h
+  pub not_loop : (h : ℕ) → ¬ BreaksHeader Usual a LinkLoop h
   not_loop h x = i.sound.keeps LinkLoop h (to_image LinkLoop h x)
 
   -- no member is a hard link whose chain ends at a directory
-  pub not_directory : (h : ℕ) → ¬ BreaksHeader a LinkDirectory h
+  pub not_directory : (h : ℕ) → ¬ BreaksHeader Usual a LinkDirectory h
   not_directory h x = i.sound.keeps LinkDirectory h (to_image LinkDirectory h x)
 
   no_root : ¬ ((length a < root a + 16) ⊎ (kind a (root a) ≢ Directory))

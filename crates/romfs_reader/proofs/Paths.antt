@@ -7,6 +7,7 @@ use Rattle.std.specs.List.{flat_map}
 use Rattle.std.proofs.lemmas.Bool.{cases_order, cases_lt}
 use Rattle.std.proofs.lemmas.List.Elements.{Contains-append_left, Contains-append_right}
 use Rattle.romfs_format.specs.declared.limits.TheConstants.{MAX_NAMES}
+use Rattle.romfs_format.specs.declared.rule.Profile.TheVariants.{Usual}
 use Rattle.romfs_format.specs.declared.rule.Rule.TheVariants.{SameName, TooDeep}
 use Rattle.romfs_format.specs.Fields.{root, IsInside, name, spec, cleared}
 use Rattle.romfs_format.specs.Chains.{IsFirst, IsAt, IsMember, IsSomeMember, Leads, Has}
@@ -30,11 +31,11 @@ in_below n (q ∷ ps) p (zero, l, e) = (zero, omega arith, ap (λ x. n ∷ x) e)
 in_below n (q ∷ ps) p (suc k, l, e) = let r = in_below n ps p (k, omega arith, e) in (suc r.0, (let s = r.1 in omega arith), r.2)
 
 module _ (a : List ℕ) (i : IsImage a) where
-  keeps_names : (h : ℕ) → ¬ BreaksHeader a SameName h
-  keeps_names h x = i.sound.keeps SameName h (subst (λ y. BreaksHeader y SameName h) (sym (whole a i)) x)
+  keeps_names : (h : ℕ) → ¬ BreaksHeader Usual a SameName h
+  keeps_names h x = i.sound.keeps SameName h (subst (λ y. BreaksHeader Usual y SameName h) (sym (whole a i)) x)
 
-  keeps_depth : (h : ℕ) → ¬ BreaksHeader a TooDeep h
-  keeps_depth h x = i.sound.keeps TooDeep h (subst (λ y. BreaksHeader y TooDeep h) (sym (whole a i)) x)
+  keeps_depth : (h : ℕ) → ¬ BreaksHeader Usual a TooDeep h
+  keeps_depth h x = i.sound.keeps TooDeep h (subst (λ y. BreaksHeader Usual y TooDeep h) (sym (whole a i)) x)
 
   member_inside : (d h : ℕ) → IsMember a d h → IsInside a h
   member_inside d h m = reached_inside a i h (member_reached a i h (d, m))

@@ -5,6 +5,7 @@ use Rattle.std.proofs.Common.{◌≡◌, ◌≢◌, ◌∙◌, sym, ap, subst, �
 use Rattle.std.proofs.lemmas.List.{take_all, length-take-le, get_or-drop, get_or-take}
 use Rattle.std.proofs.lemmas.Bool.{cases_lt}
 use Rattle.std.proofs.Math.Seq.{take-append-add}
+use Rattle.romfs_format.specs.declared.rule.Profile.TheVariants.{Usual}
 use Rattle.romfs_format.specs.declared.rule.Rule.{Rule}
 use Rattle.romfs_format.specs.declared.rule.Rule.TheVariants.{Short, Magic, FullSize, BadSum, VolumeName, NoRoot, Outside, NameOpen, NameBad, DataOutside, TargetLong, LinkedTwice, SameName, LinkLoop, LinkDirectory, MajorLarge, HeaderSum, TooDeep}
 use Rattle.std.specs.Prelude.{IsNone}
@@ -40,7 +41,7 @@ module _ (b : List ℕ) (v : IsVolume b) (long : 16 ≤ word b 8) (within : word
       let e : word b 8 ≡ 8 + (word b 8 - 8) = omega arith in
       (take (word b 8 - 8) s.0, ap (λ x. take x b) e ∙ ap (λ x. take (8 + (word b 8 - 8)) x) s.1 ∙ take-append-add magic s.0 (word b 8 - 8))
 
-  kept : (r : Rule) (p : ℕ) → rule_number r < 6 → ¬ Breaks (image b) r p
+  kept : (r : Rule) (p : ℕ) → rule_number r < 6 → ¬ Breaks Usual (image b) r p
   kept Short p l x = let s = size_is in let y = x.0 in omega arith
   kept Magic p l x = v.keeps Magic p l ((λ s. x.0 (cut s)), x.1)
   kept FullSize p l x = let s = size_is in let w = same_word in elim x.0 [ inl y ↦ omega arith | inr y ↦ omega arith ]
@@ -49,11 +50,11 @@ module _ (b : List ℕ) (v : IsVolume b) (long : 16 ≤ word b 8) (within : word
   kept NoRoot p l x = v.keeps NoRoot p l (subst (λ a. ((length a < root a + 16) ⊎ (kind a (root a) ≢ Directory)) × (p ≡ root a)) twice x)
   kept _ p l x = omega arith
 
-  module _ (sound : IsSound b) where
-    header_kept : (r : Rule) (p : ℕ) → ¬ BreaksHeader (image b) r p → ¬ BreaksHeader (image (image b)) r p
-    header_kept r p n x = n (subst (λ a. BreaksHeader a r p) twice x)
+  module _ (sound : IsSound Usual b) where
+    header_kept : (r : Rule) (p : ℕ) → ¬ BreaksHeader Usual (image b) r p → ¬ BreaksHeader Usual (image (image b)) r p
+    header_kept r p n x = n (subst (λ a. BreaksHeader Usual a r p) twice x)
 
-    kept_all : (r : Rule) (p : ℕ) → ¬ Breaks (image b) r p
+    kept_all : (r : Rule) (p : ℕ) → ¬ Breaks Usual (image b) r p
     kept_all Short p = kept Short p (lit< tt)
     kept_all Magic p = kept Magic p (lit< tt)
     kept_all FullSize p = kept FullSize p (lit< tt)
@@ -82,7 +83,7 @@ module _ (b : List ℕ) (v : IsVolume b) (long : 16 ≤ word b 8) (within : word
     }
 
 -- the full size of a sound image is at least 16 and at most the number of its bytes
-pub bounds : (b : List ℕ) → IsSound b → (16 ≤ length b) × (16 ≤ word b 8) × (word b 8 ≤ length b)
+pub bounds : (b : List ℕ) → IsSound Usual b → (16 ≤ length b) × (16 ≤ word b 8) × (word b 8 ≤ length b)
 bounds b s = (long, full, within)
   where
     long : 16 ≤ length b
@@ -95,5 +96,5 @@ bounds b s = (long, full, within)
     within = elim (cases_lt (length b) (word b 8)) [ inl l ↦ absurd (s.keeps FullSize 8 (inl l, refl)) | inr l ↦ l ]
 
 -- the accessible bytes of a sound image are an image
-pub checked : (b : List ℕ) → IsSound b → word b 8 < 2 ^ 32 → IsImage (image b)
+pub checked : (b : List ℕ) → IsSound Usual b → word b 8 < 2 ^ 32 → IsImage (image b)
 checked b s small = let l = bounds b s in is_image b (record { keeps = λ r p n. s.keeps r p }) l.1 l.2 s small

@@ -1,6 +1,7 @@
 //! Sound images, and what is read from them.
 
 ghost use Rattle.std.specs.Prelude.{◌≡◌, ◌≢◌, ◌⊎◌, [], ◌+◌, ◌<◌, ◌≤◌, ◌^◌, length, Some, IsNone, All, slice_get};
+ghost use Rattle.romfs_format.specs.declared.rule.Profile.TheVariants.{Usual};
 ghost use Rattle.romfs_format.specs.Fields.{image, root as root_of, name, word};
 ghost use Rattle.romfs_format.specs.Links.{IsFinal};
 ghost use Rattle.romfs_format.specs.Rules.{IsSound};
@@ -61,7 +62,7 @@ impl<A: Allocator> Image<A> {
     /// The image of bytes that break no rule. It keeps the accessible ones: as many as the full
     /// size says (romfs.rst, the volume header). Bytes after them are not looked at.
     pub fn of_sound(bytes: Vec<u8, A>) -> Self
-        requires { IsSound bytes.items }
+        requires { IsSound Usual bytes.items }
         ensures { result ≡ image bytes.items }
     {
         let bytes = accessible(bytes);

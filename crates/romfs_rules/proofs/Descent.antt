@@ -83,8 +83,8 @@ pub record Descends (a : List ℕ) (todo : List Waiting) (marks : List Bool) (de
   pub closed : (k n : ℕ) (v : Waiting) → get_or marks k false ≡ true → StandsBelow a n (k * 16) → LeadsDown a (at_names (k * 16) n) v
       → IsSettled a todo marks v
   pub start : (h : ℕ) → IsFirst a (root a) h → IsSettled a todo marks (at_names h 0)
-  pub holds : IfSome deep (λ h. BreaksHeader a TooDeep h)
-  pub least : (k : ℕ) → get_or marks k false ≡ true → BreaksHeader a TooDeep (k * 16) → IsSomeAnd deep (λ h. h ≤ k * 16)
+  pub holds : IfSome deep (λ h. BreaksHeader Usual a TooDeep h)
+  pub least : (k : ℕ) → get_or marks k false ≡ true → BreaksHeader Usual a TooDeep (k * 16) → IsSomeAnd deep (λ h. h ≤ k * 16)
 
 -- what falls with each step: the headers to come, and twice those without a mark
 unfoldable pub left : List Waiting → List Bool → ℕ
@@ -167,7 +167,7 @@ module _ (a : List ℕ) (keeps : KeepsAllHeaderRules Usual a) where
         led_marked n c (at_names g (n + 1)) (stands_member a keeps n b.0 c b.1 b.2) m (down z p f) j
 
     -- where nothing is left to come, deep is the least header that is too deep
-    pub found : IsLeast (λ h. BreaksHeader a TooDeep h) deep
+    pub found : IsLeast (λ h. BreaksHeader Usual a TooDeep h) deep
     found = record {
       is = λ h e. (rw e at d.holds);
       whole = λ g x.
@@ -178,7 +178,7 @@ module _ (a : List ℕ) (keeps : KeepsAllHeaderRules Usual a) where
           let k = along y.0 y.2 b m.opened (λ h z. firsts y.0 y.2 h b m.opened z) m.in_chain.0 g m.in_chain.1
           (inside_member a keeps y.2 g m) in
           there_is (λ h. h ≤ g) deep (subst (λ q. IsSomeAnd deep (λ h. h ≤ q)) e
-          (d.least (g / 16) k (subst (λ q. BreaksHeader a TooDeep q) (sym e) x)));
+          (d.least (g / 16) k (subst (λ q. BreaksHeader Usual a TooDeep q) (sym e) x)));
     }
 
   -- the walk begins with the root's first header to come, no marks and nothing found
@@ -297,13 +297,13 @@ module _ (a : List ℕ) (keeps : KeepsAllHeaderRules Usual a) where
           ]
 
       module _ (now : Option ℕ) (n : Notes a w deep now) where
-        holds_too : IfSome now (λ h. BreaksHeader a TooDeep h)
+        holds_too : IfSome now (λ h. BreaksHeader Usual a TooDeep h)
         holds_too = elim n [
-          | inl x ↦ rw (x.1) (lower_holds (λ h. BreaksHeader a TooDeep h) w.header deep d.holds (is_deep a keeps w stands x.0))
+          | inl x ↦ rw (x.1) (lower_holds (λ h. BreaksHeader Usual a TooDeep h) w.header deep d.holds (is_deep a keeps w stands x.0))
           | inr x ↦ rw (x.1) (d.holds)
         ]
 
-        least_itself : BreaksHeader a TooDeep w.header → IsSomeAnd now (λ h. h ≤ w.header)
+        least_itself : BreaksHeader Usual a TooDeep w.header → IsSomeAnd now (λ h. h ≤ w.header)
         least_itself b = elim n [
           | inl x ↦ rw (x.1) (lower_new w.header deep)
           | inr x ↦ absurd (x.0 (too_deep a keeps w stands b))
@@ -330,7 +330,7 @@ module _ (a : List ℕ) (keeps : KeepsAllHeaderRules Usual a) where
           least = λ k m x. elim (was_set marks (w.header / 16) k m) [
             | inl e ↦ (let h : k * 16 ≡ w.header = ap (λ y. y * 16) e ∙ slot in
                 subst (λ q. IsSomeAnd now (λ h. h ≤ q)) (sym h)
-                (least_itself (subst (λ q. BreaksHeader a TooDeep q) h x)))
+                (least_itself (subst (λ q. BreaksHeader Usual a TooDeep q) h x)))
             | inr o ↦ least_before (k * 16) (d.least k o x)
           ];
         }

@@ -6,6 +6,7 @@ use Rattle.std.proofs.lemmas.Bool.{cases_order, false≢true}
 use Rattle.std.proofs.lemmas.List.{get_or_default}
 use Rattle.romfs_format.specs.declared.head.End.{End}
 use Rattle.romfs_format.specs.declared.head.End.TheVariants.{AtDirectory, AtOther, Nowhere}
+use Rattle.romfs_format.specs.declared.rule.Profile.TheVariants.{Usual}
 use Rattle.romfs_format.specs.declared.rule.Rule.TheVariants.{NameBad, DataOutside, LinkedTwice, SameName}
 use Rattle.romfs_format.specs.Fields.{root, name, IsInside}
 use Rattle.romfs_format.specs.Chains.{IsSomeMember}
@@ -90,7 +91,7 @@ link_says a h end r b x e = (λ t. (x.0, x.1, subst (λ y. EndsAs a h y) (e.0 t)
 -- rule
 pub data_says : (a : List ℕ) (h : ℕ) (n : List ℕ) (b : Bool) → Some n ≡ name a h
     → EndsOutside a h n → IsTrue b ↔ (IsUsed a h × HasData a h)
-    → IsTrue b ↔ BreaksHeader a DataOutside h
+    → IsTrue b ↔ BreaksHeader Usual a DataOutside h
 data_says a h n b e l t = (
   λ y. let x = t.0 y in (x.0, x.1, subst (λ o. IsSomeAnd o (EndsOutside a h)) e l),
   λ x. t.1 (x.0, x.1),
@@ -98,20 +99,20 @@ data_says a h n b e l t = (
 
 -- where a header inside with a bad name is known, being a member is breaking that rule
 pub bad_says : (a : List ℕ) (h : ℕ) (n : List ℕ) (b : Bool) → IsInside a h → Some n ≡ name a h
-    → IsBadName n → IsTrue b ↔ IsSomeMember a h → IsTrue b ↔ BreaksHeader a NameBad h
+    → IsBadName n → IsTrue b ↔ IsSomeMember a h → IsTrue b ↔ BreaksHeader Usual a NameBad h
 bad_says a h n b i e l t = (
   λ y. (t.0 y, i, subst (λ o. IsSomeAnd o IsBadName) e l),
   λ x. t.1 x.0,
 )
 
 -- equal names are known of a header that no two links name
-alone : (a : List ℕ) (h : ℕ) → (IsElsewhere a (root a) → h ≡ root a) → ¬ BreaksHeader a LinkedTwice h → ¬ IsElsewhere a (root a)
+alone : (a : List ℕ) (h : ℕ) → (IsElsewhere a (root a) → h ≡ root a) → ¬ BreaksHeader Usual a LinkedTwice h → ¬ IsElsewhere a (root a)
 alone a h only once e = once (inr ((root_elsewhere a h (only e)).0 (subst (λ y. IsElsewhere a y) (sym (only e)) e)))
 
 -- where no two links name a header, looking it up among equal names says if it breaks that rule
 pub listed_says : (a : List ℕ) (h : ℕ) (hs : List ℕ) (b : Bool) → HaveSameNamesIfAlone a hs
-    → (IsElsewhere a (root a) → h ≡ root a) → IsTrue b ↔ Contains hs h → ¬ BreaksHeader a LinkedTwice h
-    → IsTrue b ↔ BreaksHeader a SameName h
+    → (IsElsewhere a (root a) → h ≡ root a) → IsTrue b ↔ Contains hs h → ¬ BreaksHeader Usual a LinkedTwice h
+    → IsTrue b ↔ BreaksHeader Usual a SameName h
 listed_says a h hs b s only t once =
     let n = s.names (alone a h only once) in
     (λ y. n.each h (t.0 y), λ x. t.1 (n.all h x))

@@ -125,7 +125,7 @@ module _ (a : List ℕ) (keeps : KeepsAllHeaderRules Usual a) where
 
   -- a header that is too deep is a member of a directory to which at least as many names lead as a
   -- path may have
-  pub deep_at : (h : ℕ) → BreaksHeader a TooDeep h → (n : ℕ) × (MAX_NAMES ≤ n) × (d : ℕ) × IsBelow a n d × IsMember a d h
+  pub deep_at : (h : ℕ) → BreaksHeader Usual a TooDeep h → (n : ℕ) × (MAX_NAMES ≤ n) × (d : ℕ) × IsBelow a n d × IsMember a d h
   deep_at h x = go (0 + length x.0) (leads_below x.0 0 (root a) h refl x.1) (let l = x.2 in omega arith)
     where
       go : (k : ℕ) → IsBelow a k h → MAX_NAMES < k → (n : ℕ) × (MAX_NAMES ≤ n) × (d : ℕ) × IsBelow a n d × IsMember a d h
@@ -137,7 +137,7 @@ module _ (a : List ℕ) (keeps : KeepsAllHeaderRules Usual a) where
   stands_member n d h b m = record { dir = d; below = b; opened = m.opened; in_chain = m.in_chain }
 
   -- a header that a walk finds too deep breaks the rule on depth
-  pub is_deep : (w : Waiting) → StandsBelow a w.names w.header → IsTooDeep a w → BreaksHeader a TooDeep w.header
+  pub is_deep : (w : Waiting) → StandsBelow a w.names w.header → IsTooDeep a w → BreaksHeader Usual a TooDeep w.header
   is_deep w s t =
       let m : IsMember a s.dir w.header = record {
         opened = s.opened;
@@ -148,7 +148,7 @@ module _ (a : List ℕ) (keeps : KeepsAllHeaderRules Usual a) where
       (r.0, r.1, (let k : length r.0 ≡ suc w.names = r.2 in let l = t.0 in omega arith))
 
   -- a header that breaks the rule on depth is one that a walk finds too deep
-  pub too_deep : (w : Waiting) → StandsBelow a w.names w.header → BreaksHeader a TooDeep w.header → IsTooDeep a w
+  pub too_deep : (w : Waiting) → StandsBelow a w.names w.header → BreaksHeader Usual a TooDeep w.header → IsTooDeep a w
   too_deep w s x =
       let y = deep_at w.header x in
       let e = one_standing y.0 w.names w.header (stands_member y.0 y.2 w.header y.3 y.4) s in

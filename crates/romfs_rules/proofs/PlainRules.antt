@@ -12,7 +12,7 @@ use Rattle.romfs_format.specs.declared.head.End.TheVariants.{AtDirectory, Nowher
 use Rattle.romfs_format.specs.Fields.{root, name, IsInside}
 use Rattle.romfs_format.specs.Chains.{IsAt, IsInChain, IsOpened, at_root, below, IsMember, IsSomeMember, Leads}
 use Rattle.romfs_format.specs.Links.{Field, first_of, next_of, IsLink, IsHardLink, destination, IsDestination, here, there, IsFinal, stays, follows, EndsAs, IsTarget, IsReached}
-use Rattle.romfs_format.specs.Rules.{IsUsed, IsBadName, EndsOutside, IsLinkedTwice, IsRootElsewhere, IsNamesake, BreaksHeaderAs, BreaksHeader}
+use Rattle.romfs_format.specs.Rules.{IsUsed, IsBadName, EndsOutside, IsLinkedTwice, IsRootElsewhere, IsNamesake, BreaksHeader}
 use Rattle.romfs_rules.specs.declared.plain.Folder.{Folder}
 use Rattle.romfs_rules.specs.Judge.{IsHeaderRule}
 use Rattle.romfs_rules.specs.Marks.{IsVolumeImage, Opens}
@@ -174,8 +174,8 @@ module _ (a : List ℕ) (v : IsVolumeImage a) (marks : List Bool) (d : Descends 
       p.no_directory (rw (final_of x l p) at t.1)
 
   -- no rule of file headers is broken
-  kept : (r : Rule) (h : ℕ) → IsHeaderRule r → ¬ BreaksHeaderAs Usual a r h
-  kept r h = by_rule (λ s. ¬ BreaksHeaderAs Usual a s h) (record {
+  kept : (r : Rule) (h : ℕ) → IsHeaderRule r → ¬ BreaksHeader Usual a r h
+  kept r h = by_rule (λ s. ¬ BreaksHeader Usual a s h) (record {
     outside = λ x. elim (reached h x.0) [ inl e ↦ x.1 (subst (IsInside a) (sym e) (inside_root a v)) | inr y ↦ x.1 y.0 ];
     name_open = λ x. elim (reached h x.0) [
       | inl e ↦ x.2 e
@@ -203,7 +203,7 @@ module _ (a : List ℕ) (v : IsVolumeImage a) (marks : List Bool) (d : Descends 
       let b = short y path l.0 (n + 1) h (gone_along d.done (folder l.0 (n + 1)) (s.comes z o)) l.3 in
       omega arith
 
-  no_deep : (h : ℕ) → ¬ BreaksHeader a TooDeep h
+  no_deep : (h : ℕ) → ¬ BreaksHeader Usual a TooDeep h
   no_deep h (path, l, m) = go path l m
     where
       go : (path : List (List ℕ)) → Leads a (root a) path h → MAX_NAMES < length path → ⊥

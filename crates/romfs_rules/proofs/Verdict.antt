@@ -11,7 +11,7 @@ use Rattle.romfs_format.specs.Chains.{IsSomeMember}
 use Rattle.romfs_format.specs.Links.{IsTarget, IsReached}
 use Rattle.romfs_format.specs.declared.rule.Profile.{Profile}
 use Rattle.romfs_format.specs.declared.rule.Profile.TheVariants.{Usual, Strict}
-use Rattle.romfs_format.specs.Rules.{IsVolume, BreaksHeader, BreaksHeaderAs, BreaksAs, IsUsed, rule_number, stage, IsNamedBefore, IsFaultAs, IsSoundAs}
+use Rattle.romfs_format.specs.Rules.{IsVolume, BreaksHeader, Breaks, IsUsed, rule_number, stage, IsNamedBefore, IsFault, IsSound}
 use Rattle.romfs_format.proofs.Faults.{one_rule}
 use Rattle.romfs_rules.specs.Marks.{HasSlot, IsVolumeImage, AreMarks, IsElsewhere}
 use Rattle.romfs_rules.specs.Leads.{IsInSomeChain}
@@ -101,8 +101,8 @@ same : {P : Type 0} → P ↔ P
 same = (λ x. x, λ x. x)
 
 to_breaks : (profile : Profile) (b : List ℕ) (p : ℕ) (r : Rule) → IsHeaderRule r
-    → BreaksHeaderAs profile (image b) r p ↔ BreaksAs profile b r p
-to_breaks profile b p = by_rule (λ r. BreaksHeaderAs profile (image b) r p ↔ BreaksAs profile b r p) (record {
+    → BreaksHeader profile (image b) r p ↔ Breaks profile b r p
+to_breaks profile b p = by_rule (λ r. BreaksHeader profile (image b) r p ↔ Breaks profile b r p) (record {
   outside = same;
   name_open = same;
   name_bad = same;
@@ -117,7 +117,7 @@ to_breaks profile b p = by_rule (λ r. BreaksHeaderAs profile (image b) r p ↔ 
 })
 
 -- the rules of the volume header and the depth are the same in every profile
-volume_kept : (profile : Profile) (b : List ℕ) → IsVolume b → (r : Rule) → rule_number r < 6 → (q : ℕ) → ¬ BreaksAs profile b r q
+volume_kept : (profile : Profile) (b : List ℕ) → IsVolume b → (r : Rule) → rule_number r < 6 → (q : ℕ) → ¬ Breaks profile b r q
 volume_kept profile b v Short l q x = v.keeps Short q l x
 volume_kept profile b v Magic l q x = v.keeps Magic q l x
 volume_kept profile b v FullSize l q x = v.keeps FullSize q l x
@@ -159,17 +159,17 @@ module _ (a : List ℕ) where
   used_reached : (h : ℕ) → IsUsed a h → IsReached a h
   used_reached h u = elim u.1 [ inl m ↦ member_reached h m | inr t ↦ inr (inr t) ]
 
-  twice_reached : (h : ℕ) → BreaksHeader a LinkedTwice h → IsReached a h
+  twice_reached : (h : ℕ) → BreaksHeader Usual a LinkedTwice h → IsReached a h
   twice_reached h (inl x) = inr (inl (x.0, x.3))
   twice_reached h (inr x) = inl x.0
 
-  sum_reached : (profile : Profile) (h : ℕ) → BreaksHeaderAs profile a HeaderSum h → IsReached a h
+  sum_reached : (profile : Profile) (h : ℕ) → BreaksHeader profile a HeaderSum h → IsReached a h
   sum_reached Usual h x = absurd x
   sum_reached Strict h x = x.0
 
   -- a header that breaks one of these rules is reached
-  pub breach_reached : (profile : Profile) (h : ℕ) (r : Rule) → IsHeaderRule r → BreaksHeaderAs profile a r h → IsReached a h
-  breach_reached profile h = by_rule (λ r. BreaksHeaderAs profile a r h → IsReached a h) (record {
+  pub breach_reached : (profile : Profile) (h : ℕ) (r : Rule) → IsHeaderRule r → BreaksHeader profile a r h → IsReached a h
+  breach_reached profile h = by_rule (λ r. BreaksHeader profile a r h → IsReached a h) (record {
     outside = λ x. x.0;
     name_open = λ x. x.0;
     name_bad = λ x. member_reached h x.0;
@@ -193,16 +193,16 @@ module _ (profile : Profile) (a : List ℕ) (h : ℕ) where
   pub none_tried : IsInside a h → KeepsBefore profile a h 7
   none_tried i = record {
     keeps = λ s x l b. let e : rule_number s ≡ rule_number
-        Outside = (let m = x.0 in omega arith) in (subst (λ r. BreaksHeaderAs profile a r h)
+        Outside = (let m = x.0 in omega arith) in (subst (λ r. BreaksHeader profile a r h)
         (one_rule s Outside e) b).1 i;
   }
 
   -- a header that keeps the rules before one, and that one, keeps those before the next
-  pub one_tried : (r : Rule) (n : ℕ) → rule_number r ≡ n → KeepsBefore profile a h n → ¬ BreaksHeaderAs profile a r h
+  pub one_tried : (r : Rule) (n : ℕ) → rule_number r ≡ n → KeepsBefore profile a h n → ¬ BreaksHeader profile a r h
       → KeepsBefore profile a h (n + 1)
   one_tried r n e k m = record {
     keeps = λ s x l b. elim (cases_order (rule_number s) n) [
-      | inl f ↦ m (subst (λ t. BreaksHeaderAs profile a t h) (one_rule s r (f ∙ sym e)) b)
+      | inl f ↦ m (subst (λ t. BreaksHeader profile a t h) (one_rule s r (f ∙ sym e)) b)
       | inr (inl o) ↦ k.keeps s x o b
       | inr (inr o) ↦ absurd (omega arith)
     ];
@@ -210,7 +210,7 @@ module _ (profile : Profile) (a : List ℕ) (h : ℕ) where
 
   -- a rule that a header breaks is the first, where it keeps those before it
   pub first_broken : (r : Rule) (n : ℕ) → rule_number r ≡ n → IsHeaderRule r → KeepsBefore profile a h n
-      → BreaksHeaderAs profile a r h → IsFirstRule profile a h r
+      → BreaksHeader profile a r h → IsFirstRule profile a h r
   first_broken r n e x k b = record { rule = x; broken = b; before = subst (λ m. KeepsBefore profile a h m) (sym e) k }
 
 -- a scan over the slots, upward
@@ -348,12 +348,12 @@ module _ (profile : Profile) (a : List ℕ) (below above : Option ℕ) (lb : IsL
             let i = f.slot.inside.1 in
             let o = breach_reached a profile q s hs b in
             (f.below.keeps q (record { inside = (high q o, omega arith); aligned = reached_cleared a q o }) l).keeps s hs b)
-        | inr y ↦ (f.rule.before.keeps s hs y.1 (subst (λ h. BreaksHeaderAs profile a s h) y.0 b))
+        | inr y ↦ (f.rule.before.keeps s hs y.1 (subst (λ h. BreaksHeader profile a s h) y.0 b))
       ];
     }
 
     module _ (inside : KeepsBelow profile a (length a)) where
-      far : (s : Rule) (q : ℕ) → IsHeaderRule s → BreaksHeaderAs profile a s q → length a < q + HEAD_SIZE
+      far : (s : Rule) (q : ℕ) → IsHeaderRule s → BreaksHeader profile a s q → length a < q + HEAD_SIZE
       far s q hs b = elim (cases_lt (length a) (q + HEAD_SIZE)) [
         | inl l ↦ l
         | inr m ↦ (
@@ -361,7 +361,7 @@ module _ (profile : Profile) (a : List ℕ) (below above : Option ℕ) (lb : IsL
             absurd ((inside.keeps q (record { inside = (high q o, m); aligned = reached_cleared a q o }) (omega arith)).keeps s hs b))
       ]
 
-      beyond : (s : Rule) (q : ℕ) → IsHeaderRule s → BreaksHeaderAs profile a s q → IsReachedAbove a q
+      beyond : (s : Rule) (q : ℕ) → IsHeaderRule s → BreaksHeader profile a s q → IsReachedAbove a q
       beyond s q hs b = let o = breach_reached a profile q s hs b in (o, (high q o, far s q hs b))
 
       -- where none stands before, and those inside keep these rules, the least past the end is the
@@ -383,10 +383,10 @@ module _ (profile : Profile) (a : List ℕ) (below above : Option ℕ) (lb : IsL
 -- the fault of an image that keeps the rules of the volume header
 module _ (profile : Profile) (b : List ℕ) (v : IsVolume b) where
   -- the first breach of a rule of file headers is the fault of the image
-  pub fault_by_header : (r : Rule) (p : ℕ) → IsFirstBreach profile (image b) r p → IsFaultAs profile b r p
+  pub fault_by_header : (r : Rule) (p : ℕ) → IsFirstBreach profile (image b) r p → IsFault profile b r p
   fault_by_header r p f = record {
     broken = (to_breaks profile b p r f.rule).0 f.broken;
-    first = by_part (λ s. (q : ℕ) → BreaksAs profile b s q → ¬ IsNamedBefore s q r p)
+    first = by_part (λ s. (q : ℕ) → Breaks profile b s q → ¬ IsNamedBefore s q r p)
         (λ s l q x. absurd (volume_kept profile b v s l q x))
         (λ s h q x. f.first s q h ((to_breaks profile b q s h).1 x))
         (λ q x. elim [
@@ -397,25 +397,25 @@ module _ (profile : Profile) (b : List ℕ) (v : IsVolume b) where
 
   module _ (k : KeepsAllHeaderRules profile (image b)) where
     -- where all keep these rules, the least header that is too deep is the fault of the image
-    pub fault_by_depth : (deep : Option ℕ) (p : ℕ) → IsLeast (BreaksHeader (image b) TooDeep) deep → deep ≡ Some p
-        → IsFaultAs profile b TooDeep p
+    pub fault_by_depth : (deep : Option ℕ) (p : ℕ) → IsLeast (BreaksHeader Usual (image b) TooDeep) deep → deep ≡ Some p
+        → IsFault profile b TooDeep p
     fault_by_depth deep p d e = record {
       broken = d.is p e;
-      first = by_part (λ s. (q : ℕ) → BreaksAs profile b s q → ¬ IsNamedBefore s q TooDeep p)
+      first = by_part (λ s. (q : ℕ) → Breaks profile b s q → ¬ IsNamedBefore s q TooDeep p)
           (λ s l q x. absurd (volume_kept profile b v s l q x))
           (λ s h q x. absurd (k.keeps s q h ((to_breaks profile b q s h).1 x)))
           (λ q x. elim [
             | inl l ↦ omega arith
-            | inr (f, inl l) ↦ (let o = least_is (BreaksHeader (image b) TooDeep) deep p q d e x in omega arith)
+            | inr (f, inl l) ↦ (let o = least_is (BreaksHeader Usual (image b) TooDeep) deep p q d e x in omega arith)
             | inr (f, inr y) ↦ (let m = y.1 in omega arith)
           ]);
     }
 
     -- where all keep these rules, and no header is too deep, the image is sound
-    pub sound_by_depth : (deep : Option ℕ) → IsLeast (BreaksHeader (image b) TooDeep) deep → deep ≡ None → IsSoundAs profile b
+    pub sound_by_depth : (deep : Option ℕ) → IsLeast (BreaksHeader Usual (image b) TooDeep) deep → deep ≡ None → IsSound profile b
     sound_by_depth deep d e = record {
-      keeps = by_part (λ s. (q : ℕ) → ¬ BreaksAs profile b s q)
+      keeps = by_part (λ s. (q : ℕ) → ¬ Breaks profile b s q)
           (λ s l q x. volume_kept profile b v s l q x)
           (λ s h q x. k.keeps s q h ((to_breaks profile b q s h).1 x))
-          (λ q x. no_least (BreaksHeader (image b) TooDeep) deep q d e x);
+          (λ q x. no_least (BreaksHeader Usual (image b) TooDeep) deep q d e x);
     }

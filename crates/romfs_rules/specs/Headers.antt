@@ -4,6 +4,7 @@ use Rattle.std.specs.Borrow.{Bor}
 use Rattle.std.specs.Option.{option_map}
 use Rattle.romfs_format.specs.declared.limits.TheConstants.{HEAD_SIZE}
 use Rattle.romfs_format.specs.declared.head.End.{End}
+use Rattle.romfs_format.specs.declared.rule.Profile.TheVariants.{Usual}
 use Rattle.romfs_format.specs.declared.rule.Rule.TheVariants.{LinkedTwice, SameName}
 use Rattle.romfs_format.specs.Fields.{root, text_at, text_end}
 use Rattle.romfs_format.specs.Chains.{IsSomeMember}
@@ -35,6 +36,7 @@ pub record IsHeader (a : List ℕ) (h : ℕ) (name : Option (Bor (List ℕ)))
   pub name_within : IfSome name (λ n. text_end (h + HEAD_SIZE) n.now ≤ length a)
   pub is_member : IsTrue member ↔ IsSomeMember a h
   pub is_used : IsTrue used ↔ IsUsed a h
-  pub is_twice : IsTrue twice ↔ BreaksHeader a LinkedTwice h
-  pub has_same_name : ¬ BreaksHeader a LinkedTwice h → IsTrue same_name ↔ BreaksHeader a SameName h
+  pub is_twice : IsTrue twice ↔ BreaksHeader Usual a LinkedTwice h
+  pub has_same_name : ¬ BreaksHeader Usual a LinkedTwice h
+      → IsTrue same_name ↔ BreaksHeader Usual a SameName h
   pub ends : IsEndOfMember a h end

@@ -3,9 +3,10 @@ use Rattle.std.specs.Prelude.{◌≡◌, ℕ, ◌<◌, ◌≤◌, List, Option, 
 use Rattle.romfs_format.specs.declared.rule.Rule.{Rule}
 use Rattle.romfs_format.specs.declared.rule.Rule.TheVariants.{TooDeep}
 use Rattle.romfs_format.specs.declared.rule.Profile.{Profile}
+use Rattle.romfs_format.specs.declared.rule.Profile.TheVariants.{Usual}
 use Rattle.romfs_format.specs.declared.rule.ImageFault.{ImageFault}
 use Rattle.romfs_format.specs.Fields.{image}
-use Rattle.romfs_format.specs.Rules.{BreaksHeader, BreaksHeaderAs, rule_number, IsNamedBefore, IsVolume, IsFaultOfAs}
+use Rattle.romfs_format.specs.Rules.{BreaksHeader, rule_number, IsNamedBefore, IsVolume, IsFaultOf}
 use Rattle.romfs_rules.specs.Marks.{HasSlot}
 use Rattle.romfs_rules.specs.Outside.{IsLeast}
 
@@ -15,16 +16,16 @@ IsHeaderRule r = (6 ≤ rule_number r) × (rule_number r < 17)
 
 -- h breaks none of them that has a number below n
 pub record KeepsBefore (profile : Profile) (a : List ℕ) (h n : ℕ) : Type 0 where
-  pub keeps : (s : Rule) → IsHeaderRule s → rule_number s < n → ¬ BreaksHeaderAs profile a s h
+  pub keeps : (s : Rule) → IsHeaderRule s → rule_number s < n → ¬ BreaksHeader profile a s h
 
 -- h breaks none of them
 pub record KeepsHeaderRules (profile : Profile) (a : List ℕ) (h : ℕ) : Type 0 where
-  pub keeps : (s : Rule) → IsHeaderRule s → ¬ BreaksHeaderAs profile a s h
+  pub keeps : (s : Rule) → IsHeaderRule s → ¬ BreaksHeader profile a s h
 
 -- r is the first of them that h breaks
 pub record IsFirstRule (profile : Profile) (a : List ℕ) (h : ℕ) (r : Rule) : Type 0 where
   pub rule : IsHeaderRule r
-  pub broken : BreaksHeaderAs profile a r h
+  pub broken : BreaksHeader profile a r h
   pub before : KeepsBefore profile a h (rule_number r)
 
 -- the first of those with a number below n that h breaks; none where it keeps them all
@@ -49,13 +50,13 @@ pub record IsFirstInside (profile : Profile) (a : List ℕ) (r : Rule) (p : ℕ)
 
 -- no header breaks any of them
 pub record KeepsAllHeaderRules (profile : Profile) (a : List ℕ) : Type 0 where
-  pub keeps : (s : Rule) (q : ℕ) → IsHeaderRule s → ¬ BreaksHeaderAs profile a s q
+  pub keeps : (s : Rule) (q : ℕ) → IsHeaderRule s → ¬ BreaksHeader profile a s q
 
 -- r at p is named before all other breaches of them
 pub record IsFirstBreach (profile : Profile) (a : List ℕ) (r : Rule) (p : ℕ) : Type 0 where
   pub rule : IsHeaderRule r
-  pub broken : BreaksHeaderAs profile a r p
-  pub first : (s : Rule) (q : ℕ) → IsHeaderRule s → BreaksHeaderAs profile a s q
+  pub broken : BreaksHeader profile a r p
+  pub first : (s : Rule) (q : ℕ) → IsHeaderRule s → BreaksHeader profile a s q
       → ¬ IsNamedBefore s q r p
 
 -- the first breach of a rule of file headers; none where there is none
@@ -65,9 +66,9 @@ IsHeaderFault profile a fault =
 
 -- the least header that is too deep, where no header breaks another rule
 abbrev pub IsDeepFault : List ℕ → Option ImageFault → Option ℕ → Type 0
-IsDeepFault a fault deep = IsNone fault → IsLeast (BreaksHeader a TooDeep) deep
+IsDeepFault a fault deep = IsNone fault → IsLeast (BreaksHeader Usual a TooDeep) deep
 
 -- the fault of all bytes of which these are the accessible ones, and that keep the volume rules
 abbrev pub IsFaultBehindVolume : Profile → List ℕ → Option ImageFault → Type 0
 IsFaultBehindVolume profile a fault =
-    (b : List ℕ) → image b ≡ a → IsVolume b → IsFaultOfAs profile b fault
+    (b : List ℕ) → image b ≡ a → IsVolume b → IsFaultOf profile b fault

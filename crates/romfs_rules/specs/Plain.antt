@@ -103,4 +103,4 @@ pub record AddsFolder (a : List ℕ) (w : Folder) (at : ℕ) (before after : Lis
 -- no rule behind the volume header is broken
 pub record KeepsPlainly (a : List ℕ) : Type 0 where
   pub headers : KeepsAllHeaderRules Usual a
-  pub depth : (h : ℕ) → ¬ BreaksHeader a TooDeep h
+  pub depth : (h : ℕ) → ¬ BreaksHeader Usual a TooDeep h

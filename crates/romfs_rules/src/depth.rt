@@ -99,7 +99,7 @@ impl<A: Allocator> Descent<A> {
         requires unmarked { self.old.marks ≡ replicate (length volume.now.bytes.now / 16) false }
         requires empty { self.old.todo.items ≡ [] }
         ensures { IfOk result
-            (λ deep. IsLeast (BreaksHeader volume.now.bytes.now Rule.TooDeep) deep) }
+            (λ deep. IsLeast (BreaksHeader Usual volume.now.bytes.now Rule.TooDeep) deep) }
     {
         push_some(&mut self.todo, first_of(volume, volume.root), 0)?;
         let mut deep = None;
@@ -123,7 +123,8 @@ pub(crate) fn find_deep<A: Allocator + Copy>(
     volume: &Volume,
 ) -> Result<Option<u32>, AllocError>
     requires keeps { KeepsAllHeaderRules Usual volume.now.bytes.now }
-    ensures { IfOk result (λ deep. IsLeast (BreaksHeader volume.now.bytes.now Rule.TooDeep) deep) }
+    ensures { IfOk result
+        (λ deep. IsLeast (BreaksHeader Usual volume.now.bytes.now Rule.TooDeep) deep) }
 {
     let mut walk = Descent {
         marks: SlotSet::new(alloc, volume.bytes.len() / 16)?,

@@ -7,7 +7,7 @@ ghost use Rattle.romfs_rules.specs.SameNames.{HaveSameNamesIfAlone};
 ghost use Rattle.romfs_rules.specs.Twice.{AreTwice};
 ghost use Rattle.romfs_rules.specs.Judge.{IsHeaderFault, IsFaultBehindVolume};
 ghost use Rattle.romfs_rules.specs.Plain.{KeepsPlainly};
-ghost use Rattle.romfs_format.specs.Rules.{IsFaultOfAs};
+ghost use Rattle.romfs_format.specs.Rules.{IsFaultOf};
 
 use crate::chains::{Chains, find_chains};
 use crate::depth::find_deep;
@@ -145,7 +145,7 @@ pub fn first_fault<A: Allocator + Copy>(
     bytes: &[u8],
     profile: Profile,
 ) -> Result<Option<ImageFault>, AllocError>
-    ensures { IfOk result (IsFaultOfAs profile bytes.now) }
+    ensures { IfOk result (IsFaultOf profile bytes.now) }
 {
     match volume_fault(bytes) {
         Some(fault) => Ok(Some(fault)),

@@ -6,11 +6,12 @@
 
 ghost use Rattle.std.specs.Prelude.{◌≡◌, ◌+◌, ◌<◌, ◌≤◌, ◌↔◌, length, IsTrue, MatchOption};
 ghost use Rattle.romfs_format.specs.declared.limits.TheConstants.{HEAD_SIZE};
+ghost use Rattle.romfs_format.specs.declared.rule.Profile.TheVariants.{Usual};
 ghost use Rattle.romfs_format.specs.Fields.{data_at};
 ghost use Rattle.romfs_format.specs.Chains.{IsSomeMember};
 ghost use Rattle.romfs_format.specs.Links.{IsHardLink, EndsAs};
 ghost use Rattle.romfs_format.specs.Rules.{IsUsed, HasData, IsDevice, IsBadName, EndsOutside, HasLongTarget, HasLargeMajor};
-ghost use Rattle.romfs_format.specs.Rules.{HasBadSum, BreaksHeader, BreaksHeaderAs, rule_number};
+ghost use Rattle.romfs_format.specs.Rules.{HasBadSum, BreaksHeader, rule_number};
 ghost use Rattle.romfs_rules.specs.Judge.{KeepsBefore, KeepsHeaderRules, IsFirstRule, IsFirstBelow, IsFirstAt};
 
 use crate::volume::Volume;
@@ -120,14 +121,14 @@ fn is_sum_bad(volume: &Volume, at: usize) -> bool
 impl<'h> Header<'h> {
     // Whether its name is not ended.
     fn breaks_name_open(&self) -> bool
-        ensures { IsTrue result ↔ BreaksHeader self.now.image Rule.NameOpen self.now.at }
+        ensures { IsTrue result ↔ BreaksHeader Usual self.now.image Rule.NameOpen self.now.at }
     {
         self.at != self.volume.root && self.name.is_none()
     }
 
     // Whether it is a member whose name is empty or holds `/`.
     fn breaks_name_bad(&self) -> bool
-        ensures { IsTrue result ↔ BreaksHeader self.now.image Rule.NameBad self.now.at }
+        ensures { IsTrue result ↔ BreaksHeader Usual self.now.image Rule.NameBad self.now.at }
     {
         match self.name {
             None => false,
@@ -145,7 +146,7 @@ impl<'h> Header<'h> {
 
     // Whether it is used, and its data as a regular file or a symbolic link end beyond the image.
     fn breaks_data_outside(&self) -> bool
-        ensures { IsTrue result ↔ BreaksHeader self.now.image Rule.DataOutside self.now.at }
+        ensures { IsTrue result ↔ BreaksHeader Usual self.now.image Rule.DataOutside self.now.at }
     {
         match self.name {
             None => false,
@@ -155,7 +156,7 @@ impl<'h> Header<'h> {
 
     // Whether it is used, and its target as a symbolic link is too long.
     fn breaks_target_long(&self) -> bool
-        ensures { IsTrue result ↔ BreaksHeader self.now.image Rule.TargetLong self.now.at }
+        ensures { IsTrue result ↔ BreaksHeader Usual self.now.image Rule.TargetLong self.now.at }
     {
         is_target_long(self.volume, self.at) && self.used
     }
@@ -173,14 +174,14 @@ impl<'h> Header<'h> {
 
     // Whether it is used, and its major number as a device is too large.
     fn breaks_major_large(&self) -> bool
-        ensures { IsTrue result ↔ BreaksHeader self.now.image Rule.MajorLarge self.now.at }
+        ensures { IsTrue result ↔ BreaksHeader Usual self.now.image Rule.MajorLarge self.now.at }
     {
         is_major_large(self.volume, self.at) && self.used
     }
 
     // Whether its sum is looked at, and bad.
     fn breaks_header_sum(&self, profile: Profile) -> bool
-        ensures { IsTrue result ↔ BreaksHeaderAs profile self.now.image Rule.HeaderSum self.now.at }
+        ensures { IsTrue result ↔ BreaksHeader profile self.now.image Rule.HeaderSum self.now.at }
     {
         match profile {
             Profile::Usual => false,

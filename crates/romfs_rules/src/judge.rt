@@ -4,9 +4,10 @@
 //! sets are asked; the scan ends at the first that breaks a rule.
 
 ghost use Rattle.std.specs.Prelude.{◌≡◌, ℕ, List, ◌*◌, ◌<◌, ◌↔◌, ◌/◌, length, IsTrue, MatchOption};
+ghost use Rattle.romfs_format.specs.declared.rule.Profile.TheVariants.{Usual};
 ghost use Rattle.romfs_format.specs.Fields.{image};
 ghost use Rattle.romfs_format.specs.Chains.{IsSomeMember};
-ghost use Rattle.romfs_format.specs.Rules.{IsVolume, IsUsed, BreaksHeader, IsFaultOfAs};
+ghost use Rattle.romfs_format.specs.Rules.{IsVolume, IsUsed, BreaksHeader, IsFaultOf};
 ghost use Rattle.romfs_rules.specs.Marks.{HasSlot};
 ghost use Rattle.romfs_rules.specs.Headers.{IsAsked, IsEndOfMember};
 ghost use Rattle.romfs_rules.specs.Judge.{KeepsBelow, IsFirstInside, IsHeaderFault, IsDeepFault};
@@ -70,7 +71,7 @@ impl<'s, A: Allocator> Sets<'s, A> {
     // Whether two links name a header, or another directory's chain holds the root's.
     fn is_twice(&self, at: usize) -> bool
         requires { HasSlot self.now at }
-        ensures { IsTrue result ↔ BreaksHeader self.now Rule.LinkedTwice at }
+        ensures { IsTrue result ↔ BreaksHeader Usual self.now Rule.LinkedTwice at }
     {
         is_listed(self.twice, at) || at == self.volume.root && self.chains.root_elsewhere
     }
@@ -154,7 +155,7 @@ impl<'s, A: Allocator> Sets<'s, A> {
 /// file headers, or else its least header that is too deep.
 pub(crate) fn fault_of(header: Option<ImageFault>, deep: Option<u32>) -> Option<ImageFault>
     ensures { (profile : Profile) (b : List ℕ) → IsVolume b → IsHeaderFault profile (image b) header
-        → IsDeepFault (image b) header deep → IsFaultOfAs profile b result }
+        → IsDeepFault (image b) header deep → IsFaultOf profile b result }
 {
     match header {
         Some(fault) => Some(fault),

@@ -7,7 +7,7 @@
 //! every 16 bytes of the image or as a rising list (`slot_sets`); then it goes upward once over the
 //! headers that are reached (`judge`) and asks each for the first rule that it breaks (`header`);
 //! the depth is looked at last (`depth`). Each walk is a loop, and each visits a header a constant
-//! number of times. Its promise is `IsFaultOfAs`, of `romfs_format`.
+//! number of times. Its promise is `IsFaultOf`, of `romfs_format`.
 #![tactic(auto)]
 
 mod chains;

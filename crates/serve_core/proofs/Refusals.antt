@@ -7,7 +7,7 @@ use Rattle.stack_model.specs.declared.limits.TheConstants.{MAX_LAYERS}
 use Rattle.romfs_format.specs.declared.rule.Profile.{Profile}
 use Rattle.romfs_format.specs.declared.rule.Rule.{Rule}
 use Rattle.romfs_format.specs.declared.rule.ImageFault.{ImageFault}
-use Rattle.romfs_format.specs.Rules.{IsFaultAs, IsSoundAs}
+use Rattle.romfs_format.specs.Rules.{IsFault, IsSound}
 use Rattle.romfs_format.proofs.Faults.{one_fault, no_fault}
 use Rattle.serve_loop.specs.declared.stop.Stop.{Stop}
 use Rattle.serve_loop.specs.declared.stop.Stop.TheVariants.{Layer, Layers, BadLength, CutOff, Read, Write, Turns, Memory}
@@ -15,19 +15,19 @@ use Rattle.layer_check.specs.Layers.{IsFew, AreLayers, IsLowestBroken, AreRefuse
 
 -- of images that keep the rules up to one that does not, there is one number
 module _ (profile : Profile) (r s : Rule) (p q : ℕ) where
-  one_place : (xs ys us vs : List (List ℕ)) (a b : List ℕ) → All (IsSoundAs profile) xs → All (IsSoundAs profile) ys
-      → IsFaultAs profile a r p → IsFaultAs profile b s q
+  one_place : (xs ys us vs : List (List ℕ)) (a b : List ℕ) → All (IsSound profile) xs → All (IsSound profile) ys
+      → IsFault profile a r p → IsFault profile b s q
       → xs ++ a ∷ us ≡ ys ++ b ∷ vs → (length xs ≡ length ys) × (a ≡ b)
   one_place [] [] us vs a b f g x y e = (refl, cc)
   one_place [] (c ∷ ys) us vs a b f g x y e =
       let same : a ≡ c = cc in
-      absurd (no_fault profile c r p (All-head (IsSoundAs profile) c ys g) (subst (λ i. IsFaultAs profile i r p) same x))
+      absurd (no_fault profile c r p (All-head (IsSound profile) c ys g) (subst (λ i. IsFault profile i r p) same x))
   one_place (c ∷ xs) [] us vs a b f g x y e =
       let same : b ≡ c = cc in
-      absurd (no_fault profile c s q (All-head (IsSoundAs profile) c xs f) (subst (λ i. IsFaultAs profile i s q) same y))
+      absurd (no_fault profile c s q (All-head (IsSound profile) c xs f) (subst (λ i. IsFault profile i s q) same y))
   one_place (c ∷ xs) (d ∷ ys) us vs a b f g x y e =
       let rest : xs ++ a ∷ us ≡ ys ++ b ∷ vs = cc in
-      let one = one_place xs ys us vs a b (All-tail (IsSoundAs profile) c xs f) (All-tail (IsSoundAs profile) d ys g) x y rest in
+      let one = one_place xs ys us vs a b (All-tail (IsSound profile) c xs f) (All-tail (IsSound profile) d ys g) x y rest in
       (ap suc one.0, one.1)
 
 same_fault : (f g : ImageFault) → f.rule ≡ g.rule → f.place ≡ g.place → f ≡ g
@@ -38,17 +38,17 @@ one_broken : (profile : Profile) (images : List (List ℕ)) (m n : ℕ) (f g : I
 one_broken profile images m n f g x y =
     let at = one_place profile f.rule g.rule f.place g.place x.below y.below x.above y.above x.bytes y.bytes x.sound y.sound x.broken
     y.broken (sym x.images_are ∙ y.images_are) in
-    let one = one_fault profile y.bytes f.rule g.rule f.place g.place (subst (λ b. IsFaultAs profile b f.rule f.place) at.1 x.broken)
+    let one = one_fault profile y.bytes f.rule g.rule f.place g.place (subst (λ b. IsFault profile b f.rule f.place) at.1 x.broken)
     y.broken in
     let number : m ≡ n = x.layer_is ∙ at.0 ∙ sym y.layer_is in
     let fault : f ≡ g = same_fault f g one.0 one.1 in
     cc
 
 -- images that keep the rules have none that is broken
-pub none_broken : (profile : Profile) (xs us : List (List ℕ)) (a : List ℕ) (r : Rule) (p : ℕ) → All (IsSoundAs profile) (xs ++ a ∷ us)
-    → ¬ IsFaultAs profile a r p
-none_broken profile [] us a r p f x = no_fault profile a r p (All-head (IsSoundAs profile) a us f) x
-none_broken profile (c ∷ xs) us a r p f x = none_broken profile xs us a r p (All-tail (IsSoundAs profile) c (xs ++ a ∷ us) f) x
+pub none_broken : (profile : Profile) (xs us : List (List ℕ)) (a : List ℕ) (r : Rule) (p : ℕ) → All (IsSound profile) (xs ++ a ∷ us)
+    → ¬ IsFault profile a r p
+none_broken profile [] us a r p f x = no_fault profile a r p (All-head (IsSound profile) a us f) x
+none_broken profile (c ∷ xs) us a r p f x = none_broken profile xs us a r p (All-tail (IsSound profile) c (xs ++ a ∷ us) f) x
 
 module _ (profile : Profile) (images : List (List ℕ)) where
   -- no image, or more than the most layers, are not few
@@ -93,5 +93,5 @@ module _ (profile : Profile) (images : List (List ℕ)) where
         | inl e ↦ e
         | inr (inl a) ↦ absurd (not_few a.0 a.2 good.few)
         | inr (inr a) ↦ let b = a.3.1 in absurd (none_broken profile b.below b.above b.bytes a.1.rule a.1.place
-            (subst (All (IsSoundAs profile)) b.images_are good.sound) b.broken)
+            (subst (All (IsSound profile)) b.images_are good.sound) b.broken)
       ]

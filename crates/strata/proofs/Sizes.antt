@@ -5,7 +5,7 @@ use Rattle.std.proofs.lemmas.List.{map-append}
 use Rattle.std.proofs.lemmas.List.Elements.{All-push}
 use Rattle.romfs_format.specs.declared.rule.Profile.{Profile}
 use Rattle.romfs_format.specs.Fields.{image}
-use Rattle.romfs_format.specs.Rules.{IsSoundAs}
+use Rattle.romfs_format.specs.Rules.{IsSound}
 use Rattle.strata.specs.Faults.{AreSizes}
 
 -- the images before those that are left are good, and these are their sizes
@@ -25,12 +25,12 @@ none_sized v profile all = record {
 -- a good image goes from what is left to what is checked
 pub one_more : {X : Type 0} {v : X → List ℕ} {profile : Profile} {all : List (List ℕ)} {left : List X} {sizes : List ℕ}
     → AreSized v profile all left sizes → (x : X) (rest : List X) → left ≡ x ∷ rest → (full : ℕ) → full ≡ length (image (v x))
-    → IsSoundAs profile (v x) → AreSized v profile all rest (sizes ++ full ∷ [])
+    → IsSound profile (v x) → AreSized v profile all rest (sizes ++ full ∷ [])
 one_more {v = v} {profile} {sizes = sizes} s x rest l full f d = record {
   before = s.before ++ v x ∷ [];
   split = s.split ∙ ap (λ xs. s.before ++ map v xs) l ∙ sym (append_assoc s.before (v x ∷ []) (map v rest));
   good = record {
-    sound = All-push (IsSoundAs profile) s.before (v x) s.good.sound d;
+    sound = All-push (IsSound profile) s.before (v x) s.good.sound d;
     sizes_are = ap (λ xs. xs ++ full ∷ []) s.good.sizes_are ∙ ap (λ n. map (λ b. length (image b)) s.before ++ n ∷ []) f
         ∙ sym (map-append (λ b. length (image b)) s.before (v x ∷ []));
   };

@@ -3,7 +3,7 @@
 -- `has_done`, `has_stopped` and `has_ended` put a run together by the status of its last step.
 use Rattle.std.proofs.Common.{◌≡◌, ◌≢◌, ◌∙◌, sym, ap, subst, ℕ, ◌≤◌, ◌⊎◌, inl, inr, List, All, Option, Some, None, Err, refl, arith}
 use Rattle.romfs_format.specs.declared.rule.Profile.{Profile}
-use Rattle.romfs_format.specs.Rules.{IsSoundAs}
+use Rattle.romfs_format.specs.Rules.{IsSound}
 use Rattle.serve_loop.specs.declared.stop.Stop.{Stop}
 use Rattle.serve_loop.specs.declared.stop.Stop.TheVariants as stops
 use Rattle.command_line.specs.declared.options.Line.{Line}
@@ -136,7 +136,7 @@ refused_bad : (profile : Profile) (images : List (List ℕ)) (stop : Stop) → A
 refused_bad profile images (stops.Layers count) r e = inl (not_few profile images count r)
 refused_bad profile images (stops.Layer layer fault) r e =
     (let b = r.1 in inr (λ s. none_broken profile b.below b.above b.bytes fault.rule fault.place
-    (subst (All (IsSoundAs profile)) b.images_are s) b.broken))
+    (subst (All (IsSound profile)) b.images_are s) b.broken))
 refused_bad profile images stops.Memory r e = absurd (five_is_more e)
 refused_bad profile images (stops.BadLength at len) r e = absurd r
 refused_bad profile images (stops.CutOff at) r e = absurd r
@@ -199,7 +199,7 @@ work_bad A verbs.Check line images fault old new s e =
       | inl g ↦ elim g.0 [
         | inl r ↦ elim r.refused [
           | inl b ↦ inr (λ sound. none_broken (profile_of line) r.before r.after r.bytes b.0.rule b.0.place
-              (subst (All (IsSoundAs (profile_of line))) r.images_are sound) b.2)
+              (subst (All (IsSound (profile_of line))) r.images_are sound) b.2)
           | inr m ↦ absurd (five_is_more (three_of fault out_of_memory m e))
         ]
         | inr m ↦ absurd (five_is_more (three_of fault out_of_memory m e))

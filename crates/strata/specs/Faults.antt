@@ -3,7 +3,7 @@ use Rattle.std.specs.Prelude.{◌≡◌, ℕ, ◌⊎◌, List, ◌∷◌, ◌++�
 use Rattle.romfs_format.specs.declared.rule.Profile.{Profile}
 use Rattle.romfs_format.specs.declared.rule.ImageFault.{ImageFault}
 use Rattle.romfs_format.specs.Fields.{image}
-use Rattle.romfs_format.specs.Rules.{IsFaultAs, IsSoundAs}
+use Rattle.romfs_format.specs.Rules.{IsFault, IsSound}
 use Rattle.serve_loop.specs.declared.stop.Stop.{Stop}
 use Rattle.serve_loop.specs.declared.stop.Stop.TheVariants as stops
 use Rattle.command_line.specs.declared.options.LineFault.{LineFault}
@@ -65,12 +65,12 @@ list_told_of list.Memory = out_of_memory
 -- the bytes of this image break a rule of the profile, or memory ran out
 abbrev pub IsImageFault : Profile → ℕ → List ℕ → Fault → Type 0
 IsImageFault profile n b fault =
-    ((f : ImageFault) × (fault ≡ Broken n f) × IsFaultAs profile b f.rule f.place)
+    ((f : ImageFault) × (fault ≡ Broken n f) × IsFault profile b f.rule f.place)
     ⊎ (fault ≡ out_of_memory)
 
 -- these images all keep the rules of the profile, and these are their sizes
 pub record AreSizes (profile : Profile) (images : List (List ℕ)) (sizes : List ℕ) : Type 0 where
-  pub sound : All (IsSoundAs profile) images
+  pub sound : All (IsSound profile) images
   pub sizes_are : sizes ≡ map (λ b. length (image b)) images
 
 -- the images before this one are good, and why it was refused
@@ -80,7 +80,7 @@ pub record IsFirstRefused (profile : Profile) (images : List (List ℕ))
   pub after : List (List ℕ)
   pub bytes : List ℕ
   pub images_are : images ≡ before ++ bytes ∷ after
-  pub sound : All (IsSoundAs profile) before
+  pub sound : All (IsSound profile) before
   pub refused : IsImageFault profile (length before) bytes fault
 
 -- why images were refused: the fault of the first that is broken, or memory ran out

@@ -2,7 +2,7 @@
 use Rattle.std.specs.Prelude.{◌≡◌, ◌<◌, ℕ, ◌⊎◌, ⊤, List, ◌∷◌, ◌++◌, length, All, Ok, Err}
 use Rattle.std.specs.List.{AllByRecursion}
 use Rattle.romfs_format.specs.declared.rule.Profile.{Profile}
-use Rattle.romfs_format.specs.Rules.{IsSoundAs}
+use Rattle.romfs_format.specs.Rules.{IsSound}
 use Rattle.stack_table.specs.Stacked.{Stacked}
 use Rattle.reply_model.specs.declared.session.Session.{Session}
 use Rattle.romfs_format.specs.declared.rule.ImageFault.{ImageFault}
@@ -20,7 +20,7 @@ use Rattle.strata.specs.Ending.{profile_of, NamesAsMany}
 
 -- there are none or too many, or one of them breaks a rule of the profile
 abbrev pub AreBad : Profile → List (List ℕ) → Type 0
-AreBad profile images = (¬ IsFew (length images)) ⊎ (¬ All (IsSoundAs profile) images)
+AreBad profile images = (¬ IsFew (length images)) ⊎ (¬ All (IsSound profile) images)
 
 -- the words name as many images as these, and they are bad
 pub record AreToBlame (words : List (List ℕ)) : Type 0 where

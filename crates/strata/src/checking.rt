@@ -2,7 +2,7 @@
 
 ghost use Rattle.std.specs.Prelude.{◌≡◌, ◌<◌, ◌^◌, length, string_bytes, OnOk, IfOk, IfErr};
 ghost use Rattle.romfs_format.specs.Fields.{image};
-ghost use Rattle.romfs_format.specs.Rules.{IsSoundAs};
+ghost use Rattle.romfs_format.specs.Rules.{IsSound};
 ghost use Rattle.layer_check.specs.Layers.{contents_of};
 ghost use Rattle.strata.specs.Faults.{AreSizes, IsFirstFault, IsImageFault};
 ghost use Rattle.strata.specs.Texts.{size_lines};
@@ -71,7 +71,7 @@ fn checked_size<A: Allocator + Copy>(
     profile: Profile,
 ) -> Result<u32, Fault>
     ensures ok { IfOk result (λ full. (full ≡ length (image bytes.items))
-        × IsSoundAs profile bytes.items) }
+        × IsSound profile bytes.items) }
     ensures err { IfErr result (λ fault. IsImageFault profile number bytes.items fault) }
 {
     match Image::check_as(alloc, bytes, profile) {

@@ -1,7 +1,7 @@
 use Rattle.std.proofs.Common.{◌≡◌, ◌+◌, length, subst, sym, arith}
 use Rattle.std.proofs.lemmas.List.{length-map}
 use Rattle.std.specs.Vec.Iter.{into_iter_items}
-use Rattle.romfs_check.specs.Refusals.{IsRefusalAs}
+use Rattle.romfs_check.specs.Refusals.{IsRefusal}
 use Rattle.serve_loop.specs.declared.stop.Stop.TheVariants.{Layer}
 use Rattle.layer_check.specs.Checking.{IsBroken}
 use Rattle.layer_check.specs.Layers.{contents_of}
@@ -36,7 +36,7 @@ returns-in-Err-Broken g c =
       c.len-in-loop-bytes.ensures,
       c.loop-bytes.checked.ok,
     ) in
-    let broken = subst (λ fault. IsRefusalAs c.args.profile bytes.items fault) c.in-Err-Broken.field-0-is c.in-Err-Broken.ensures.err in
+    let broken = subst (λ fault. IsRefusal c.args.profile bytes.items fault) c.in-Err-Broken.field-0-is c.in-Err-Broken.ensures.err in
     let why = next_breaks c.loop-bytes.invariant.done bytes _ c.in-Some.ensures.steps.0 c.args.first c.len-in-loop-bytes.result
     c.in-Err-Broken.fault number broken in (
       tt,

@@ -1,6 +1,7 @@
 use Rattle.std.proofs.Common.{ℕ, List, refl, lit<, lit≤}
 use Rattle.romfs_format.specs.Fields.{IsInside}
 use Rattle.romfs_format.specs.declared.rule.Profile.{Profile}
+use Rattle.romfs_format.specs.declared.rule.Profile.TheVariants.{Usual}
 use Rattle.romfs_format.specs.declared.rule.Rule.TheVariants.{NameOpen, NameBad, DataOutside, TargetLong}
 use Rattle.romfs_format.specs.Rules.{BreaksHeader}
 use Rattle.romfs_rules.specs.Judge.{KeepsBefore}
@@ -9,18 +10,18 @@ use Rattle.romfs_rules.proofs.Verdict.{none_tried, one_tried, first_broken}
 use Rattle.romfs_rules.proofs.header.Header.first_of_bytes.Goals as goal
 
 module _ (profile : Profile) (a : List ℕ) (h : ℕ) (i : IsInside a h) where
-  name_ended : ¬ BreaksHeader a NameOpen h → KeepsBefore profile a h 8
+  name_ended : ¬ BreaksHeader Usual a NameOpen h → KeepsBefore profile a h 8
   name_ended x = one_tried profile a h NameOpen 7 refl (none_tried profile a h i) x
 
-  name_good : ¬ BreaksHeader a NameOpen h → ¬ BreaksHeader a NameBad h → KeepsBefore profile a h 9
+  name_good : ¬ BreaksHeader Usual a NameOpen h → ¬ BreaksHeader Usual a NameBad h → KeepsBefore profile a h 9
   name_good x y = one_tried profile a h NameBad 8 refl (name_ended x) y
 
-  data_inside : ¬ BreaksHeader a NameOpen h → ¬ BreaksHeader a NameBad h → ¬ BreaksHeader a DataOutside h
+  data_inside : ¬ BreaksHeader Usual a NameOpen h → ¬ BreaksHeader Usual a NameBad h → ¬ BreaksHeader Usual a DataOutside h
       → KeepsBefore profile a h 10
   data_inside x y z = one_tried profile a h DataOutside 9 refl (name_good x y) z
 
-  target_short : ¬ BreaksHeader a NameOpen h → ¬ BreaksHeader a NameBad h → ¬ BreaksHeader a DataOutside h
-      → ¬ BreaksHeader a TargetLong h → KeepsBefore profile a h 11
+  target_short : ¬ BreaksHeader Usual a NameOpen h → ¬ BreaksHeader Usual a NameBad h → ¬ BreaksHeader Usual a DataOutside h
+      → ¬ BreaksHeader Usual a TargetLong h → KeepsBefore profile a h 11
   target_short x y z w = one_tried profile a h TargetLong 10 refl (data_inside x y z) w
 
 pub returns-then-breaks_name_open : goal.returns-then-breaks_name_open
