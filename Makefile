@@ -4,7 +4,8 @@
 # make cases: the cases alone, on build/strata. make plant: sees that the cases notice wrong lines.
 # make mounted [STRATA=PROGRAM]: real mounts, looked at through the kernel.
 # make layers: tools/layers.py on layouts made on the spot, and, where umoci stands, on images that umoci makes.
-# make trials [CRATES=..]: tries the wrong bodies of trials/, over what make kept has kept; docs/trials.txt tells the last runs.
+# make trials [CRATES=..] [ONLY=EDIT]: tries the wrong bodies of trials/CRATE.edits, over what make kept has kept; trials/outcomes.txt tells
+# the last runs.
 # make bench: figures. make growth: how time and memory grow with nodes and layers, drawn in docs/growth.svg.
 # make fuzz [FUZZ=WORDS]: random and changed inputs, against a plain reading of the formats; WORDS are those of tools/fuzz.py,
 # as `--minutes 120 --seed 1000000 long device`.
@@ -54,7 +55,7 @@ plant: build/strata
 	$(PYTHON) tools/plant.py build/strata
 
 trials: needed
-	$(PYTHON) tools/trials.py $(CRATES)
+	$(PYTHON) tools/trials.py $(addprefix --only ,$(ONLY)) $(CRATES)
 
 bench: build/strata
 	$(PYTHON) tools/bench.py build/strata

@@ -1,9 +1,13 @@
 """Edits that put a wrong body into a crate, and which functions' bodies they change.
 
-A file `*.edit` has a line 'file: src/lib.rt' and then pairs of lines 'old: TEXT' and 'new: TEXT', as `rt` reads it.
+An edit has a line 'file: src/lib.rt' and then pairs of lines 'old: TEXT' and 'new: TEXT', as `rt` reads it; another file and
+its pairs may follow. A file `NAME.edit` has the edit of that name, a file `CRATE.edits` several, with a line 'name: NAME'
+before each.
 """
 import os
 import re
+
+NAMED = re.compile(r"(?m)^name: *(\S+)\n")
 
 
 class Misfit(Exception):
@@ -61,9 +65,9 @@ def parts_of(text):
 class Edit:
     """An edit, what it makes of the crate in this folder, and the bodies that it changes."""
 
-    def __init__(self, path, folder):
-        self.path, self.name = path, os.path.basename(path)[:-len(".edit")]
-        self.texts = applied(path, folder)
+    def __init__(self, name, written, folder):
+        self.name, self.written = name, written
+        self.texts = applied(written, folder)
         # the bodies, as places among those of a file, with their new texts; none where anything else is changed
         self.changes, self.keys = {}, set()
         for file, text in self.texts.items():
@@ -79,24 +83,37 @@ class Edit:
                     self.keys.add((file, body.cycle or body.name))
 
 
-def applied(path, folder):
+def written_in(path):
+    """The edits of a file, as they are written there, by their names."""
+    with open(path, encoding="utf-8") as it:
+        text = it.read()
+    if path.endswith(".edit"):
+        return {os.path.basename(path)[:-len(".edit")]: text}
+    before, *parts = NAMED.split(text)
+    names, edits = parts[::2], parts[1::2]
+    twice = sorted({name for name in names if names.count(name) > 1})
+    if before.strip() or twice:
+        raise Misfit("%s: %s" % (path, "%s stands twice" % twice[0] if twice else "it begins without a name"))
+    return {name: edit.rstrip("\n") + "\n" for name, edit in zip(names, edits)}
+
+
+def applied(written, folder):
     """The texts of the files that an edit changes, by their path in the crate."""
     file, old, texts = None, None, {}
-    with open(path, encoding="utf-8") as lines:
-        for line in lines.read().split("\n"):
-            word, _, rest = line.partition(":")
-            rest = rest[1:] if rest.startswith(" ") else rest
-            if word == "file":
-                file = rest.strip()
-            elif word == "old":
-                old = rest
-            elif word == "new" and file and old:
-                if file not in texts:
-                    with open("%s/%s" % (folder, file), encoding="utf-8") as it:
-                        texts[file] = it.read()
-                if texts[file].count(old) != 1:
-                    raise Misfit("%r stands %d times in %s" % (old, texts[file].count(old), file))
-                texts[file] = texts[file].replace(old, rest)
+    for line in written.split("\n"):
+        word, _, rest = line.partition(":")
+        rest = rest[1:] if rest.startswith(" ") else rest
+        if word == "file":
+            file = rest.strip()
+        elif word == "old":
+            old = rest
+        elif word == "new" and file and old:
+            if file not in texts:
+                with open("%s/%s" % (folder, file), encoding="utf-8") as it:
+                    texts[file] = it.read()
+            if texts[file].count(old) != 1:
+                raise Misfit("%r stands %d times in %s" % (old, texts[file].count(old), file))
+            texts[file] = texts[file].replace(old, rest)
     if not texts:
         raise Misfit("it changes nothing")
     return texts

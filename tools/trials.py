@@ -1,7 +1,8 @@
-"""Tries the wrong bodies of trials/CRATE/*.edit: python3 tools/trials.py [--all] [--jobs N] [CRATE..]
+"""Tries the wrong bodies of trials/CRATE.edits: python3 tools/trials.py [--all] [--only NAME].. [--jobs N] [CRATE..]
 
-The prover must refuse each. --all tries those of the crate's own must-fail/ too. The last line says how many were
-refused; the status is 0 where these are all. What a crate's run showed is its line of docs/trials.txt from then on.
+The prover must refuse each. --all tries those of the crate's own must-fail/ too, --only those of these names alone. The
+last line says how many were refused; the status is 0 where these are all. What a crate's run showed is written into
+trials/outcomes.txt: a run of all takes the place of the crate's earlier lines, one of some is a line below them.
 
 Each crate is laid into a scratch copy of the repository, with what `make kept` kept of it and of the crates below.
 Edits that change bodies alone, each another function's, are laid into it together, and one `rt check --only` of these
@@ -25,10 +26,10 @@ import sys
 import tempfile
 import time
 
-from trial_edits import Edit, Misfit, batches_of, bodies_of, together
+from trial_edits import Edit, Misfit, batches_of, bodies_of, together, written_in
 
 ROOT = os.path.dirname(os.path.dirname(os.path.abspath(__file__)))
-OUTCOMES = ROOT + "/docs/trials.txt"
+OUTCOMES = ROOT + "/trials/outcomes.txt"
 MOST = 12
 GOAL = re.compile(r"note: (?:\./)?(src/\S+):(\d+):\d+: (it is not proved that .*)")
 ERROR = re.compile(r"(?:\./)?((?:src|specs|proofs)/\S+):(\d+):\d+: error\S* (.*)")
@@ -184,7 +185,8 @@ class Trials:
                 return True, found
         self.lay({})
         os.makedirs(self.folder + "/must-fail")
-        shutil.copy(edit.path, self.folder + "/must-fail")
+        with open("%s/must-fail/%s.edit" % (self.folder, edit.name), "w", encoding="utf-8") as out:
+            out.write(edit.written)
         done = subprocess.run(["rt", "must-fail", self.crate], cwd=self.room, stdout=subprocess.PIPE,
                               stderr=subprocess.STDOUT, text=True, errors="replace", check=False)
         is_refused = ": refused, as it must be" in done.stdout
@@ -193,14 +195,14 @@ class Trials:
     def say(self, edit, text):
         print("%s %s: %s" % (self.crate, edit, text), flush=True)
 
-    def run(self, paths):
+    def run(self, written):
         """At what those of these edits were refused that are."""
         edits, kinds = [], []
-        for path in paths:
+        for name, text in written.items():
             try:
-                edits.append(Edit(path, self.kept))
+                edits.append(Edit(name, text, self.kept))
             except Misfit as why:
-                self.say(os.path.basename(path), "DOES NOT FIT: %s" % why)
+                self.say(name, "DOES NOT FIT: %s" % why)
         fit = [it for it in edits if self.named(it)]
         left = [it for it in edits if it not in fit]
         groups = batches_of(fit, MOST)
@@ -222,61 +224,84 @@ class Trials:
         return kinds
 
 
+def crates_with_trials():
+    return sorted(os.path.basename(path)[:-len(".edits")] for path in glob.glob(ROOT + "/trials/*.edits"))
+
+
 def commit():
     """The commit that is tried, with a + where its crates or trials were changed since."""
     def git(*words):
         return subprocess.run(["git", *words], cwd=ROOT, stdout=subprocess.PIPE, text=True, check=True).stdout.strip()
-    return git("rev-parse", "--short", "HEAD") + "+" * bool(git("status", "--porcelain", "--", "crates", "trials"))
+    changed = git("status", "--porcelain", "--", "crates", "trials", ":!trials/outcomes.txt")
+    return git("rev-parse", "--short", "HEAD") + "+" * bool(changed)
 
 
-def note(crate, outcome):
-    """Puts the outcome of a crate in place of its earlier one. Crates that have no trials any more are left out."""
+def note(crate, outcome, only):
+    """Writes the outcome of a crate, or of the edits of these names alone. Crates that have no trials any more are left out."""
+    part = "only %s: " % ", ".join(only) if only else ""
+
     def is_kept(line):
-        name = line.partition(":")[0]
-        return not line.startswith("#") and name != crate and os.path.isdir("%s/trials/%s" % (ROOT, name))
+        name, _, rest = line.partition(": ")
+        if name != crate:
+            return not line.startswith("#") and name in there
+        return only and not rest.startswith(part)
 
+    there = crates_with_trials()
     with open(OUTCOMES, encoding="utf-8") as kept:
         lines = kept.read().splitlines()
     heads = [it for it in lines if it.startswith("#")]
-    outcomes = sorted(["%s: %s" % (crate, outcome), *filter(is_kept, lines)])
+    outcomes = sorted([*filter(is_kept, lines), "%s: %s%s" % (crate, part, outcome)], key=lambda it: it.partition(":")[0])
     with open(OUTCOMES, "w", encoding="utf-8") as out:
         out.write("\n".join([*heads, *outcomes]) + "\n")
 
 
-def tried(crate, others, with_gate, jobs):
-    """How many edits of a crate there are, and how many of them were refused."""
-    folders = ["%s/trials/%s" % (ROOT, crate)] + ["%s/crates/%s/must-fail" % (ROOT, crate)] * with_gate
-    paths = [it for folder in folders for it in sorted(glob.glob(folder + "/*.edit"))]
+def edits_of(crate, with_gate, only):
+    """The edits of a crate as they are written, by their names: those of these names alone, where there are any."""
+    paths = glob.glob("%s/trials/%s.edits" % (ROOT, crate))
+    if with_gate:
+        paths += sorted(glob.glob("%s/crates/%s/must-fail/*.edit" % (ROOT, crate)))
+    try:
+        edits = {name: text for path in paths for name, text in written_in(path).items()}
+    except Misfit as why:
+        sys.exit(str(why))
+    return {name: text for name, text in edits.items() if name in only or not only}
+
+
+def tried(crate, others, edits, with_gate, only, jobs):
+    """How many of a crate's edits were refused."""
     begun = time.monotonic()
-    print("%s: %d edits" % (crate, len(paths)), flush=True)
+    print("%s: %d edits" % (crate, len(edits)), flush=True)
     with tempfile.TemporaryDirectory(prefix="trials-") as room:
         copied(crate, others, room)
-        kinds = Trials(crate, room, jobs).run(paths)
+        kinds = Trials(crate, room, jobs).run(edits)
     counts = "".join(", %d %s" % (kinds.count(it), it) for it in sorted(set(kinds)))
-    outcome = "%d of %d refused%s" % (len(kinds), len(paths), counts)
-    note(crate, "%s; %sat %s" % (outcome, "with those of the gate, " * with_gate, commit()))
+    outcome = "%d of %d refused%s" % (len(kinds), len(edits), counts)
+    note(crate, "%s; %sat %s, %s" % (outcome, "with those of the gate, " * with_gate, commit(), time.strftime("%Y-%m-%d")), only)
     print("%s: %s; %d s" % (crate, outcome, time.monotonic() - begun), flush=True)
-    return len(paths), len(kinds)
+    return len(kinds)
 
 
 def main(words):
-    wanted = argparse.ArgumentParser(prog="trials.py", description="Tries the wrong bodies of trials/CRATE/*.edit.")
+    wanted = argparse.ArgumentParser(prog="trials.py", description="Tries the wrong bodies of trials/CRATE.edits.")
     wanted.add_argument("crates", nargs="*", metavar="CRATE")
     wanted.add_argument("--all", action="store_true", help="those of the crate's must-fail/ too")
+    wanted.add_argument("--only", action="append", default=[], metavar="NAME", help="the edit of this name")
     wanted.add_argument("--jobs", default="2", help="the processors that a check may use")
     given = wanted.parse_args(words)
-    below = crates_below()
-    there = sorted(name for name in os.listdir(ROOT + "/trials") if os.path.isdir("%s/trials/%s" % (ROOT, name)))
+    below, there = crates_below(), crates_with_trials()
     unknown = [name for name in given.crates if name not in (below if given.all else there)]
     lost = [name for name in there if name not in below]
     if unknown or lost:
         sys.exit("no trials of %s" % ", ".join(unknown) if unknown else "trials of no crate: %s" % ", ".join(lost))
-    counts = [tried(name, below[name], given.all, given.jobs) for name in given.crates or there]
-    edits, refused = sum(it[0] for it in counts), sum(it[1] for it in counts)
+    edits = {crate: edits_of(crate, given.all, given.only) for crate in given.crates or there}
+    missing = [name for name in given.only if not any(name in it for it in edits.values())]
+    if missing:
+        sys.exit("no edit %s" % ", ".join(missing))
+    refused = sum(tried(crate, below[crate], it, given.all, given.only, given.jobs) for crate, it in edits.items() if it)
     used = resource.getrusage(resource.RUSAGE_CHILDREN)
     print("%d minutes of one processor" % ((used.ru_utime + used.ru_stime) / 60))
-    print("%d refused, %d not" % (refused, edits - refused))
-    sys.exit(0 if edits == refused else 1)
+    print("%d refused, %d not" % (refused, sum(map(len, edits.values())) - refused))
+    sys.exit(0 if refused == sum(map(len, edits.values())) else 1)
 
 
 if __name__ == "__main__":
