@@ -1,7 +1,8 @@
 # make test: the merge gate. It holds the public calls against their table, proves every crate from nothing, tries the wrong bodies, and runs all tests and cases.
 # make build: the proved program, as build/strata. make demo: shows it at work.
 # make kept: the same, proved so that `rt check` in a crate's folder and make trials then prove what has changed alone.
-# make doors: the public calls against their table. make links: all that README.md and docs/ name is there. Both want no proof.
+# make doors: the public calls against their table. make links: all that README.md and docs/ name is there. make crate_order: crates.txt
+# stands in the order of layers. None of these wants a proof.
 # make cases: the cases alone, on build/strata. make plant: sees that the cases notice wrong lines.
 # make mounted [STRATA=PROGRAM]: real mounts, looked at through the kernel.
 # make layers: tools/layers.py on layouts made on the spot, and, where umoci stands, on images that umoci makes.
@@ -14,7 +15,7 @@
 # make soak [MINUTES=20]: little memory by steps, the largest image, and random requests for so many minutes a part.
 # make demo_files: writes the images, requests and container image of demo/ once more, which give the same bytes.
 # Each of these starts a file of checks/ by `python3 checks NAME WORDS..`; `python3 checks` lists them.
-.PHONY: test build kept demo doors links cases layers mounted plant trials bench growth fuzz threads soak demo_files needed
+.PHONY: test build kept demo doors links crate_order cases layers mounted plant trials bench growth fuzz threads soak demo_files needed
 
 PYTHON = python3 -B
 CHECKS = $(PYTHON) checks
@@ -22,6 +23,7 @@ CHECKS = $(PYTHON) checks
 test: needed
 	$(CHECKS) doors
 	$(CHECKS) links
+	$(CHECKS) crate_order
 	rt ci
 	@mkdir -p build
 	@cp crates/strata_main/out/strata_main build/strata
@@ -49,7 +51,7 @@ demo: build/strata
 	@$(PYTHON) tools/show.py demo/requests.fuse build/replies
 	cat build/balances
 
-doors links: needed
+doors links crate_order: needed
 	$(CHECKS) $@
 
 cases: build/strata
