@@ -60,7 +60,8 @@ module _ (layers : List (List ℕ)) (entries : List Entry) where
   -- the fields of the place, and the text of a path
   unfoldable pub line_with : Place → List ℕ → List ℕ
   line_with p text =
-      fields_text (number entries p) (mode layers p) (nlink (stacked layers entries) p) (size_at layers p) p.0
+      fields_text (number entries p) (mode layers p) (nlink (stacked layers entries) p)
+      (size_at layers p) p.0
       ++ text ++ 10 ∷ []
 
   -- the line of a place and a path

@@ -38,7 +38,8 @@ module _ (stack : Stacked) where
 
   -- what a request gives and takes that is not refused, in order
   abbrev pub moved : Agreement → ℕ → Op → List Move
-  moved agreed node (at_node op) = option_map_or (gives_at agreed op) (node_of stack.entries node) []
+  moved agreed node (at_node op) =
+      option_map_or (gives_at agreed op) (node_of stack.entries node) []
   moved agreed node (silent op) = filter_map take_back (forgotten node op)
   moved agreed node (init major minor readahead flags) = []
   moved agreed node statfs = []

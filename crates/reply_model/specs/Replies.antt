@@ -35,7 +35,8 @@ module _ (stack : Stacked) where
   abbrev pub answer : Agreement → ℕ → Op → List ℕ
   answer agreed node (init major minor readahead flags) =
       init_out (if nat_lt 7 major then Version else Terms agreed.lasting minor readahead flags)
-  answer agreed node (at_node op) = option_map_or (answer_at agreed op) (node_of stack.entries node) []
+  answer agreed node (at_node op) =
+      option_map_or (answer_at agreed op) (node_of stack.entries node) []
   answer agreed node statfs = statfs_out (blocks_all stack.layers) (length (nodes stack.entries))
   answer agreed node (done op) = []
   answer agreed node (silent op) = []

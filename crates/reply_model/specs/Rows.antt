@@ -43,7 +43,8 @@ rows_answered entries form p offset size = fitting form size (rows_after entries
 module _ (stack : Stacked) where
   -- a row as READDIR gives it: off is its place, and its type the upper bits of the node's mode
   unfoldable pub dirent_of : Row → List ℕ
-  dirent_of r = dirent (number stack.entries r.1.place) r.0 (mode stack.layers r.1.place / 2 ^ 12) r.1.name
+  dirent_of r =
+      dirent (number stack.entries r.1.place) r.0 (mode stack.layers r.1.place / 2 ^ 12) r.1.name
 
   -- the same as READDIRPLUS gives it, with the node's entry; . and .. have none
   unfoldable pub direntplus_of : Row → List ℕ

@@ -74,7 +74,8 @@ module _ (stack : Stacked) where
   -- the rows of a directory, in this form
   abbrev pub lists : (Row → List ℕ) → ℕ → ℕ → Service
   lists form offset size =
-      let answered = λ (p : Place). flat_map form (rows_answered stack.entries form p offset size) in
+      let answered =
+      λ (p : Place). flat_map form (rows_answered stack.entries form p offset size) in
       record (tells unless_directory answered) {
         by_arguments = λ p. refused_rows form size (rows_after stack.entries p offset);
       }

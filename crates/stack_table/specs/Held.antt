@@ -61,7 +61,8 @@ pub record IsHeldDirectory (layers : List (List ℕ)) (entries : List Entry) (ro
   pub parent_is : directory.parent ≡ number entries (parent entries p)
   pub start : directory.rows_start ≤ directory.rows_end
   pub end : directory.rows_end ≤ length rows
-  pub rows_are : slice_range rows directory.rows_start directory.rows_end ≡ rows_of (stacked layers entries) p
+  pub rows_are : slice_range rows directory.rows_start directory.rows_end
+      ≡ rows_of (stacked layers entries) p
   pub keyed : AreKeyed directory.shared (slice_range keys directory.rows_start directory.rows_end)
       (names (slice_range rows directory.rows_start directory.rows_end))
 

@@ -17,18 +17,24 @@ placed place = (place.layer, place.header)
 module _ (stack : Stacked) where
   -- the number of the directory above; none where the place is no directory
   abbrev pub parent_of : ModelPlace → Option ℕ
-  parent_of p = if is_directory_at stack.layers p then Some (number stack.entries (parent stack.entries p)) else None
+  parent_of p =
+      if is_directory_at stack.layers p
+      then Some (number stack.entries (parent stack.entries p))
+      else None
 
   -- the number of the shown child with a name; none where the place is no directory
   abbrev pub child_of : ModelPlace → List ℕ → Option ℕ
   child_of p name =
-      if is_directory_at stack.layers p then option_map (number stack.entries) (child stack.entries p name) else None
+      if is_directory_at stack.layers p
+      then option_map (number stack.entries) (child stack.entries p name)
+      else None
 
   -- the shown children of a place, in the order of their names; empty where it is no directory
   abbrev pub rows_of : ModelPlace → List Line
   rows_of p =
       if is_directory_at stack.layers p
-      then map (λ c. record { number = number stack.entries c.place; name = c.name }) (children stack.entries p)
+      then map (λ c. record { number = number stack.entries c.place; name = c.name })
+      (children stack.entries p)
       else []
 
 -- the number is the node's, and the node says its place and kind
