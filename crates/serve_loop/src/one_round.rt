@@ -3,16 +3,15 @@
 ghost use Rattle.std.specs.Prelude.{◌≡◌, ◌≤◌, ◌^◌, ◌++◌, ℕ, List, length, IfOk};
 ghost use Rattle.reply_model.specs.declared.session.Session.{Session};
 ghost use Rattle.lookup_balances.specs.Balances.{AreWithin};
-ghost use Rattle.serve_loop.specs.Rounds.{Answering, change, AppendsRound};
+ghost use Rattle.serve_loop.specs.Rounds.{Answering, output, AppendsRound};
 
 use fuse_wire::Replies;
 use reply_model::Session;
 use std::alloc::{AllocError, Allocator};
-use std::thread::Threads;
 
 /// How far a round went.
 #[derive(Clone, Copy, Debug, PartialEq, Eq)]
-pub struct Round {
+pub struct RoundEnd {
     /// How many bytes its messages have.
     pub used: usize,
     /// How many messages it answered.
@@ -22,7 +21,7 @@ pub struct Round {
 }
 
 /// What answers rounds.
-pub trait Rounds {
+pub trait AnswersRounds {
     ghost answering: { Self → Answering };
 
     ghost nodes: { Self → ℕ };
@@ -42,21 +41,18 @@ pub trait Rounds {
     /// if one is whole. Appends their replies, and adds what they move to the balances, in which
     /// node n has the place n - 1.
     ///
-    /// Workers may be started on the runtime, and memory for them comes from `alloc`. Where memory
-    /// is refused, the replies and the balances may hold a part of the round.
-    fn answer_round<R: Threads + Sync, A: Allocator + Copy + Send + Sync>(
+    /// Where memory is refused, the replies and the balances may hold a part of the round.
+    fn answer_round<A: Allocator>(
         &self,
-        rt: &R,
-        alloc: A,
         stream: &[u8],
         session: Session,
         replies: &mut Replies<A>,
         balances: &mut [i128],
-    ) -> Result<Round, AllocError>
+    ) -> Result<RoundEnd, AllocError>
         requires ready { ready self.now }
         requires nodes { length balances.old ≡ nodes self.now }
         requires within { AreWithin (2 ^ 122) balances.old }
         requires short { length stream.now ≤ 2 ^ 57 }
         ensures { IfOk result (λ round. AppendsRound (answering self.now) session stream.now round
-            replies.old.items replies.new.items (change balances.old balances.new)) };
+            (output replies.old.items balances.old) (output replies.new.items balances.new)) };
 }

@@ -1,18 +1,13 @@
-//! Why serving stopped.
+//! Why serving a stream stopped.
 
 ghost use Rattle.std.specs.Prelude.{◌≡◌};
-ghost use Rattle.serve_loop.specs.declared.stop.Stop.TheVariants.{Memory};
+ghost use Rattle.serve_loop.specs.declared.stream_fault.StreamFault.TheVariants.{Memory};
 
-use romfs_format::ImageFault;
 use std::alloc::{AllocError, AllocFailed};
 
 /// Why a stream was not served to its end.
 #[derive(Clone, Copy, Debug, PartialEq, Eq)]
-pub enum Stop {
-    /// The image of this layer, from 0 on, breaks a rule, and is the lowest that does.
-    Layer { layer: u16, fault: ImageFault },
-    /// There are so many images: none, or more than 128.
-    Layers { count: u64 },
+pub enum StreamFault {
     /// The message that begins at this place of the stream says a length that no message has.
     BadLength { at: u64, len: u32 },
     /// The stream ends inside the message that begins at this place.
@@ -27,18 +22,18 @@ pub enum Stop {
     Memory,
 }
 
-impl From<AllocError> for Stop {
-    ghost from_gives = { λ _ stop. stop ≡ Memory };
+impl From<AllocError> for StreamFault {
+    ghost from_gives = { λ _ fault. fault ≡ Memory };
 
-    fn from(_error: AllocError) -> Stop {
-        Stop::Memory
+    fn from(_error: AllocError) -> StreamFault {
+        StreamFault::Memory
     }
 }
 
-impl<T: Drop> From<AllocFailed<T>> for Stop {
-    ghost from_gives = { λ _ stop. stop ≡ Memory };
+impl<T: Drop> From<AllocFailed<T>> for StreamFault {
+    ghost from_gives = { λ _ fault. fault ≡ Memory };
 
-    fn from(_error: AllocFailed<T>) -> Stop {
-        Stop::Memory
+    fn from(_error: AllocFailed<T>) -> StreamFault {
+        StreamFault::Memory
     }
 }

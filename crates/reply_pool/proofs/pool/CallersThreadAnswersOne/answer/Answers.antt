@@ -7,7 +7,7 @@ use Rattle.reply_model.specs.Replies.{reply}
 use Rattle.reply_model.specs.Sessions.{session_after}
 use Rattle.lookup_balances.specs.Balances.{IsMoved}
 use Rattle.reply_pieces.proofs.Light.{message_light}
-use Rattle.reply_pool.proofs.pool.OneRoundAnswersOne.answer.Goals as goal
+use Rattle.reply_pool.proofs.pool.CallersThreadAnswersOne.answer.Goals as goal
 
 pub returns : goal.returns
 returns g c =
