@@ -16,7 +16,7 @@ from checks import ROOT
 
 PROMISES = "docs/PROMISES.md"
 LAYERS = ("romfs_image", "layer_tree", "stack_core", "node_table", "fuse_wire", "fuse_answer", "draw_board", "reply_pool",
-          "serve_core", "strata")
+          "stack_prepare", "serve_core", "strata")
 # A module of a layer whose functions callers name, too.
 MODULES = ("romfs_image/src/sample.rt",)
 # What tests share.

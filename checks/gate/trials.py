@@ -225,8 +225,8 @@ def edits_of(crate, with_gate, only):
     return {name: text for name, text in edits.items() if name in only or not only}
 
 
-def tried(crate, others, edits, with_gate, only, jobs):
-    """How many of a crate's edits were refused."""
+def tried(crate, others, edits, with_gate, is_whole, jobs):
+    """How many of these edits of a crate were refused."""
     begun = time.monotonic()
     print("%s: %d edits" % (crate, len(edits)), flush=True)
     with tempfile.TemporaryDirectory(prefix="trials-") as room:
@@ -234,7 +234,8 @@ def tried(crate, others, edits, with_gate, only, jobs):
         kinds = Trials(crate, room, jobs).run(edits)
     counts = "".join(", %d %s" % (kinds.count(it), it) for it in sorted(set(kinds)))
     outcome = "%d of %d refused%s" % (len(kinds), len(edits), counts)
-    note(crate, "%s; %sat %s, %s" % (outcome, "with those of the gate, " * with_gate, commit(), time.strftime("%Y-%m-%d")), only)
+    dated = "%s; %sat %s, %s" % (outcome, "with those of the gate, " * with_gate, commit(), time.strftime("%Y-%m-%d"))
+    note(crate, dated, [] if is_whole else edits)
     print("%s: %s; %d s" % (crate, outcome, time.monotonic() - begun), flush=True)
     return len(kinds)
 
@@ -255,7 +256,7 @@ def main(words):
     missing = [name for name in given.only if not any(name in it for it in edits.values())]
     if missing:
         sys.exit("no edit %s" % ", ".join(missing))
-    refused = sum(tried(crate, below[crate], it, given.all, given.only, given.jobs) for crate, it in edits.items() if it)
+    refused = sum(tried(crate, below[crate], it, given.all, not given.only, given.jobs) for crate, it in edits.items() if it)
     used = resource.getrusage(resource.RUSAGE_CHILDREN)
     print("%d minutes of one processor" % ((used.ru_utime + used.ru_stime) / 60))
     print("%d refused, %d not" % (refused, sum(map(len, edits.values())) - refused))

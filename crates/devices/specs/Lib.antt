@@ -1,3 +1,4 @@
 pub mod Counting
 pub mod Pushing
 pub mod States
+pub mod Examples

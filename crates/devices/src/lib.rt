@@ -5,13 +5,16 @@
 //!   failure that it was the device's.
 //! - [`Tap`] is a source over any reader of std, [`Spout`] a sink over any writer.
 //! - [`hand_on`] pushes all of some bytes to a sink, and then flushes it.
+//! - [`limits`] has the most bytes of a pull, and the most pulls.
 //!
 //! What a call changes is said in `specs/Counting`, one function a call: a count stays at 2^64 - 1.
 //! No call takes memory beyond what the reader or writer takes. The crate stands on std alone.
 #![tactic(auto)]
 
 pub mod counts;
+pub mod examples;
 pub mod failed;
+pub mod limits;
 mod push;
 mod sink;
 mod source;

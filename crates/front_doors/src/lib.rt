@@ -9,4 +9,5 @@ pub mod answers;
 pub mod images;
 pub mod program;
 pub mod streams;
+pub mod tables;
 pub mod trees;

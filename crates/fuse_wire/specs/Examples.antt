@@ -1,7 +1,7 @@
 -- Worked examples: what each opcode asks, and rows of directories as bytes.
 use Rattle.std.specs.Prelude.{◌≡◌, ℕ, ◌^◌, List, [], ◌∷◌, ◌++◌, map, replicate, codes}
 use Rattle.fuse_wire.specs.declared.flags.TheConstants.{ASYNC_READ, EXPORT_SUPPORT, DO_READDIRPLUS, READDIRPLUS_AUTO, NO_OPEN_SUPPORT, PARALLEL_DIROPS, MAX_PAGES, CACHE_SYMLINKS, NO_OPENDIR_SUPPORT, FOPEN_KEEP_CACHE, FOPEN_CACHE_DIR}
-use Rattle.fuse_wire.specs.declared.limits.TheConstants.{HEADER_SIZE, OUT_HEADER_SIZE, MAX_DATA_SIZE, MAX_READAHEAD, MAX_WRITE, MAX_MESSAGE_SIZE, MAX_REPLY_SIZE, MAX_NAME_SIZE, MAX_FORGETS, MAX_ROUND_MESSAGES, ENOUGH_REPLIES, PULL_SIZE, MAX_TURNS}
+use Rattle.fuse_wire.specs.declared.limits.TheConstants.{HEADER_SIZE, OUT_HEADER_SIZE, MAX_DATA_SIZE, MAX_READAHEAD, MAX_WRITE, MAX_MESSAGE_SIZE, MAX_REPLY_SIZE, MAX_NAME_SIZE, MAX_FORGETS}
 use Rattle.fuse_wire.specs.Requests.{init, at_node, lookup, getattr, readlink, open_file, read, opendir, readdir, readdirplus, statfs, done, release, fsync, flush, releasedir, fsyncdir, destroy, silent, forget, batch_forget, interrupt, modify, other, malformed, op_of, asked}
 use Rattle.fuse_wire.specs.Structures.{u32, u64, zeros, dirent}
 
@@ -93,7 +93,7 @@ pub record FlagExamples : Type 0 where
   pub keep_cache : FOPEN_KEEP_CACHE ≡ 2 ^ 1
   pub cache_dir : FOPEN_CACHE_DIR ≡ 2 ^ 3
 
--- the limits of messages, replies and rounds
+-- the limits of messages and replies
 pub record LimitExamples : Type 0 where
   pub header : HEADER_SIZE ≡ 40
   pub out_header : OUT_HEADER_SIZE ≡ 16
@@ -104,7 +104,3 @@ pub record LimitExamples : Type 0 where
   pub reply : MAX_REPLY_SIZE ≡ 1048592
   pub name : MAX_NAME_SIZE ≡ 255
   pub forgets : MAX_FORGETS ≡ 65789
-  pub round : MAX_ROUND_MESSAGES ≡ 256
-  pub enough : ENOUGH_REPLIES ≡ 262144
-  pub pull : PULL_SIZE ≡ 65536
-  pub turns : MAX_TURNS ≡ 2 ^ 40

@@ -1,4 +1,4 @@
-//! The limits of messages, replies and rounds, each said once: code reads the constants, and
+//! The limits of messages and replies, each said once: code reads the constants, and
 //! definitions, clauses and proofs name the same ones. Where Linux gives a limit, its name there
 //! stands beside it; the others are this project's.
 
@@ -35,17 +35,3 @@ pub const MAX_NAME_SIZE: u32 = 255;
 /// The most nodes that one message forgets: as many items of 16 bytes as the longest
 /// `FUSE_BATCH_FORGET` has room for behind 8 bytes of its own.
 pub const MAX_FORGETS: usize = (MAX_MESSAGE_SIZE - HEADER_SIZE - 8) / 16;
-
-/// The most messages that one round answers. This project's.
-pub const MAX_ROUND_MESSAGES: usize = 256;
-
-/// How many bytes of replies end a round, which then has fewer than these and one reply more:
-/// 256 KiB. This project's.
-pub const ENOUGH_REPLIES: usize = 262_144;
-
-/// The most bytes of one pull from a source: 64 KiB. This project's.
-pub const PULL_SIZE: usize = 65_536;
-
-/// The most pulls of one run, so that all bytes of a stream are counted in 64 bits, and of one file
-/// that is read whole. This project's.
-pub const MAX_TURNS: u64 = 1 << 40;

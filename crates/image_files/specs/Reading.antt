@@ -2,7 +2,7 @@
 use Rattle.std.specs.Prelude.{◌≡◌, ◌≤◌, ◌⊎◌, Some, Result, Ok, Err}
 use Rattle.devices.specs.declared.counts.LastPull.TheVariants.{End, Failure}
 use Rattle.devices.specs.declared.counts.Pulls.{Pulls}
-use Rattle.fuse_wire.specs.declared.limits.TheConstants.{MAX_TURNS}
+use Rattle.devices.specs.declared.limits.TheConstants.{MAX_TURNS}
 use Rattle.image_files.specs.declared.whole.ReadFault.{ReadFault}
 use Rattle.image_files.specs.declared.whole.ReadFault.TheVariants.{Failed, Memory}
 

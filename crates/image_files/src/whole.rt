@@ -6,14 +6,11 @@ ghost use Rattle.devices.specs.Counting.{no_pulls};
 ghost use Rattle.image_files.specs.declared.whole.ReadFault.TheVariants.{Memory};
 ghost use Rattle.image_files.specs.Reading.{IsReadThrough};
 
+use devices::limits::{MAX_TURNS, PULL_SIZE};
 use devices::{Source, Tap};
-use fuse_wire::limits::MAX_TURNS;
 use std::alloc::{AllocError, Allocator};
 use std::fs::OpenFile;
 use std::io::Read;
-
-// How many bytes a read asks for.
-const ROOM: usize = 65_536;
 
 /// Why there are no bytes.
 #[derive(Clone, Copy)]
@@ -57,7 +54,7 @@ fn read_all<S: Source, A: Allocator>(
     ensures pulls { IsReadThrough (S.state source.new).counts result }
 {
     let mut bytes = Vec::with_capacity(alloc, length)?;
-    let mut room = [0u8; ROOM];
+    let mut room = [0u8; PULL_SIZE];
     for _pull in 0..MAX_TURNS {
         match source.pull(&mut room) {
             Ok(0) => return Ok(bytes),

@@ -17,8 +17,8 @@ use Rattle.reply_model.specs.Sessions.{session_after}
 use Rattle.reply_model.specs.Streams.{moves_by, replies_by, session_at}
 use Rattle.lookup_balances.specs.Balances.{balance_at, IsLight, IsMoved}
 use Rattle.lookup_balances.proofs.Sums.{light_on}
-use Rattle.serve_loop.specs.declared.round.Round.{Round}
-use Rattle.serve_loop.specs.Rounds.{AppendsRound, AreFirst, Balances, joined}
+use Rattle.serve_loop.specs.declared.one_round.RoundEnd.{RoundEnd}
+use Rattle.serve_loop.specs.Rounds.{AppendsRound, AreFirst, Output, joined}
 use Rattle.serve_loop.proofs.Walking.{first_on, none_first, one_first, session_append}
 use Rattle.reply_pieces.specs.declared.pieces.Piece.{Piece}
 use Rattle.reply_pieces.specs.declared.gathered.RoundPieces.{RoundPieces}
@@ -43,7 +43,7 @@ none_taken s stream js none = subst (AreFirstJobs s stream (record { used = 0; m
     (record { messages = []; first = none_first stream; count = refl; session = refl; as_jobs = tt })
 
 -- one message more, as the code cuts it
-pub one_taken : (s : Session) (stream : List ℕ) (round : Round) (js all : List Job) (rest : List ℕ) (len : ℕ) (after : Session) (job : Job)
+pub one_taken : (s : Session) (stream : List ℕ) (round : RoundEnd) (js all : List Job) (rest : List ℕ) (len : ℕ) (after : Session) (job : Job)
     → AreFirstJobs s stream round js → rest ≡ drop round.used stream → BeginsMessage rest len → job.0 ≡ round.session
     → asked_of job.1 ≡ asked (take len rest) → after ≡ session_after round.session (asked (take len rest)).op → all ≡ js ++ job ∷ []
     → AreFirstJobs s stream (record { used = round.used + len; messages = round.messages + 1; session = after }) all
@@ -109,13 +109,13 @@ moved_same : (xs ys : List Move) (a b : List ℤ) → ((node : ℕ) → balance 
 moved_same xs ys a b e m = record { same = m.same; each = λ i h. (m.each i h ∙ ap (λ z. balance_at a i +ℤ z) (e (i + 1))) }
 
 -- the pieces of all batches of the first messages' jobs, appended in order, are a round
-pub by_jobs : {A : Type 0} (first : Session) (stack : Stacked) (s : Session) (stream : List ℕ) (round : Round) (jobs : List Job) (size : ℕ)
-    (pieces : List (Piece A)) (old new : List ℕ) (b : Balances) → 1 ≤ size → ((k : ℕ) → slice_index stream k < 256)
+pub by_jobs : {A : Type 0} (first : Session) (stack : Stacked) (s : Session) (stream : List ℕ) (round : RoundEnd) (jobs : List Job) (size : ℕ)
+    (pieces : List (Piece A)) (old new : Output) → 1 ≤ size → ((k : ℕ) → slice_index stream k < 256)
     → AreFirstJobs s stream round jobs → (0 < round.messages) ⊎ IsRest (drop round.used stream) → AnswerAll stack jobs size pieces
-    → AreAppended pieces old new b → AppendsRound (answering first stack) s stream round old new b
-by_jobs first stack s stream round jobs size pieces old new b some bytes f o a p = (
+    → AreAppended pieces old new → AppendsRound (answering first stack) s stream round old new
+by_jobs first stack s stream round jobs size pieces old new some bytes f o a p = (
   replies_by (reply stack) s (map asked f.messages),
-  p.bytes ∙ ap (λ (v : List ℕ). old ++ v) ((whole stack jobs size pieces some a.answered a.once).replies p.ordered p.order
+  p.bytes ∙ ap (λ (v : List ℕ). old.replies ++ v) ((whole stack jobs size pieces some a.answered a.once).replies p.ordered p.order
       ∙ jobs_told stack s f.messages jobs f.as_jobs),
   record {
     messages = f.messages;
@@ -125,7 +125,7 @@ by_jobs first stack s stream round jobs size pieces old new b some bytes f o a p
       session = f.session;
       told = refl;
       moves = moved_same (flat_map (λ piece. piece.moves.items) p.ordered) (moves_by (moves stack) s
-          (map asked f.messages)) b.old b.new
+          (map asked f.messages)) old.balances new.balances
           (λ node. (all_move stack jobs size pieces p.ordered node some a.answered a.once p.order
           ∙ ap (balance node) (jobs_moved stack s f.messages jobs f.as_jobs))) p.moves;
       light = messages_light stack s f.messages f.first.each
@@ -137,9 +137,8 @@ by_jobs first stack s stream round jobs size pieces old new b some bytes f o a p
 )
 
 -- the same of what workers gave back
-pub by_spread : {A : Type 0} (first : Session) (stack : Stacked) (s : Session) (stream : List ℕ) (spread : RoundPieces A) (old new : List ℕ)
-    (b : Balances)
-    → SpreadsOut stack s stream spread → AreAppended spread.pieces.items old new b
-    → AppendsRound (answering first stack) s stream spread.round old new b
-by_spread first stack s stream spread old new b o a =
-    by_jobs first stack s stream spread.round o.jobs o.size spread.pieces.items old new b o.sized o.bytes o.first o.some o.answered a
+pub by_spread : {A : Type 0} (first : Session) (stack : Stacked) (s : Session) (stream : List ℕ) (spread : RoundPieces A) (old new : Output)
+    → SpreadsOut stack s stream spread → AreAppended spread.pieces.items old new
+    → AppendsRound (answering first stack) s stream spread.round old new
+by_spread first stack s stream spread old new o a =
+    by_jobs first stack s stream spread.round o.jobs o.size spread.pieces.items old new o.sized o.bytes o.first o.some o.answered a

@@ -1,7 +1,7 @@
 -- A round of a stream as jobs, and what its pieces come to.
 use Rattle.std.specs.Prelude.{◌≡◌, ℕ, ◌<◌, ◌≤◌, ◌^◌, ◌⊎◌, List, [], ◌∷◌, ◌++◌, length, drop, map, slice_index}
 use Rattle.std.specs.List.{All, flat_map, range_with_len}
-use Rattle.fuse_wire.specs.declared.limits.TheConstants.{MAX_ROUND_MESSAGES}
+use Rattle.serve_loop.specs.declared.limits.TheConstants.{MAX_ROUND_MESSAGES}
 use Rattle.fuse_wire.specs.Reads.{asked_of}
 use Rattle.fuse_wire.specs.Requests.{asked}
 use Rattle.fuse_wire.specs.Stream.{IsRest}
@@ -11,8 +11,8 @@ use Rattle.reply_model.specs.declared.session.Session.{Session}
 use Rattle.reply_model.specs.Sessions.{session_after}
 use Rattle.reply_model.specs.Streams.{session_at}
 use Rattle.lookup_balances.specs.Balances.{IsMoved}
-use Rattle.serve_loop.specs.declared.round.Round.{Round}
-use Rattle.serve_loop.specs.Rounds.{AreFirst, Balances}
+use Rattle.serve_loop.specs.declared.one_round.RoundEnd.{RoundEnd}
+use Rattle.serve_loop.specs.Rounds.{AreFirst, Output}
 use Rattle.reply_pieces.specs.declared.pieces.Piece.{Piece}
 use Rattle.reply_pieces.specs.declared.gathered.RoundPieces.{RoundPieces}
 use Rattle.reply_pieces.specs.Batches.{AreEachOnce, AreLight, AreOrdered, IsPiece, batches, numbers_of}
@@ -27,7 +27,7 @@ AreJobs s (m ∷ messages) (job ∷ jobs) =
     (job.0 ≡ s) × (asked_of job.1 ≡ asked m) × AreJobs (session_after s (asked m).op) messages jobs
 
 -- some of the first messages of a stream, as jobs
-pub record AreFirstJobs (s : Session) (stream : List ℕ) (round : Round)
+pub record AreFirstJobs (s : Session) (stream : List ℕ) (round : RoundEnd)
     (jobs : List Job) : Type 0 where
   pub messages : List (List ℕ)
   pub first : AreFirst stream messages round.used
@@ -62,9 +62,8 @@ pub record SpreadsOut {A : Type 0} (stack : Stacked) (s : Session) (stream : Lis
   pub once : AreEachOnce spread.pieces.items
 
 -- bytes of pieces are appended in the order of their numbers, and their moves added to balances
-pub record AreAppended {A : Type 0} (pieces : List (Piece A)) (old new : List ℕ)
-    (b : Balances) : Type 0 where
+pub record AreAppended {A : Type 0} (pieces : List (Piece A)) (old new : Output) : Type 0 where
   pub ordered : List (Piece A)
   pub order : AreOrdered pieces ordered
-  pub bytes : new ≡ old ++ flat_map (λ piece. piece.bytes.items) ordered
-  pub moves : IsMoved (flat_map (λ piece. piece.moves.items) ordered) b.old b.new
+  pub bytes : new.replies ≡ old.replies ++ flat_map (λ piece. piece.bytes.items) ordered
+  pub moves : IsMoved (flat_map (λ piece. piece.moves.items) ordered) old.balances new.balances

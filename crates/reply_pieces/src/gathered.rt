@@ -5,7 +5,7 @@ ghost use Rattle.std.specs.List.{flat_map};
 ghost use Rattle.stack_model.specs.Listing.{Stacked};
 ghost use Rattle.reply_model.specs.declared.session.Session.{Session};
 ghost use Rattle.lookup_balances.specs.Balances.{AreWithin, IsMoved, weight};
-ghost use Rattle.serve_loop.specs.Rounds.{Answering, change, AppendsRound};
+ghost use Rattle.serve_loop.specs.Rounds.{Answering, output, AppendsRound};
 ghost use Rattle.reply_pieces.specs.Answers.{answering};
 ghost use Rattle.reply_pieces.specs.Batches.{AreEachOnce, AreLight};
 ghost use Rattle.reply_pieces.specs.Spread.{SpreadsOut};
@@ -13,14 +13,14 @@ ghost use Rattle.reply_pieces.specs.Spread.{SpreadsOut};
 use crate::pieces::{Piece, sort_by_number};
 use fuse_wire::Replies;
 use lookup_balances::add_moves;
-use serve_loop::Round;
+use serve_loop::RoundEnd;
 use std::alloc::{AllocError, Allocator};
 
 /// Some of the first messages of a stream, answered by workers.
 #[derive(Drop)]
 pub struct RoundPieces<A: Allocator> {
     /// How far they go.
-    pub round: Round,
+    pub round: RoundEnd,
     /// What their batches are answered with, in the order in which the workers ended.
     pub pieces: Vec<Piece<A>, A>,
 }
@@ -36,12 +36,12 @@ pub trait Gathered {
         self,
         replies: &mut Replies<A>,
         balances: &mut [i128],
-    ) -> Result<Round, AllocError>
+    ) -> Result<RoundEnd, AllocError>
         requires whole { whole self }
         requires within { AreWithin (2 ^ 122) balances.old }
         ensures { IfOk result (λ round. (by : Answering) (s : Session) (stream : List ℕ) →
             answers self by s stream → AppendsRound by s stream round
-            replies.old.items replies.new.items (change balances.old balances.new)) };
+            (output replies.old.items balances.old) (output replies.new.items balances.new)) };
 }
 
 impl<A: Allocator> Gathered for RoundPieces<A> {
@@ -55,7 +55,7 @@ impl<A: Allocator> Gathered for RoundPieces<A> {
         self,
         replies: &mut Replies<B>,
         balances: &mut [i128],
-    ) -> Result<Round, AllocError> {
+    ) -> Result<RoundEnd, AllocError> {
         let RoundPieces { round, mut pieces } = self;
         sort_by_number(&mut pieces);
         append_all(&pieces, replies, balances)?;

@@ -1,3 +1,4 @@
+pub mod Pools
 pub use Rattle.reply_pieces.specs.Sums
 pub use Rattle.round_plan.specs.Plans
 pub use Rattle.reply_pieces.specs.Jobs

@@ -1,7 +1,7 @@
 //! Requests that were read before, answered one after another.
 
 ghost use Rattle.std.specs.Prelude.{◌≡◌, ◌+◌, ◌≤◌, ◌^◌, ◌++◌, length, IfOk, OnOk};
-ghost use Rattle.fuse_wire.specs.declared.limits.TheConstants.{MAX_ROUND_MESSAGES};
+ghost use Rattle.serve_loop.specs.declared.limits.TheConstants.{MAX_ROUND_MESSAGES};
 ghost use Rattle.fuse_answer.specs.Puts.{AreSmall};
 ghost use Rattle.fuse_wire.specs.Reads.{asked_of};
 ghost use Rattle.lookup_balances.specs.Balances.{weight};

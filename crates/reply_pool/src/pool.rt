@@ -1,22 +1,21 @@
 //! The rounds of a serving loop.
 
-ghost use Rattle.std.specs.Prelude.{◌≡◌, ◌≤◌, ◌^◌, ℕ, length, IfOk, IfSome};
-ghost use Rattle.fuse_wire.specs.declared.limits.TheConstants.{MAX_ROUND_MESSAGES};
+ghost use Rattle.std.specs.Prelude.{◌≡◌, ◌≤◌, ◌^◌, length, IfOk, IfSome};
+ghost use Rattle.serve_loop.specs.declared.limits.TheConstants.{MAX_ROUND_MESSAGES};
 ghost use Rattle.stack_model.specs.Numbers.{nodes};
 ghost use Rattle.lookup_balances.specs.Balances.{AreWithin};
-ghost use Rattle.serve_loop.specs.Rounds.{change, AppendsAnswer};
+ghost use Rattle.serve_loop.specs.Rounds.{output, AppendsAnswer};
 ghost use Rattle.reply_pieces.specs.Answers.{answering};
-ghost use Rattle.reply_pieces.specs.Spread.{IsSpreadable};
+ghost use Rattle.reply_pool.specs.Pools.{SpreadsRounds};
 
 use fuse_answer::{after, answer_and_move};
 use fuse_wire::{Replies, Request};
 use reply_model::Session;
 use reply_pieces::Gathered;
 use round_plan::{LookupsAhead, Plan, pass_batch, worth_workers};
-use serve_loop::{AnswersOne, Round, Rounds, walk};
+use serve_loop::{AnswersOne, AnswersRounds, RoundEnd, walk};
 use stack_table::Table;
 use std::alloc::{AllocError, Allocator};
-use std::thread::Threads;
 use work_gate::Gate;
 
 /// What answers requests over a table by a plan. A gate is passed before the first request of each
@@ -70,7 +69,7 @@ impl<'a, A: Allocator, G: Gate, F> Pool<'a, A, G, F> {
 
 // What answers the messages of one round on the caller's thread, with what was read ahead of them.
 #[derive(Drop)]
-struct OneRound<'r, A: Allocator, G: Gate> {
+struct CallersThread<'r, A: Allocator, G: Gate> {
     table: &'r Table<A>,
     first: Session,
     plan: Plan,
@@ -79,7 +78,7 @@ struct OneRound<'r, A: Allocator, G: Gate> {
 }
 
 // One message, as `walk` asks for it.
-impl<'r, A: Allocator, G: Gate> AnswersOne for OneRound<'r, A, G> {
+impl<'r, A: Allocator, G: Gate> AnswersOne for CallersThread<'r, A, G> {
     ghost answering = { λ round. answering round.first round.table.now };
 
     ghost nodes = { λ round. length (nodes round.table.now.entries) };
@@ -106,19 +105,13 @@ impl<
     G: Gate,
     P: Gathered,
     F: Fn(&[u8], Session, usize) -> Result<P, AllocError>,
-> Rounds for Pool<'a, A, G, F> {
+> AnswersRounds for Pool<'a, A, G, F> {
     ghost answering = { λ pool. answering pool.first pool.table.now };
 
     ghost nodes = { λ pool. length (nodes pool.table.now.entries) };
 
-    ghost ready = { λ pool.
-        ((stream : _) (session : _) (messages : ℕ) → IsSpreadable stream.now messages
-        → F.pre pool.workers stream session messages)
-        × ((stream : _) (session : _) (messages : ℕ) (given : _)
-        → F.post pool.workers stream session messages given → IfOk given (λ p. P.whole p))
-        × ((stream : _) (session : _) (messages : ℕ) (given : _)
-        → F.post pool.workers stream session messages given
-        → IfOk given (λ p. P.answers p (answering pool.first pool.table.now) session stream.now)) };
+    ghost ready = { λ pool. SpreadsRounds F.Fn pool.workers (λ p. P.whole p)
+        (λ p session stream. P.answers p (answering pool.first pool.table.now) session stream) };
 
     fn first(&self) -> Session {
         self.first
@@ -128,24 +121,20 @@ impl<
         self.table.len()
     }
 
-    // The closure `workers` holds the runtime and the allocator that it takes, so those of the loop
-    // are not used.
-    fn answer_round<R: Threads + Sync, B: Allocator + Copy + Send + Sync>(
+    fn answer_round<B: Allocator>(
         &self,
-        _rt: &R,
-        _alloc: B,
         stream: &[u8],
         session: Session,
         replies: &mut Replies<B>,
         balances: &mut [i128],
-    ) -> Result<Round, AllocError> {
+    ) -> Result<RoundEnd, AllocError> {
         if let Some(messages) = self.worth(stream, session) {
             let gathered = (self.workers)(stream, session, messages)?;
             return gathered.append(replies, balances);
         }
         let mut ahead = LookupsAhead::new();
         ahead.read(self.table, stream, balances);
-        let answers = OneRound {
+        let answers = CallersThread {
             table: self.table,
             first: self.first,
             plan: self.plan,

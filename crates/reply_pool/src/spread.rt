@@ -4,7 +4,7 @@
 //! pieces that they give back, `reply_pieces` appends to the loop's replies.
 
 ghost use Rattle.std.specs.Prelude.{◌<◌, ◌≤◌, ◌^◌, ◌⊎◌, drop, length, IfOk};
-ghost use Rattle.fuse_wire.specs.declared.limits.TheConstants.{MAX_ROUND_MESSAGES};
+ghost use Rattle.serve_loop.specs.declared.limits.TheConstants.{MAX_ROUND_MESSAGES};
 ghost use Rattle.work_gate.specs.declared.limits.TheConstants.{MAX_BATCH};
 ghost use Rattle.fuse_wire.specs.Stream.{IsRest};
 ghost use Rattle.reply_pieces.specs.Spread.{AreFirstJobs, SpreadsOut};
@@ -15,7 +15,7 @@ use fuse_wire::{Framed, Request, frame};
 use reply_model::Session;
 use reply_pieces::RoundPieces;
 use round_plan::Plan;
-use serve_loop::Round;
+use serve_loop::RoundEnd;
 use stack_table::Table;
 use std::alloc::{AllocError, Allocator};
 use std::thread::Threads;
@@ -25,7 +25,7 @@ use work_gate::Gate;
 #[derive(Drop)]
 struct Taken<'a, A: Allocator> {
     jobs: Vec<(Session, Request<'a>), A>,
-    round: Round,
+    round: RoundEnd,
 }
 
 /// Answers so many of the first messages of a stream, or as many as are whole: 1 to 256 of them, by
@@ -68,7 +68,7 @@ fn take_jobs<'a, A: Allocator>(
         (0 < taken.round.messages) ⊎ IsRest (drop taken.round.used stream.now)) }
 {
     let mut jobs = Vec::with_capacity(alloc, messages)?;
-    let mut round = Round {
+    let mut round = RoundEnd {
         used: 0,
         messages: 0,
         session,

@@ -10,7 +10,7 @@
 ghost use Rattle.std.specs.Prelude.{◌≡◌, ◌≤◌, length, IfOk};
 ghost use Rattle.std.specs.Thread.{IsSync};
 ghost use denote.Param.Send.{IsSend, Frees};
-ghost use Rattle.fuse_wire.specs.declared.limits.TheConstants.{MAX_ROUND_MESSAGES};
+ghost use Rattle.serve_loop.specs.declared.limits.TheConstants.{MAX_ROUND_MESSAGES};
 ghost use Rattle.work_gate.specs.declared.limits.TheConstants.{MAX_BATCH};
 ghost use Rattle.draw_board.specs.Hands.{KeepsShare};
 ghost use Rattle.reply_pieces.specs.Batches.{AreLight};

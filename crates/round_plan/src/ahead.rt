@@ -10,10 +10,10 @@
 //! is a LOOKUP, and no memory. Of a small table, which stays in the caches, nothing is read ahead.
 
 ghost use Rattle.std.specs.Prelude.{◌≤◌};
-ghost use Rattle.fuse_wire.specs.declared.limits.TheConstants.{MAX_ROUND_MESSAGES};
+ghost use Rattle.serve_loop.specs.declared.limits.TheConstants.{MAX_ROUND_MESSAGES};
 
-use fuse_wire::limits::MAX_ROUND_MESSAGES;
 use fuse_wire::{Framed, frame, glance};
+use serve_loop::limits::MAX_ROUND_MESSAGES;
 use stack_table::{Guess, Row, Table, hashed};
 use std::alloc::Allocator;
 

@@ -9,12 +9,13 @@
 //! workers. So it sees five messages of ordinary requests, and all of a round that has many rows.
 
 ghost use Rattle.std.specs.Prelude.{◌≤◌, ◌^◌, IfSome};
-ghost use Rattle.fuse_wire.specs.declared.limits.TheConstants.{MAX_ROUND_MESSAGES};
+ghost use Rattle.serve_loop.specs.declared.limits.TheConstants.{MAX_ROUND_MESSAGES};
 
-use fuse_wire::limits::{MAX_DATA_SIZE, MAX_ROUND_MESSAGES, OUT_HEADER_SIZE};
+use fuse_wire::limits::{MAX_DATA_SIZE, OUT_HEADER_SIZE};
 use fuse_wire::{Framed, Op, Request, frame};
 use romfs_format::Kind;
 use romfs_format::limits::MAX_TARGET_SIZE;
+use serve_loop::limits::MAX_ROUND_MESSAGES;
 use stack_table::Table;
 use std::alloc::Allocator;
 

@@ -1,56 +1,95 @@
 -- What serving over images comes to, in the words of the headline: served over good images, or
 -- refused, for a wrong number or a broken layer. Each is what `serve` promises, with its other
 -- cases ruled out.
-use Rattle.std.proofs.Common.{◌≡◌, ap, sym, subst, List, length, ℕ, inl, inr, Result, Ok, Err, IsErrAnd}
-use Rattle.romfs_format.specs.declared.rule.Profile.{Profile}
+use Rattle.std.proofs.Common.{◌≡◌, ◌∙◌, ap, subst, length, ℕ, inl, inr, Result, Ok, Err, IsErrAnd, refl}
+use Rattle.devices.specs.States.{Devices}
 use Rattle.romfs_format.specs.declared.rule.ImageFault.{ImageFault}
-use Rattle.serve_loop.specs.declared.stop.Stop.{Stop}
-use Rattle.serve_loop.specs.declared.stop.Stop.TheVariants.{Layer, Layers}
 use Rattle.stack_model.specs.Numbers.{nodes}
+use Rattle.stack_model.specs.Listing.{Stacked}
+use Rattle.stack_prepare.specs.declared.refusal.Refusal.{Refusal}
+use Rattle.stack_prepare.specs.declared.refusal.Refusal.TheVariants as refusals
+use Rattle.stack_prepare.specs.Layers.{AreRefused}
 use Rattle.reply_model.specs.declared.session.Session.{Session}
 use Rattle.reply_pool.specs.Answers.{answering}
 use Rattle.serve_loop.specs.declared.done.Done.{Done}
-use Rattle.layer_check.specs.Layers.{AreRefused}
-use Rattle.serve_loop.specs.Serving.{Trace}
-use Rattle.serve_core.specs.Headline.{IsUntouched, IsNotBegun, Serves, HasServedAll, IsRefusedFor}
+use Rattle.serve_loop.specs.declared.stream_fault.StreamFault.{StreamFault}
+use Rattle.serve_loop.specs.declared.stream_fault.StreamFault.TheVariants.{Turns}
+use Rattle.serve_loop.specs.Serving.{Does, IsRun}
 use Rattle.serve_loop.proofs.Ends.{served}
+use Rattle.serve_core.specs.declared.stop.Stop.{Stop}
+use Rattle.serve_core.specs.declared.stop.Stop.TheVariants.{Layer, Layers}
+use Rattle.serve_core.specs.Stops.{IsRefusal, stop_of_fault, stop_of_refusal}
+use Rattle.serve_core.specs.Headline.{Call, HasServedAll, IsAtOnce, IsNotBegun, IsRefusedFor, RunsBetween, ServesBetween}
+use Rattle.serve_core.proofs.Stops.{broken_told, ended_well, many_told, never_broken, never_many, same_stop}
 
--- where images are refused and no device was touched, serving was not begun, and tells why
-pub not_begun : {A : Type 0} (profile : Profile) (images : List (List ℕ)) (t : Trace) (result : Result (Done A) Stop) (stop : Stop)
-    → IsErrAnd result (λ told. told ≡ stop) → AreRefused profile images stop → IsUntouched t → IsNotBegun profile images t result
-not_begun profile images t (Ok done) stop e r u = absurd e
-not_begun profile images t (Err told) stop e r u = record { stop = stop; result_is = ap Err e; refused = r; untouched = u }
+-- two results that are faults of a stream are so of one
+pub same_fault : {A : Type 0} {a b : StreamFault} → (let result : Result (Done A) StreamFault = Err a in result ≡ Err b) → a ≡ b
+same_fault e = cc
 
-module _ {A : Type 0} (profile : Profile) (first : Session) (images : List (List ℕ)) (turns : ℕ) (t : Trace) where
+-- where the stream of a run was not served to its end, the run tells so
+pub run_stopped : {A : Type 0} (first : Session) (stack : Stacked) (turns : ℕ) (fault : StreamFault) (result : Result (Done A) Stop)
+    (old new : Devices) → IsErrAnd result (λ said. said ≡ stop_of_fault fault)
+    → Does (λ t. IsRun {A = A} (answering first stack) (length (nodes stack.entries)) turns t (Err fault)) old new
+    → (turns ≡ 0 → fault ≡ Turns) → RunsBetween first stack turns result old new
+run_stopped first stack turns fault (Ok done) old new e run once = absurd e
+run_stopped first stack turns fault (Err said) old new e (got, put, took, held, run) once = record {
+  run = (got, put, took, held, record { ended = Err fault; result_is = ap Err e; run = run });
+  end = tt;
+  at_once = λ none. ap Err (e ∙ ap stop_of_fault (once none));
+}
+
+-- where images are refused and no device was called, serving was not begun, and tells why
+pub not_begun : {A : Type 0} (call : Call) (result : Result (Done A) Stop) (stop : Stop) (old : Devices)
+    → IsErrAnd result (λ said. said ≡ stop) → IsRefusal call.profile call.images stop → IsNotBegun call result old old
+not_begun call (Ok done) stop old e r = absurd e
+not_begun call (Err said) stop old e r = record { stop = stop; result_is = ap Err e; refused = r; kept = refl }
+
+module _ {A : Type 0} (call : Call) where
   -- where serving went to its end, all was served over good images
-  pub served_over : (done : Done A) → Serves profile first images turns t (Ok done) → HasServedAll profile first images t done
-  served_over done (inl s) = record {
-    stack = s.stack;
-    stacked = s.stacked;
-    served = served (answering first s.stack) (length (nodes s.stack.entries)) turns t done s.run;
-  }
-  served_over done (inr n) = (let e = n.result_is in absurd (cc))
+  pub served_over : (done : Done A) (old new : Devices) → ServesBetween call (Ok done) old new → HasServedAll call done old new
+  served_over done old new (inl s) =
+      let (got, put, took, held, r) = s.runs.run in
+      record {
+        stack = s.stack;
+        stacked = s.stacked;
+        served = (
+          got,
+          put,
+          took,
+          held,
+          served (answering call.first s.stack) (length (nodes s.stack.entries)) call.turns _ done
+              (subst (IsRun (answering call.first s.stack) (length (nodes s.stack.entries)) call.turns _)
+              (ended_well done r.ended r.result_is) r.run),
+        );
+      }
+  served_over done old new (inr n) = (let e = n.result_is in absurd (cc))
 
-  same_stop : {a b : Stop} → (let result : Result (Done A) Stop = Err a in result ≡ Err b) → a ≡ b
-  same_stop e = cc
-
-  refused_for : (stop : Stop) → IsNotBegun {A = A} profile images t (Err stop) → IsRefusedFor profile images t stop
-  refused_for stop n = record {
-    refused = subst (λ s. AreRefused profile images s) (sym (same_stop n.result_is)) n.refused;
-    untouched = n.untouched;
+  refused_for : (refusal : Refusal) (stop : Stop) (old new : Devices) → IsNotBegun {A = A} call (Err stop) old new
+      → ((other : Refusal) → stop ≡ stop_of_refusal other → other ≡ refusal) → IsRefusedFor call refusal old new
+  refused_for refusal stop old new n one = record {
+    refused = subst (AreRefused call.profile call.images) (one n.refused.refusal (same_stop n.result_is ∙ n.refused.stop_is))
+        n.refused.refused;
+    kept = n.kept;
   }
 
   -- where it stopped for the number of layers, the images were refused for that
-  pub many_refused : (count : ℕ) → Serves {A = A} profile first images turns t (Err (Layers count))
-      → IsRefusedFor profile images t (Layers count)
-  many_refused count (inl s) = absurd s.run.end
-  many_refused count (inr n) = refused_for (Layers count) n
+  pub many_refused : (count : ℕ) (old new : Devices) → ServesBetween {A = A} call (Err (Layers count)) old new
+      → IsRefusedFor call (refusals.Layers count) old new
+  many_refused count old new (inl s) = (let r = s.runs.run.4 in absurd (never_many count r.ended r.result_is))
+  many_refused count old new (inr n) = refused_for (refusals.Layers count) (Layers count) old new n (many_told count)
 
   -- where it stopped for a broken layer, the images were refused for that
-  pub broken_refused : (layer : ℕ) (fault : ImageFault) → Serves {A = A} profile first images turns t (Err (Layer layer fault))
-      → IsRefusedFor profile images t (Layer layer fault)
-  broken_refused layer fault (inl s) = absurd s.run.end
-  broken_refused layer fault (inr n) = refused_for (Layer layer fault) n
+  pub broken_refused : (layer : ℕ) (fault : ImageFault) (old new : Devices) → ServesBetween {A = A} call (Err (Layer layer fault)) old new
+      → IsRefusedFor call (refusals.Layer layer fault) old new
+  broken_refused layer fault old new (inl s) = (let r = s.runs.run.4 in absurd (never_broken layer fault r.ended r.result_is))
+  broken_refused layer fault old new (inr n) =
+      refused_for (refusals.Layer layer fault) (Layer layer fault) old new n (broken_told layer fault)
 
--- the three of them, for the goals of the laws
-pub ruleset over_images = (served_over, many_refused, broken_refused)
+  -- with no turns the call answers at once
+  pub at_once : (result : Result (Done A) Stop) (old new : Devices) → call.turns ≡ 0 → ServesBetween call result old new
+      → IsAtOnce call result
+  at_once result old new none (inl s) = inl (s.runs.at_once none)
+  at_once result old new none (inr n) = inr (n.stop, n.result_is, n.refused)
+
+-- the four of them, for the goals of the laws
+pub ruleset over_images = (served_over, many_refused, broken_refused, at_once)

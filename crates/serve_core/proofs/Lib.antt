@@ -1,2 +1,2 @@
+pub mod Stops
 pub mod Headline
-pub mod Refusals

@@ -1,5 +1,6 @@
-pub mod Preparing
+pub mod Stops
 pub mod Headline
 pub use Rattle.devices.specs.States
-pub use Rattle.layer_check.specs.Layers
+pub use Rattle.stack_prepare.specs.Layers
+pub use Rattle.stack_prepare.specs.Preparing
 pub use Rattle.serve_loop.specs.Serving

@@ -1,21 +1,18 @@
-//! Images, checked and stacked.
+//! Images, checked and stacked, as serving begins.
 
 ghost use Rattle.std.specs.Prelude.{IfOk, IfErr};
-ghost use Rattle.layer_check.specs.Layers.{contents_of, AreRefused};
-ghost use Rattle.serve_core.specs.Preparing.{AreStacked};
+ghost use Rattle.stack_prepare.specs.Layers.{contents_of};
+ghost use Rattle.stack_prepare.specs.Preparing.{AreStacked};
+ghost use Rattle.serve_core.specs.Stops.{IsRefusal};
 
-use crate::bounds::SharedAllocator;
-use layer_check::check_all;
-use node_table::{OfTree, Table};
+use crate::stop::Stop;
 use romfs_format::Profile;
-use serve_loop::Stop;
-use stack_core::stack;
-use stack_model::limits::MAX_LAYERS;
+use stack_prepare::{SharedAllocator, Table};
 use std::thread::Threads;
 use work_gate::Gate;
 
 /// Checks images by the usual profile's rules and stacks them, the lowest layer first, into one
-/// table.
+/// table, as [`stack_prepare::prepare`] does.
 ///
 /// `Layers` comes exactly where there are none or more than 128, before anything else is done; else
 /// `Layer` names the lowest image that breaks a rule, and its fault. The gate is passed before each
@@ -27,7 +24,7 @@ pub fn prepare<R: Threads + Sync, A: SharedAllocator, G: Gate + Sync>(
     gate: &G,
 ) -> Result<Table<A>, Stop>
     ensures ok { IfOk result (AreStacked Profile.Usual (contents_of images)) }
-    ensures err { IfErr result (λ stop. AreRefused Profile.Usual (contents_of images) stop) }
+    ensures err { IfErr result (IsRefusal Profile.Usual (contents_of images)) }
 {
     prepare_as(rt, alloc, images, Profile::Usual, gate)
 }
@@ -41,13 +38,7 @@ pub fn prepare_as<R: Threads + Sync, A: SharedAllocator, G: Gate + Sync>(
     gate: &G,
 ) -> Result<Table<A>, Stop>
     ensures ok { IfOk result (AreStacked profile (contents_of images)) }
-    ensures err { IfErr result (λ stop. AreRefused profile (contents_of images) stop) }
+    ensures err { IfErr result (IsRefusal profile (contents_of images)) }
 {
-    let count = images.len() as u64;
-    if count == 0 || (MAX_LAYERS as u64) < count {
-        return Err(Stop::Layers { count });
-    }
-    let images = check_all(rt, alloc, images, profile, gate)?;
-    let tree = stack(rt, alloc, &images, gate)?;
-    Ok(Table::of(rt, alloc, tree, images)?)
+    Ok(stack_prepare::prepare_as(rt, alloc, images, profile, gate)?)
 }

@@ -8,12 +8,12 @@ ghost use Rattle.reply_pool.specs.Spread.{IsSpreadable, SpreadsOut};
 ghost use Rattle.serve_loop.specs.Serving.{AreReady};
 ghost use Rattle.serve_core.specs.Headline.{RunsBetween};
 
-use crate::bounds::SharedAllocator;
+use crate::stop::Stop;
 use devices::{Sink, Source};
-use node_table::Table;
 use reply_model::Session;
 use reply_pool::{Plan, Pool, RoundPieces, spread_out};
-use serve_loop::{Done, Stop, run_by};
+use serve_loop::{Done, run_by};
+use stack_prepare::{SharedAllocator, Table};
 use std::alloc::AllocError;
 use std::thread::Threads;
 use work_gate::Gate;
@@ -69,5 +69,5 @@ pub fn run<R: Threads + Sync, A: SharedAllocator, S: Source, K: Sink, G: Gate + 
         ensures { IfOk result (λ spread. SpreadsOut table.entry.now session stream.now spread) }
     { spread_out(rt, alloc, table, stream, session, messages, plan, gate) };
     let pool = Pool::new(table, terms.first, plan, gate, workers);
-    run_by(rt, alloc, &pool, source, sink, terms.turns)
+    Ok(run_by(alloc, &pool, source, sink, terms.turns)?)
 }

@@ -1,16 +1,17 @@
 //! Streams over images.
 
 ghost use Rattle.devices.specs.States.{devices};
-ghost use Rattle.layer_check.specs.Layers.{contents_of};
+ghost use Rattle.stack_prepare.specs.Layers.{contents_of};
 ghost use Rattle.serve_loop.specs.Serving.{AreReady};
-ghost use Rattle.serve_core.specs.Headline.{ServesBetween};
+ghost use Rattle.serve_core.specs.Headline.{call, ServesBetween};
 
-use crate::bounds::SharedAllocator;
 use crate::preparing::prepare_as;
 use crate::running::{Terms, run};
+use crate::stop::Stop;
 use devices::{Sink, Source};
 use romfs_format::Profile;
-use serve_loop::{Done, Stop};
+use serve_loop::Done;
+use stack_prepare::SharedAllocator;
 use std::thread::Threads;
 use work_gate::Gate;
 
@@ -19,7 +20,7 @@ use work_gate::Gate;
 ///
 /// `Layers` comes exactly where there are no images or more than 128, and `Layer` names the lowest
 /// broken image and its fault. Then, and where memory runs out before the table stands, no device
-/// is touched. With no turns good images are answered `Turns`.
+/// is called. With no turns good images are answered `Turns`.
 pub fn serve<R: Threads + Sync, A: SharedAllocator, S: Source, K: Sink, G: Gate + Sync>(
     rt: &R,
     alloc: A,
@@ -29,8 +30,8 @@ pub fn serve<R: Threads + Sync, A: SharedAllocator, S: Source, K: Sink, G: Gate 
     terms: &Terms<'_, G>,
 ) -> Result<Done<A>, Stop>
     requires { AreReady terms.now.turns (devices (S.state source.old) (K.state sink.old)) }
-    ensures { ServesBetween Profile.Usual terms.now.first (contents_of images)
-        terms.now.turns result
+    ensures { ServesBetween
+        (call Profile.Usual (contents_of images) terms.now.first terms.now.turns) result
         (devices (S.state source.old) (K.state sink.old))
         (devices (S.state source.new) (K.state sink.new)) }
 {
@@ -48,8 +49,8 @@ pub fn serve_as<R: Threads + Sync, A: SharedAllocator, S: Source, K: Sink, G: Ga
     terms: &Terms<'_, G>,
 ) -> Result<Done<A>, Stop>
     requires { AreReady terms.now.turns (devices (S.state source.old) (K.state sink.old)) }
-    ensures { ServesBetween profile terms.now.first (contents_of images)
-        terms.now.turns result
+    ensures { ServesBetween (call profile (contents_of images) terms.now.first terms.now.turns)
+        result
         (devices (S.state source.old) (K.state sink.old))
         (devices (S.state source.new) (K.state sink.new)) }
 {

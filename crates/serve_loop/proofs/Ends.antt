@@ -5,8 +5,8 @@ use Rattle.std.proofs.Common.{◌≡◌, ◌↔◌, subst, ℕ, ◌+◌, List, [
 use Rattle.fuse_wire.specs.Stream.{IsSplit}
 use Rattle.fuse_wire.proofs.Splits.{one_split}
 use Rattle.serve_loop.specs.Rounds.{Answering}
-use Rattle.serve_loop.specs.declared.stop.Stop.{Stop}
-use Rattle.serve_loop.specs.declared.stop.Stop.TheVariants.{BadLength, CutOff, Read, Write, Turns}
+use Rattle.serve_loop.specs.declared.stream_fault.StreamFault.{StreamFault}
+use Rattle.serve_loop.specs.declared.stream_fault.StreamFault.TheVariants.{BadLength, CutOff, Read, Write, Turns}
 use Rattle.serve_loop.specs.declared.done.Done.{Done}
 use Rattle.serve_loop.specs.Serving.{Trace, IsAllTold, IsPrompt, IsRun, Begins, replies_to, flushed_bytes, before, read_failures, write_failures}
 use Rattle.serve_loop.specs.Laws.{HasAnsweredAll, HasServed, HasBadLength, IsCutOff, HasFailed, HasUsedTurns, IsFront}
@@ -19,12 +19,12 @@ module _ {A : Type 0} (by : Answering) (nodes turns : ℕ) (t : Trace) where
   -- a run that ends with `Ok` has answered a stream of whole messages
   pub served : (done : Done A) → IsRun by nodes turns t (Ok done) → HasServed by nodes t done
   served done r = record {
-    ended = r.end.ended;
+    ended = r.served.ended;
     messages = r.messages;
-    answered = answered by t r.messages [] (subst (λ x. IsSplit t.got r.messages x) r.end.all_read r.split) r.end.told;
-    counted = r.end.counted;
-    written = r.end.written;
-    balanced = r.end.balanced;
+    answered = answered by t r.messages [] (subst (λ x. IsSplit t.got r.messages x) r.served.all_read r.split) r.served.told;
+    counted = r.served.counted;
+    written = r.served.written;
+    balanced = r.served.balanced;
   }
 
   -- a run that ends with `BadLength` has answered all messages before that place
@@ -32,66 +32,66 @@ module _ {A : Type 0} (by : Answering) (nodes turns : ℕ) (t : Trace) where
   has_bad at len r = record {
     messages = r.messages;
     rest = r.rest;
-    answered = answered by t r.messages r.rest r.split r.end.2;
-    place = r.end.1;
-    bad = r.end.0;
+    answered = answered by t r.messages r.rest r.split r.stopped.2;
+    place = r.stopped.1;
+    bad = r.stopped.0;
   }
 
   -- a run that ends with `CutOff` has answered all messages before that place
   pub is_cut : (at : ℕ) → IsRun {A = A} by nodes turns t (Err (CutOff at)) → IsCutOff by t at
   is_cut at r = record {
-    ended = r.end.0;
+    ended = r.stopped.0;
     messages = r.messages;
     rest = r.rest;
-    answered = answered by t r.messages r.rest r.split r.end.3;
-    place = r.end.2;
-    cut = r.end.1;
+    answered = answered by t r.messages r.rest r.split r.stopped.3;
+    place = r.stopped.2;
+    cut = r.stopped.1;
   }
 
   -- a run that ends with `Read` has answered all messages that came before the failure
   pub well_at_read : IsRun {A = A} by nodes turns t (Err Read) → HasFailed by t
   well_at_read r = record {
-    failed = r.end.0;
+    failed = r.stopped.0;
     messages = r.messages;
     rest = r.rest;
-    answered = answered by t r.messages r.rest r.split r.end.1;
+    answered = answered by t r.messages r.rest r.split r.stopped.1;
   }
 
   -- a run that ends with `Turns` has made all its pulls, and answered all messages that came
   pub well_at_turns : IsRun {A = A} by nodes turns t (Err Turns) → HasUsedTurns by turns t
   well_at_turns r = record {
-    pulls = r.end.0;
+    pulls = r.stopped.0;
     messages = r.messages;
     rest = r.rest;
-    answered = answered by t r.messages r.rest r.split r.end.2;
-    good = r.end.1;
+    answered = answered by t r.messages r.rest r.split r.stopped.2;
+    good = r.stopped.1;
   }
 
   -- at every end what was put is the beginning of the replies
-  pub front : (result : Result (Done A) Stop) → IsRun by nodes turns t result → IsFront by t
+  pub front : (result : Result (Done A) StreamFault) → IsRun by nodes turns t result → IsFront by t
   front result r = record { messages = r.messages; rest = r.rest; split = r.split; begun = r.begun }
 
   -- at every end all replies to what was got before the last pull are flushed
-  pub prompt : (result : Result (Done A) Stop) → IsRun by nodes turns t result → IsPrompt by t
+  pub prompt : (result : Result (Done A) StreamFault) → IsRun by nodes turns t result → IsPrompt by t
   prompt result r = r.prompt
 
   -- and that is all replies to the messages into which it is cut, in the one way there is
-  pub all_flushed : (result : Result (Done A) Stop) (messages : List (List ℕ)) (rest : List ℕ)
+  pub all_flushed : (result : Result (Done A) StreamFault) (messages : List (List ℕ)) (rest : List ℕ)
       → IsRun by nodes turns t result → IsSplit (before t) messages rest
       → Begins (replies_to by messages) (flushed_bytes t)
   all_flushed result messages rest r s = subst (λ m. Begins (replies_to by m) (flushed_bytes t))
       (one_split (before t) r.prompt.messages messages r.prompt.rest rest r.prompt.split s).0 r.prompt.told
 
 -- a count rose by one where the result says so, and nowhere else
-read_told : {A : Type 0} (r : Result (Done A) Stop) (old new : ℕ) → new ≡ old + read_failures r → (r ≡ Err Read) ↔ (new ≡ old + 1)
+read_told : {A : Type 0} (r : Result (Done A) StreamFault) (old new : ℕ) → new ≡ old + read_failures r → (r ≡ Err Read) ↔ (new ≡ old + 1)
 read_told (Err Read) old new e = (λ _. e, λ _. refl)
 read_told _ old new e = (λ q. absurd (cc), λ f. absurd (omega arith))
 
-write_told : {A : Type 0} (r : Result (Done A) Stop) (old new : ℕ) → new ≡ old + write_failures r → (r ≡ Err Write) ↔ (new ≡ old + 1)
+write_told : {A : Type 0} (r : Result (Done A) StreamFault) (old new : ℕ) → new ≡ old + write_failures r → (r ≡ Err Write) ↔ (new ≡ old + 1)
 write_told (Err Write) old new e = (λ _. e, λ _. refl)
 write_told _ old new e = (λ q. absurd (cc), λ f. absurd (omega arith))
 
-module _ {A : Type 0} (by : Answering) (nodes turns : ℕ) (t : Trace) (result : Result (Done A) Stop) (r : IsRun by nodes turns t result)
+module _ {A : Type 0} (by : Answering) (nodes turns : ℕ) (t : Trace) (result : Result (Done A) StreamFault) (r : IsRun by nodes turns t result)
   where
     -- a run ends with `Read` exactly where the source failed once in it
     pub read_is_exact : (result ≡ Err Read) ↔ (t.source.failures ≡ t.source_before.failures + 1)

@@ -4,7 +4,7 @@
 use Rattle.std.proofs.Common.{◌≡◌, ◌∙◌, sym, ap, ℕ, ◌+◌, ◌-◌, ◌≤◌, List, [], ◌++◌, append-nil, length, take, drop, arith, length-take, length-drop}
 use Rattle.std.proofs.Math.Seq.{take-add}
 use Rattle.std.proofs.lemmas.List.{drop-take, drop-drop}
-use Rattle.fuse_wire.specs.declared.limits.TheConstants.{PULL_SIZE}
+use Rattle.devices.specs.declared.limits.TheConstants.{PULL_SIZE}
 use Rattle.serve_loop.specs.Buffers.{part}
 
 part_length : (xs : List ℕ) (s e : ℕ) → length (part xs s e) ≤ e - s

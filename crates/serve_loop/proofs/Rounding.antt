@@ -12,13 +12,13 @@ use Rattle.reply_model.specs.Streams.{replies_by}
 use Rattle.devices.specs.declared.counts.Pushes.{Pushes}
 use Rattle.devices.specs.Pushing.{HasFlushed}
 use Rattle.devices.specs.States.{SinkState}
-use Rattle.serve_loop.specs.declared.round.Round.{Round}
+use Rattle.serve_loop.specs.declared.one_round.RoundEnd.{RoundEnd}
 use Rattle.reply_model.specs.Streams.{moves_by}
 use Rattle.serve_loop.specs.Rounds.{Answering, joined, AreAnswered, IsRound}
 use Rattle.lookup_balances.proofs.Sums.{within_moved, within_less}
 use Rattle.serve_loop.proofs.Walking.{replies_append, joined_append, both, none_answered, answered_on, first_within}
-use Rattle.serve_loop.specs.declared.stop.Stop.{Stop}
-use Rattle.serve_loop.specs.declared.stop.Stop.TheVariants.{Write, Memory}
+use Rattle.serve_loop.specs.declared.stream_fault.StreamFault.{StreamFault}
+use Rattle.serve_loop.specs.declared.stream_fault.StreamFault.TheVariants.{Write, Memory}
 use Rattle.serve_loop.specs.Steps.{ServingState, IsSmall, Goes, Proceeds, sink_failures, Halts}
 
 no_messages : (ms : List (List ℕ)) → length ms ≡ 0 → ms ≡ []
@@ -49,7 +49,7 @@ pub not_late : (p q : Pushes) (put : List ℕ) → HasFlushed put p q → q.unfl
 not_late p q put h = elim h.flushed [ inl x ↦ (let y = x.1 in omega arith) | inr x ↦ omega arith ]
 
 -- a round of a stream and balances is one of those that are equal to them
-pub round_of : (by : Answering) (s : Session) (round : Round) (put rest seen : List ℕ) (old held new kept : List ℤ) → seen ≡ rest
+pub round_of : (by : Answering) (s : Session) (round : RoundEnd) (put rest seen : List ℕ) (old held new kept : List ℤ) → seen ≡ rest
     → held ≡ old → new ≡ kept →
     IsRound by s seen round put (record { old = held; new = new }) → IsRound by s rest round put (record { old = old; new = kept })
 round_of by s round put rest seen old held new kept e f g r =
@@ -62,21 +62,21 @@ pub all_of : (before after put : List ℕ) → before ≡ [] → after ≡ befor
 all_of before after put e f = f ∙ ap (λ v. v ++ put) e
 
 -- a round has no more messages than there are bytes
-pub round_few : (by : Answering) (s : Session) (round : Round) (put rest : List ℕ) (old new : List ℤ)
+pub round_few : (by : Answering) (s : Session) (round : RoundEnd) (put rest : List ℕ) (old new : List ℤ)
     → IsRound by s rest round put (record { old = old; new = new }) → round.messages ≤ length rest
 round_few by s round put rest old new r =
     let j = joined_long r.messages r.first.each in let w = first_within rest r.messages round.used r.first in let k = r.first.size in
     let c = r.count in omega arith
 
 -- a round whose count is not 0 has messages
-pub some_messages : (by : Answering) (s : Session) (round : Round) (put rest : List ℕ) (old new : List ℤ)
+pub some_messages : (by : Answering) (s : Session) (round : RoundEnd) (put rest : List ℕ) (old new : List ℤ)
     (r : IsRound by s rest round put (record { old = old; new = new })) → (round.messages ≡ 0 → ⊥) → 0 < length r.messages
 some_messages by s round put rest old new r n = let c = r.count in omega (arith, n)
 
 -- what holds of the error `Memory` holds of a failure that has no other reason
-pub from_memory : {X : Type 0} (r : Result X Stop) (Q : Stop → Type 0) → IsErrAnd r (λ stop. stop ≡ Memory) → Q Memory → IfErr r Q
+pub from_memory : {X : Type 0} (r : Result X StreamFault) (Q : StreamFault → Type 0) → IsErrAnd r (λ fault. fault ≡ Memory) → Q Memory → IfErr r Q
 from_memory (Ok x) Q i q = absurd i
-from_memory (Err stop) Q i q = subst Q (sym i) q
+from_memory (Err fault) Q i q = subst Q (sym i) q
 
 module _ (by : Answering) where
   -- a state goes on to itself by no messages
@@ -130,7 +130,7 @@ module _ (by : Answering) where
   }
 
   -- a state goes on by the messages of a round and the bytes that it answers
-  pub goes_round : (from : ServingState) (round : Round) (put rest : List ℕ) (new : List ℤ) (at messages written : ℕ) →
+  pub goes_round : (from : ServingState) (round : RoundEnd) (put rest : List ℕ) (new : List ℤ) (at messages written : ℕ) →
       (r : IsRound by from.session from.rest round put (record { old = from.balances; new = new })) →
       rest ≡ drop round.used from.rest → at ≡ from.at + round.used → messages ≡ from.messages + round.messages → written ≡ from.written
       + length put →
@@ -146,7 +146,7 @@ module _ (by : Answering) where
   }
 
   -- a round in which no message was whole
-  module _ (from : ServingState) (round : Round) (put : List ℕ) (new : List ℤ) (r : IsRound by from.session from.rest round put
+  module _ (from : ServingState) (round : RoundEnd) (put : List ℕ) (new : List ℤ) (r : IsRound by from.session from.rest round put
       (record { old = from.balances; new = new })) (z : round.messages ≡ 0) where
     none : r.messages ≡ []
     none = no_messages r.messages (sym r.count ∙ z)
@@ -198,9 +198,11 @@ module _ (by : Answering) where
       → length to.rest < length from.rest
   shorter from to ms put g h = let j = joined_long ms g.each in let t = ap length g.taken ∙ length-append (joined ms) to.rest in omega arith
 
-  -- refused memory may stop answering before anything is put
-  pub halts_now : (v : ServingState) (p : Pushes) → Halts by v p p Memory [] [] v.rest
+  -- refused memory may fault answering before anything is put
+  pub halts_now : (v : ServingState) (p : Pushes) → Halts by v p p Memory []
   halts_now v p = record {
+    messages = [];
+    rest = v.rest;
     halt = tt;
     taken = refl;
     each = tt;
@@ -210,11 +212,13 @@ module _ (by : Answering) where
   }
 
   -- a sink that fails in a round has taken the beginning of its replies
-  pub halts_late : (from : ServingState) (round : Round) (all put rest : List ℕ) (new : List ℤ) (p q : Pushes) →
+  pub halts_late : (from : ServingState) (round : RoundEnd) (all put rest : List ℕ) (new : List ℤ) (p q : Pushes) →
       (r : IsRound by from.session from.rest round all (record { old = from.balances; new = new })) → all ≡ put ++ rest
       → q.failures ≡ p.failures + 1 → q.unflushed ≤ p.unflushed + length put →
-      Halts by from p q Write r.messages put (drop round.used from.rest)
+      Halts by from p q Write put
   halts_late from round all put rest new p q r e f l = record {
+    messages = r.messages;
+    rest = drop round.used from.rest;
     halt = tt;
     taken = r.first.whole;
     each = r.first.each;
@@ -224,26 +228,28 @@ module _ (by : Answering) where
   }
 
   -- where a state goes on to another and answering stops there, it stops for the first one
-  pub halts_further : (a b : ServingState) (p q r : Pushes) (stop : Stop) (ms ns : List (List ℕ)) (put more rest : List ℕ) →
-      Goes by a b ms put → HasFlushed put p q → Halts by b q r stop ns more rest → Halts by a p r stop (ms ++ ns) (put ++ more) rest
-  halts_further a b p q r stop ms ns put more rest g h k = record {
+  pub halts_further : (a b : ServingState) (p q r : Pushes) (fault : StreamFault) (ms : List (List ℕ)) (put more : List ℕ)
+      → Goes by a b ms put → HasFlushed put p q → Halts by b q r fault more → Halts by a p r fault (put ++ more)
+  halts_further a b p q r fault ms put more g h k = record {
+    messages = ms ++ k.messages;
+    rest = k.rest;
     halt = k.halt;
     taken =
         g.taken
         ∙ ap (λ v. joined ms ++ v) k.taken
-        ∙ sym (append_assoc (joined ms) (joined ns) rest)
-        ∙ ap (λ v. v ++ rest) (sym (joined_append ms ns));
-    each = both ms ns g.each k.each;
+        ∙ sym (append_assoc (joined ms) (joined k.messages) k.rest)
+        ∙ ap (λ v. v ++ k.rest) (sym (joined_append ms k.messages));
+    each = both ms k.messages g.each k.each;
     told = record {
       more = k.told.more;
       is =
-          ap (replies_by by.reply a.session) (map-append asked ms ns)
-          ∙ replies_append by.reply a.session (map asked ms) (map asked ns)
-          ∙ ap (λ s. replies_by by.reply a.session (map asked ms) ++ replies_by by.reply s (map asked ns)) (sym g.answered.session)
-          ∙ ap (λ v. v ++ replies_by by.reply b.session (map asked ns)) (sym g.answered.told)
+          ap (replies_by by.reply a.session) (map-append asked ms k.messages)
+          ∙ replies_append by.reply a.session (map asked ms) (map asked k.messages)
+          ∙ ap (λ s. replies_by by.reply a.session (map asked ms) ++ replies_by by.reply s (map asked k.messages)) (sym g.answered.session)
+          ∙ ap (λ v. v ++ replies_by by.reply b.session (map asked k.messages)) (sym g.answered.told)
           ∙ ap (λ v. put ++ v) k.told.is
           ∙ sym (append_assoc put more k.told.more);
     };
-    failures = k.failures ∙ ap (λ n. n + sink_failures stop) h.failures;
+    failures = k.failures ∙ ap (λ n. n + sink_failures fault) h.failures;
     late = (let l = not_late p q put h in let m = k.late in let w = length-append put more in omega arith);
   }

@@ -3,7 +3,7 @@
 -- end of the run, and says that it keeps the one promise (`IsRun`).
 use Rattle.std.proofs.Common.{◌≡◌, ◌∙◌, sym, ap, subst, ℕ, ◌+◌, ◌^◌, ◌<◌, ◌≤◌, inl, inr, ℤ, List, [], ◌++◌, length, map, refl, arith, length-append, append_assoc, append-nil, Result, Ok, Err, Some, IsErrAnd}
 use Rattle.std.proofs.lemmas.List.{map-append}
-use Rattle.fuse_wire.specs.declared.limits.TheConstants.{PULL_SIZE}
+use Rattle.devices.specs.declared.limits.TheConstants.{PULL_SIZE}
 use Rattle.fuse_wire.specs.Stream.{IsBad, IsOpen, IsRest, IsSplit}
 use Rattle.fuse_wire.specs.Requests.{asked}
 use Rattle.fuse_wire.proofs.Splits.{some_split}
@@ -16,8 +16,8 @@ use Rattle.devices.specs.Counting.{pulled}
 use Rattle.devices.specs.Pushing.{HasFlushed}
 use Rattle.serve_loop.specs.Rounds.{Answering, joined}
 use Rattle.serve_loop.proofs.Walking.{replies_append, joined_append, both}
-use Rattle.serve_loop.specs.declared.stop.Stop.{Stop}
-use Rattle.serve_loop.specs.declared.stop.Stop.TheVariants.{Layer, Layers, BadLength, CutOff, Read, Write, Turns, Memory}
+use Rattle.serve_loop.specs.declared.stream_fault.StreamFault.{StreamFault}
+use Rattle.serve_loop.specs.declared.stream_fault.StreamFault.TheVariants.{BadLength, CutOff, Read, Write, Turns, Memory}
 use Rattle.serve_loop.specs.declared.done.Done.{Done}
 use Rattle.serve_loop.specs.Serving.{Trace, all_but, last_size, before, flushed_bytes, replies_to, moves_of, IsAllTold, AreBalances, IsStopped, ends_met, read_failures, write_failures, IsCounted, IsPrompt, IsRun}
 use Rattle.serve_loop.specs.Steps.{ServingState, IsSmall, Goes, Halts, sink_failures}
@@ -61,15 +61,16 @@ module _ (by : Answering) (nodes : ℕ) where
   }
 
   -- a run that stops before its first turn, for a reason that no device counts, keeps the promise
-  pub stops_first : {A : Type 0} (turns : ℕ) (p : Pulls) (q : Pushes) (stop : Stop) → IsStopped by turns (untouched p q) [] [] stop
-      → ends_met {A = A} (Err stop) ≡ 0 → read_failures {A = A} (Err stop) ≡ 0 → write_failures {A = A} (Err stop) ≡ 0
-      → IsRun {A = A} by nodes turns (untouched p q) (Err stop)
-  stops_first turns p q stop s e r w = record {
+  pub stops_first : {A : Type 0} (turns : ℕ) (p : Pulls) (q : Pushes) (fault : StreamFault) → IsStopped by turns (untouched p q) [] [] fault
+      → ends_met {A = A} (Err fault) ≡ 0 → read_failures {A = A} (Err fault) ≡ 0 → write_failures {A = A} (Err fault) ≡ 0
+      → IsRun {A = A} by nodes turns (untouched p q) (Err fault)
+  stops_first turns p q fault s e r w = record {
     messages = [];
     rest = [];
     split = record { whole = refl; each = tt; tail = inl (inl refl) };
     begun = record { more = []; is = refl };
-    end = s;
+    served = tt;
+    stopped = s;
     prompt = prompt_first p q;
     counted = record {
       pulls = omega arith;
@@ -91,15 +92,16 @@ module _ (by : Answering) (nodes : ℕ) where
 
   module _ (turn : ℕ) (t : Trace) (v : ServingState) (ms : List (List ℕ)) (r : IsRunning by nodes turn t v ms) where
     -- a run that stops between two turns, for a reason that no device counts, keeps the promise
-    pub stops_between : {A : Type 0} (turns : ℕ) (stop : Stop) → turn ≤ turns → IsStopped by turns t ms v.rest stop
-        → ends_met {A = A} (Err stop) ≡ 0 → read_failures {A = A} (Err stop) ≡ 0 → write_failures {A = A} (Err stop) ≡ 0
-        → IsRun {A = A} by nodes turns t (Err stop)
-    stops_between turns stop h s e f w = record {
+    pub stops_between : {A : Type 0} (turns : ℕ) (fault : StreamFault) → turn ≤ turns → IsStopped by turns t ms v.rest fault
+        → ends_met {A = A} (Err fault) ≡ 0 → read_failures {A = A} (Err fault) ≡ 0 → write_failures {A = A} (Err fault) ≡ 0
+        → IsRun {A = A} by nodes turns t (Err fault)
+    stops_between turns fault h s e f w = record {
       messages = ms;
       rest = v.rest;
       split = split_of t v ms r.goes (inl r.good);
       begun = all_begun t.put (replies_to by ms) r.goes.answered.told;
-      end = s;
+      served = tt;
+      stopped = s;
       prompt = r.prompt;
       counted = record {
         pulls = (let k = r.pulls in omega arith);
@@ -156,7 +158,7 @@ module _ (by : Answering) (nodes : ℕ) where
       quiet : last_size new.last ≡ 0
       quiet = ap last_size counts.3
 
-      counted : {A : Type 0} (result : Result (Done A) Stop) → ends_met result ≡ 1 → read_failures result ≡ 0 → write_failures result ≡ 0
+      counted : {A : Type 0} (result : Result (Done A) StreamFault) → ends_met result ≡ 1 → read_failures result ≡ 0 → write_failures result ≡ 0
           → IsCounted turns (pulled_on t new x) result
       counted result e f w = record {
         pulls = (let a = counts.0 in let b = r.pulls in omega arith);
@@ -175,7 +177,7 @@ module _ (by : Answering) (nodes : ℕ) where
         rest = v.rest;
         split = split_quiet new x none quiet;
         begun = all_begun t.put (replies_to by ms) r.goes.answered.told;
-        end = record {
+        served = record {
           ended = counts.3;
           all_read = e;
           told = record { put = r.goes.answered.told; flushed_all = r.flushed_all };
@@ -184,6 +186,7 @@ module _ (by : Answering) (nodes : ℕ) where
           balanced = subst (λ (bs : List ℤ). AreBalances (moves_of by ms) nodes bs) (sym b)
               (from_nothing nodes (moves_of by ms) v.balances r.goes.answered.moves);
         };
+        stopped = tt;
         prompt = prompt_quiet new x none quiet;
         counted = counted (Ok done) refl refl refl;
       }
@@ -195,7 +198,8 @@ module _ (by : Answering) (nodes : ℕ) where
         rest = v.rest;
         split = split_quiet new x none quiet;
         begun = all_begun t.put (replies_to by ms) r.goes.answered.told;
-        end = (
+        served = tt;
+        stopped = (
           counts.3,
           unfinished v.rest r.good e,
           (let k = r.goes.place in omega arith),
@@ -218,7 +222,8 @@ module _ (by : Answering) (nodes : ℕ) where
           rest = v.rest;
           split = split_quiet new x e q;
           begun = all_begun t.put (replies_to by ms) r.goes.answered.told;
-          end = (k.3, record { put = r.goes.answered.told; flushed_all = r.flushed_all });
+          served = tt;
+          stopped = (k.3, record { put = r.goes.answered.told; flushed_all = r.flushed_all });
           prompt = prompt_quiet new x e q;
           counted = record {
             pulls = omega arith;
@@ -302,7 +307,8 @@ module _ (by : Answering) (nodes : ℕ) where
         rest = w.rest;
         split = record { whole = on.taken; each = on.each; tail = inr (len, b) };
         begun = all_begun _ _ on.answered.told;
-        end = (b, (let q = on.place in omega arith), record { put = on.answered.told; flushed_all = all_flushed });
+        served = tt;
+        stopped = (b, (let q = on.place in omega arith), record { put = on.answered.told; flushed_all = all_flushed });
         prompt = prompt_late new more (not_late t.sink new more p);
         counted = record {
           pulls = (let k = f.pulls in omega arith);
@@ -314,12 +320,14 @@ module _ (by : Answering) (nodes : ℕ) where
       }
 
     -- the sink failed, or memory was refused
-    module _ (ns : List (List ℕ)) (new : Pushes) (more rest : List ℕ) where
-      halts : {A : Type 0} (turns : ℕ) (stop : Stop) → Halts by v t.sink new stop ns more rest → turn < turns
-          → ((a : List (List ℕ)) (b : List ℕ) → IsStopped by turns (pushed_on t new more) a b stop) → ends_met {A = A} (Err stop) ≡ 0
-          → read_failures {A = A} (Err stop) ≡ 0 → write_failures {A = A} (Err stop) ≡ sink_failures stop →
-          IsRun {A = A} by nodes turns (pushed_on t new more) (Err stop)
-      halts turns stop h lt s em rm wm =
+    module _ (new : Pushes) (more : List ℕ) where
+      halts : {A : Type 0} (turns : ℕ) (fault : StreamFault) → Halts by v t.sink new fault more → turn < turns
+          → ((a : List (List ℕ)) (b : List ℕ) → IsStopped by turns (pushed_on t new more) a b fault) → ends_met {A = A} (Err fault) ≡ 0
+          → read_failures {A = A} (Err fault) ≡ 0 → write_failures {A = A} (Err fault) ≡ sink_failures fault →
+          IsRun {A = A} by nodes turns (pushed_on t new more) (Err fault)
+      halts turns fault h lt s em rm wm =
+          let ns = h.messages in
+          let rest = h.rest in
           let (ks, end, q) = some_split rest in
           let all : List (List ℕ) = ns ++ ks in
           let later : v.rest ≡ joined all ++ end = h.taken ∙ ap (λ l. joined ns ++ l) q.whole
@@ -349,28 +357,27 @@ module _ (by : Answering) (nodes : ℕ) where
                   ∙ ap (λ l. t.put ++ l) told
                   ∙ sym (append_assoc t.put more _);
             };
-            end = s (ms ++ all) end;
+            served = tt;
+            stopped = s (ms ++ all) end;
             prompt = prompt_late new more h.late;
             counted = record {
               pulls = (let k = f.pulls in omega arith);
               size = (let k = f.pulls in let z = f.size in omega arith);
               ends = f.ends ∙ zero_more _ ∙ ap (λ n. t.source_before.ends + n) (sym em);
               read = f.read ∙ zero_more _ ∙ ap (λ n. t.source_before.failures + n) (sym rm);
-              write = h.failures ∙ ap (λ n. n + sink_failures stop) f.write ∙ ap (λ n. t.sink_before.failures + n) (sym wm);
+              write = h.failures ∙ ap (λ n. n + sink_failures fault) f.write ∙ ap (λ n. t.sink_before.failures + n) (sym wm);
             };
           }
 
       -- the run ends with `Write` or `Memory`, and what was put is the beginning of the replies
-      pub ends_halt : {A : Type 0} (turns : ℕ) (stop : Stop) → Halts by v t.sink new stop ns more rest → turn < turns
-          → IsRun {A = A} by nodes turns (pushed_on t new more) (Err stop)
+      pub ends_halt : {A : Type 0} (turns : ℕ) (fault : StreamFault) → Halts by v t.sink new fault more → turn < turns
+          → IsRun {A = A} by nodes turns (pushed_on t new more) (Err fault)
       ends_halt turns Write h lt = halts turns Write h lt (λ a b. tt) refl refl refl
       ends_halt turns Memory h lt = halts turns Memory h lt (λ a b. tt) refl refl refl
       ends_halt turns Read h lt = absurd h.halt
       ends_halt turns Turns h lt = absurd h.halt
       ends_halt turns (BadLength at len) h lt = absurd h.halt
       ends_halt turns (CutOff at) h lt = absurd h.halt
-      ends_halt turns (Layer layer fault) h lt = absurd h.halt
-      ends_halt turns (Layers count) h lt = absurd h.halt
 
 -- counts that are small stay so as bytes come
 pub small_fed : (by : Answering) (nodes turn : ℕ) (t : Trace) (v : ServingState) (rest : List ℕ) (ms : List (List ℕ))
@@ -384,7 +391,7 @@ small_fed by nodes turn t v rest ms f s h = record {
 }
 
 -- a run that fails with `Memory` keeps the promise if that end does
-pub run_memory : {A : Type 0} (by : Answering) (nodes turns : ℕ) (t : Trace) (r : Result (Done A) Stop) → IsErrAnd r (λ stop. stop ≡ Memory)
+pub run_memory : {A : Type 0} (by : Answering) (nodes turns : ℕ) (t : Trace) (r : Result (Done A) StreamFault) → IsErrAnd r (λ fault. fault ≡ Memory)
     → IsRun {A = A} by nodes turns t (Err Memory) → IsRun by nodes turns t r
 run_memory by nodes turns t (Ok done) i p = absurd i
-run_memory {A} by nodes turns t (Err stop) i p = subst (λ (s : Stop). IsRun {A = A} by nodes turns t (Err s)) (sym i) p
+run_memory {A} by nodes turns t (Err fault) i p = subst (λ (s : StreamFault). IsRun {A = A} by nodes turns t (Err s)) (sym i) p

@@ -5,7 +5,7 @@ use Rattle.std.proofs.Common.{unsigned_abs, lit≤, ◌≡◌, ◌∙◌, sym, a
 use Rattle.std.proofs.Math.Dec.{eqb-suc-zero}
 use Rattle.std.proofs.lemmas.List.{take_at}
 use Rattle.std.proofs.lemmas.Int.{ints}
-use Rattle.fuse_wire.specs.declared.limits.TheConstants.{PULL_SIZE}
+use Rattle.devices.specs.declared.limits.TheConstants.{PULL_SIZE}
 use Rattle.fuse_wire.specs.Stream.{IsUnfinished, IsOpen, IsSplit}
 use Rattle.reply_model.specs.declared.session.Session.{Session}
 use Rattle.devices.specs.declared.failed.Failed.{Failed}

@@ -8,8 +8,8 @@ use Rattle.fuse_wire.specs.Stream.{IsBad, IsOpen}
 use Rattle.devices.specs.declared.failed.Failed.{Failed}
 use Rattle.devices.specs.States.{Devices, SinkState, SourceState, devices}
 use Rattle.serve_loop.specs.declared.done.Done.{Done}
-use Rattle.serve_loop.specs.declared.stop.Stop.{Stop}
-use Rattle.serve_loop.specs.declared.stop.Stop.TheVariants.{BadLength, CutOff, Memory, Read, Turns}
+use Rattle.serve_loop.specs.declared.stream_fault.StreamFault.{StreamFault}
+use Rattle.serve_loop.specs.declared.stream_fault.StreamFault.TheVariants.{BadLength, CutOff, Memory, Read, Turns}
 use Rattle.serve_loop.specs.Buffers.{Fills}
 use Rattle.serve_loop.specs.Rounds.{Answering}
 use Rattle.serve_loop.specs.Serving.{AreReady, Does, IsRun, Trace, trace}
@@ -41,7 +41,7 @@ module _ (by : Answering) (nodes : ℕ) (old : Devices) where
     pub fed : IsFed by nodes turn (so_far old now got put) v messages
 
   -- a call that touched no device
-  pub never_begun : {A : Type 0} (turns : ℕ) (result : Result (Done A) Stop)
+  pub never_begun : {A : Type 0} (turns : ℕ) (result : Result (Done A) StreamFault)
       → IsRun by nodes turns (untouched old.source.counts old.sink.counts) result → Does (λ t. IsRun by nodes turns t result) old old
   never_begun turns result run = ([], [], Consumes-nil _, Appends-nil _, run)
 
@@ -58,7 +58,7 @@ module _ (by : Answering) (nodes : ℕ) (old : Devices) where
 
   module _ (turn turns : ℕ) (now : Devices) (v : ServingState) (b : IsBefore turn now v) where
     -- memory was refused between two turns
-    pub over_for_memory : {A : Type 0} (result : Result (Done A) Stop) → turn ≤ turns → IsErrAnd result (λ stop. stop ≡ Memory)
+    pub over_for_memory : {A : Type 0} (result : Result (Done A) StreamFault) → turn ≤ turns → IsErrAnd result (λ fault. fault ≡ Memory)
         → Does (λ t. IsRun by nodes turns t result) old now
     over_for_memory result h e =
         (b.got, b.put, b.took, b.held, run_memory by nodes turns _ result e (ends_memory by nodes turn _ v b.messages b.runs turns h))
@@ -143,14 +143,14 @@ module _ (by : Answering) (nodes : ℕ) (old : Devices) where
   -- what is whole of the bytes that came
   module _ (turn turns : ℕ) (now : Devices) (v : ServingState) (f : IsAfter turn now v) where
     -- answering it stopped
-    pub over_for_halt : {A : Type 0} (sink : SinkState) (stop : Stop) → turn < turns → StopsShort by v now.sink sink stop
-        → Does (λ t. IsRun {A = A} by nodes turns t (Err stop)) old (devices now.source sink)
-    over_for_halt sink stop h (ns, out, left, and, halted) = (
+    pub over_for_halt : {A : Type 0} (sink : SinkState) (fault : StreamFault) → turn < turns → StopsShort by v now.sink sink fault
+        → Does (λ t. IsRun {A = A} by nodes turns t (Err fault)) old (devices now.source sink)
+    over_for_halt sink fault h (out, and, halted) = (
       f.got,
       f.put ++ out,
       f.took,
       Appends-trans _ _ _ _ _ f.held and,
-      ends_halt by nodes turn _ v f.messages f.fed ns _ out left turns stop halted h,
+      ends_halt by nodes turn _ v f.messages f.fed _ out turns fault halted h,
     )
 
     -- it was answered

@@ -10,7 +10,7 @@ use Rattle.fuse_wire.specs.Requests.{Asked, asked}
 use Rattle.reply_model.specs.declared.session.Session.{Session}
 use Rattle.reply_model.specs.Sessions.{session_after}
 use Rattle.reply_model.specs.Streams.{replies_by, session_at}
-use Rattle.serve_loop.specs.declared.round.Round.{Round}
+use Rattle.serve_loop.specs.declared.one_round.RoundEnd.{RoundEnd}
 use Rattle.lookup_balances.specs.Balances.{IsLight, IsMoved, AreWithin}
 use Rattle.reply_model.specs.declared.moves.Move.{Move}
 use Rattle.reply_model.specs.Streams.{moves_by}
@@ -147,7 +147,7 @@ pub appended : (all put more old new : List ℕ) → new ≡ old ++ more → old
 appended all put more old new e f = e ∙ ap (λ v. v ++ more) f ∙ append_assoc all put more
 
 -- some of the first messages of a stream are answered with these bytes
-pub record IsSoFar (by : Answering) (s : Session) (stream : List ℕ) (round : Round) (put : List ℕ) (b : Balances) : Type 0 where
+pub record IsSoFar (by : Answering) (s : Session) (stream : List ℕ) (round : RoundEnd) (put : List ℕ) (b : Balances) : Type 0 where
   pub messages : List (List ℕ)
   pub first : AreFirst stream messages round.used
   pub count : round.messages ≡ length messages
@@ -159,7 +159,7 @@ module _ (by : Answering) (s : Session) (stream : List ℕ) where
   nothing_so_far b = record { messages = []; first = none_first stream; count = refl; answered = none_answered by s b }
 
   -- where the next message is answered, one more of the first messages is
-  pub one_more : (round : Round) (put more : List ℕ) (a b c : List ℤ) (rest : List ℕ) (len : ℕ) (after : Session) →
+  pub one_more : (round : RoundEnd) (put more : List ℕ) (a b c : List ℤ) (rest : List ℕ) (len : ℕ) (after : Session) →
       IsSoFar by s stream round put (record { old = a; new = b }) → rest ≡ drop round.used stream
       → BeginsMessage rest len → IsAnswered by round.session (take len rest) after more
       (record { old = b; new = c }) →
@@ -178,7 +178,7 @@ module _ (by : Answering) (s : Session) (stream : List ℕ) where
       }
 
   -- the messages answered so far are a round, if there is one or what is left begins with none
-  pub is_round : (round : Round) (put : List ℕ) (b : Balances) → IsSoFar by s stream round put b
+  pub is_round : (round : RoundEnd) (put : List ℕ) (b : Balances) → IsSoFar by s stream round put b
       → (0 < round.messages) ⊎ IsRest (drop round.used stream) → IsRound by s stream round put b
   is_round round put b f o = record {
     messages = f.messages;
@@ -189,7 +189,7 @@ module _ (by : Answering) (s : Session) (stream : List ℕ) where
   }
 
   -- a round takes balances within 2^122 no further than 2^123, if the stream has at most 2^57 bytes
-  pub so_far_within : (round : Round) (put : List ℕ) (a b : List ℤ)
+  pub so_far_within : (round : RoundEnd) (put : List ℕ) (a b : List ℤ)
       → IsSoFar by s stream round put (record { old = a; new = b }) → AreWithin (2 ^ 122) a
       → length stream ≤ 2 ^ 57 → AreWithin (2 ^ 123) b
   so_far_within round put a b f w n =

@@ -3,7 +3,7 @@ use Rattle.std.specs.Prelude.{◌≡◌, ℕ, ◌+◌, ◌-◌, ◌≤◌, List,
 use Rattle.devices.specs.declared.failed.Failed.{Failed}
 use Rattle.devices.specs.declared.counts.Pulls.{Pulls}
 use Rattle.std.specs.Io.KnownBytes.{Consumes}
-use Rattle.fuse_wire.specs.declared.limits.TheConstants.{PULL_SIZE}
+use Rattle.devices.specs.declared.limits.TheConstants.{PULL_SIZE}
 use Rattle.devices.specs.Counting.{pulled}
 use Rattle.devices.specs.States.{SourceState}
 use Rattle.serve_loop.specs.declared.buffer.Buffer.{Buffer}

@@ -1,9 +1,11 @@
--- Worked examples: what was got before the last pull, and what was put and has been flushed since.
+-- Worked examples: what was got before the last pull, what was put and has been flushed since, and
+-- the numbers of the limits.
 use Rattle.std.specs.Prelude.{◌≡◌, [], ◌∷◌, Ok, Err}
 use Rattle.devices.specs.declared.failed.Failed.{Failed}
 use Rattle.devices.specs.declared.counts.Pulls.{Pulls}
 use Rattle.devices.specs.declared.counts.Pushes.{Pushes}
 use Rattle.devices.specs.Counting.{no_pulls, no_pushes, pulled, pushed, flushed}
+use Rattle.serve_loop.specs.declared.limits.TheConstants.{ENOUGH_REPLIES, MAX_ROUND_MESSAGES}
 use Rattle.serve_loop.specs.Serving.{Trace, trace, before, flushed_bytes}
 
 -- five bytes were got and three put, by a source and a sink with these counts
@@ -32,3 +34,8 @@ pub record PushExamples : Type 0 where
       (pushed (flushed (pushed no_pushes 2 (Ok 2)) (Ok tt)) 1 (Ok 1))) ≡ 7 ∷ 8 ∷ []
   pub all : flushed_bytes (some_trace no_pulls
       (flushed (pushed (pushed no_pushes 3 (Ok 2)) 1 (Ok 1)) (Ok tt))) ≡ 7 ∷ 8 ∷ 9 ∷ []
+
+-- the limits of a round
+pub record LimitExamples : Type 0 where
+  pub round : MAX_ROUND_MESSAGES ≡ 256
+  pub enough : ENOUGH_REPLIES ≡ 262144

@@ -6,7 +6,7 @@ use Rattle.fuse_wire.specs.Requests.{Asked, asked}
 use Rattle.reply_model.specs.declared.session.Session.{Session}
 use Rattle.reply_model.specs.Sessions.{session_after}
 use Rattle.reply_model.specs.Streams.{replies_by, session_at}
-use Rattle.serve_loop.specs.declared.round.Round.{Round}
+use Rattle.serve_loop.specs.declared.one_round.RoundEnd.{RoundEnd}
 use Rattle.lookup_balances.specs.Balances.{IsLight, IsMoved}
 use Rattle.reply_model.specs.declared.moves.Move.{Move}
 use Rattle.reply_model.specs.Streams.{moves_by}
@@ -54,7 +54,7 @@ pub record AreAnswered (by : Answering) (s : Session) (messages : List (List ℕ
   pub light : IsLight (moves_by by.moved s (map asked messages)) (length (joined messages))
 
 -- a round answered the first messages of a stream with these bytes: at least one, if one is whole
-pub record IsRound (by : Answering) (s : Session) (stream : List ℕ) (round : Round) (put : List ℕ)
+pub record IsRound (by : Answering) (s : Session) (stream : List ℕ) (round : RoundEnd) (put : List ℕ)
     (b : Balances) : Type 0 where
   pub messages : List (List ℕ)
   pub first : AreFirst stream messages round.used
@@ -62,14 +62,23 @@ pub record IsRound (by : Answering) (s : Session) (stream : List ℕ) (round : R
   pub answered : AreAnswered by s messages round.session put b
   pub some : (0 < length messages) ⊎ IsRest (drop round.used stream)
 
--- the reply to a message was appended to what there was before, and what it moves added to the
--- balances
-abbrev pub AppendsAnswer : Answering → Session → List ℕ → Session → List ℕ → List ℕ → Balances
-    → Type 0
-AppendsAnswer by s m after old new b =
-    (put : List ℕ) × (new ≡ old ++ put) × IsAnswered by s m after put b
+-- what answering adds to: the replies so far, and the balances
+pub record Output : Type 0 where
+  pub replies : List ℕ
+  pub balances : List ℤ
+
+-- the same, of its parts
+abbrev pub output : List ℕ → List ℤ → Output
+output replies balances = record { replies = replies; balances = balances }
+
+-- the reply to a message was appended to the replies, and what it moves added to the balances
+abbrev pub AppendsAnswer : Answering → Session → List ℕ → Session → Output → Output → Type 0
+AppendsAnswer by s m after old new =
+    (put : List ℕ) × (new.replies ≡ old.replies ++ put)
+    × IsAnswered by s m after put (change old.balances new.balances)
 
 -- the same for the messages of a round
-abbrev pub AppendsRound : Answering → Session → List ℕ → Round → List ℕ → List ℕ → Balances → Type 0
-AppendsRound by s stream round old new b =
-    (put : List ℕ) × (new ≡ old ++ put) × IsRound by s stream round put b
+abbrev pub AppendsRound : Answering → Session → List ℕ → RoundEnd → Output → Output → Type 0
+AppendsRound by s stream round old new =
+    (put : List ℕ) × (new.replies ≡ old.replies ++ put)
+    × IsRound by s stream round put (change old.balances new.balances)

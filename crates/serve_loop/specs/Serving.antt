@@ -1,7 +1,7 @@
 -- What serving a stream promises, whatever answers its requests.
-use Rattle.std.specs.Prelude.{◌≡◌, ℕ, ◌+◌, ◌-◌, ◌*◌, ◌<◌, ◌≤◌, ◌^◌, List, [], ◌++◌, length, take, map, ℤ, Option, Some, Result, Ok, Err}
+use Rattle.std.specs.Prelude.{◌≡◌, ℕ, ◌+◌, ◌-◌, ◌*◌, ◌<◌, ◌≤◌, ◌^◌, List, [], ◌++◌, length, take, map, ℤ, Option, Some, Result, Ok, Err, IfOk, IfErr}
 use Rattle.std.specs.Io.KnownBytes.{Appends, Consumes}
-use Rattle.fuse_wire.specs.declared.limits.TheConstants.{MAX_TURNS, PULL_SIZE}
+use Rattle.devices.specs.declared.limits.TheConstants.{MAX_TURNS, PULL_SIZE}
 use Rattle.fuse_wire.specs.Stream.{IsUnfinished, IsBad, IsOpen, IsSplit}
 use Rattle.fuse_wire.specs.Requests.{asked}
 use Rattle.reply_model.specs.Streams.{replies_by}
@@ -15,8 +15,8 @@ use Rattle.reply_model.specs.declared.moves.Move.{Move}
 use Rattle.reply_model.specs.Moves.{balance}
 use Rattle.reply_model.specs.Streams.{moves_by}
 use Rattle.serve_loop.specs.Rounds.{Answering, joined}
-use Rattle.serve_loop.specs.declared.stop.Stop.{Stop}
-use Rattle.serve_loop.specs.declared.stop.Stop.TheVariants.{Layer, Layers, BadLength, CutOff, Read, Write, Turns, Memory}
+use Rattle.serve_loop.specs.declared.stream_fault.StreamFault.{StreamFault}
+use Rattle.serve_loop.specs.declared.stream_fault.StreamFault.TheVariants.{BadLength, CutOff, Read, Write, Turns, Memory}
 use Rattle.serve_loop.specs.declared.done.Done.{Done}
 
 -- no count of the devices can overflow in this many turns
@@ -107,7 +107,7 @@ pub record IsServed {A : Type 0} (by : Answering) (nodes : ℕ) (t : Trace) (mes
   pub balanced : AreBalances (moves_of by messages) nodes done.balances.items
 
 -- why serving stopped, and where
-abbrev pub IsStopped : Answering → ℕ → Trace → List (List ℕ) → List ℕ → Stop → Type 0
+abbrev pub IsStopped : Answering → ℕ → Trace → List (List ℕ) → List ℕ → StreamFault → Type 0
 IsStopped by turns t messages rest (BadLength at len) =
     IsBad rest len × (at ≡ length (joined messages)) × IsAllTold by t messages
 IsStopped by turns t messages rest (CutOff at) =
@@ -118,35 +118,27 @@ IsStopped by turns t messages rest Turns =
     (t.source.pulls ≡ t.source_before.pulls + turns) × IsOpen rest × IsAllTold by t messages
 IsStopped by turns t messages rest Write = Unit {0}
 IsStopped by turns t messages rest Memory = Unit {0}
-IsStopped by turns t messages rest (Layer layer fault) = ⊥
-IsStopped by turns t messages rest (Layers count) = ⊥
-
--- what serving came to: it reached the end, or it stopped
-abbrev pub IsOutcome : {A : Type 0} → Answering → ℕ → ℕ → Trace → List (List ℕ) → List ℕ
-    → Result (Done A) Stop → Type 0
-IsOutcome by nodes turns t messages rest (Ok done) = IsServed by nodes t messages rest done
-IsOutcome by nodes turns t messages rest (Err stop) = IsStopped by turns t messages rest stop
 
 -- how often the source met its end
-abbrev pub ends_met : {A : Type 0} → Result (Done A) Stop → ℕ
+abbrev pub ends_met : {A : Type 0} → Result (Done A) StreamFault → ℕ
 ends_met (Ok done) = 1
 ends_met (Err (CutOff at)) = 1
 ends_met (Err _) = 0
 
 -- how often the source failed
-abbrev pub read_failures : {A : Type 0} → Result (Done A) Stop → ℕ
+abbrev pub read_failures : {A : Type 0} → Result (Done A) StreamFault → ℕ
 read_failures (Err Read) = 1
 read_failures _ = 0
 
 -- how often the sink failed
-abbrev pub write_failures : {A : Type 0} → Result (Done A) Stop → ℕ
+abbrev pub write_failures : {A : Type 0} → Result (Done A) StreamFault → ℕ
 write_failures (Err Write) = 1
 write_failures _ = 0
 
 -- each fault is told where its device met it, and nowhere else; no more pulls than turns, no more
 -- bytes than pulls
 pub record IsCounted {A : Type 0} (turns : ℕ) (t : Trace)
-    (result : Result (Done A) Stop) : Type 0 where
+    (result : Result (Done A) StreamFault) : Type 0 where
   pub pulls : t.source.pulls ≤ t.source_before.pulls + turns
   pub size : length t.got ≤ PULL_SIZE * (t.source.pulls - t.source_before.pulls)
   pub ends : t.source.ends ≡ t.source_before.ends + ends_met result
@@ -164,11 +156,12 @@ pub record IsPrompt (by : Answering) (t : Trace) : Type 0 where
 -- a stream was served: what was put is the beginning of the replies, at every end, and all of them
 -- where nothing stood in the way
 pub record IsRun {A : Type 0} (by : Answering) (nodes turns : ℕ) (t : Trace)
-    (result : Result (Done A) Stop) : Type 0 where
+    (result : Result (Done A) StreamFault) : Type 0 where
   pub messages : List (List ℕ)
   pub rest : List ℕ
   pub split : IsSplit t.got messages rest
   pub begun : Begins t.put (replies_to by messages)
-  pub end : IsOutcome by nodes turns t messages rest result
+  pub served : IfOk result (IsServed by nodes t messages rest)
+  pub stopped : IfErr result (IsStopped by turns t messages rest)
   pub prompt : IsPrompt by t
   pub counted : IsCounted turns t result

@@ -11,8 +11,8 @@ use Rattle.devices.specs.Pushing.{HasFlushed}
 use Rattle.devices.specs.States.{SinkState}
 use Rattle.lookup_balances.specs.Balances.{AreWithin}
 use Rattle.serve_loop.specs.Rounds.{Answering, joined, AreAnswered}
-use Rattle.serve_loop.specs.declared.stop.Stop.{Stop}
-use Rattle.serve_loop.specs.declared.stop.Stop.TheVariants.{Write, Memory}
+use Rattle.serve_loop.specs.declared.stream_fault.StreamFault.{StreamFault}
+use Rattle.serve_loop.specs.declared.stream_fault.StreamFault.TheVariants.{Write, Memory}
 use Rattle.serve_loop.specs.declared.progress.Progress.{Progress}
 use Rattle.serve_loop.specs.Buffers.{held_in, IsWithinBytes}
 use Rattle.serve_loop.specs.Serving.{Begins}
@@ -79,24 +79,26 @@ GoesOn true from to = length to.rest < length from.rest
 GoesOn false from to = IsRest to.rest
 
 -- how often the sink failed where answering stopped for this reason
-abbrev pub sink_failures : Stop → ℕ
+abbrev pub sink_failures : StreamFault → ℕ
 sink_failures Write = 1
 sink_failures _ = 0
 
 -- the sink failed, or memory was refused
-abbrev pub IsHalt : Stop → Type 0
+abbrev pub IsHalt : StreamFault → Type 0
 IsHalt Write = Unit {0}
 IsHalt Memory = Unit {0}
 IsHalt _ = ⊥
 
--- answering stopped with a part of the replies put
-pub record Halts (by : Answering) (from : ServingState) (before after : Pushes) (stop : Stop)
-    (messages : List (List ℕ)) (put rest : List ℕ) : Type 0 where
-  pub halt : IsHalt stop
+-- answering some messages stopped with a part of their replies put
+pub record Halts (by : Answering) (from : ServingState) (before after : Pushes)
+    (fault : StreamFault) (put : List ℕ) : Type 0 where
+  pub messages : List (List ℕ)
+  pub rest : List ℕ
+  pub halt : IsHalt fault
   pub taken : from.rest ≡ joined messages ++ rest
   pub each : AllByRecursion IsMessage messages
   pub told : Begins put (replies_by by.reply from.session (map asked messages))
-  pub failures : after.failures ≡ before.failures + sink_failures stop
+  pub failures : after.failures ≡ before.failures + sink_failures fault
   pub late : after.unflushed ≤ before.unflushed + length put
 
 -- some messages were answered, and their replies handed on
@@ -117,7 +119,7 @@ abbrev pub AdvancesToRest : Answering → ServingState → ServingState → Sink
 AdvancesToRest by from to old new = Proceeds by from to old new × IsRest to.rest
 
 -- answering stopped, and the sink took a part of the replies
-abbrev pub StopsShort : Answering → ServingState → SinkState → SinkState → Stop → Type 0
-StopsShort by from old new stop =
-    (ms : List (List ℕ)) × (put : List ℕ) × (rest : List ℕ) × Appends old.held new.held put
-    × Halts by from old.counts new.counts stop ms put rest
+abbrev pub StopsShort : Answering → ServingState → SinkState → SinkState → StreamFault → Type 0
+StopsShort by from old new fault =
+    (put : List ℕ) × Appends old.held new.held put
+    × Halts by from old.counts new.counts fault put

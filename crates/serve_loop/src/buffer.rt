@@ -8,11 +8,11 @@
 ghost use Rattle.std.specs.Prelude.{◌≡◌, ◌+◌, ◌-◌, ◌<◌, ◌≤◌, length, take, drop, [], OnOk, IfOk, MatchResult};
 ghost use Rattle.std.specs.Io.KnownBytes.{Consumes, IsAtEnd, Keeps};
 ghost use Rattle.devices.specs.Counting.{pulled};
-ghost use Rattle.fuse_wire.specs.declared.limits.TheConstants.{PULL_SIZE};
+ghost use Rattle.devices.specs.declared.limits.TheConstants.{PULL_SIZE};
 ghost use Rattle.serve_loop.specs.Buffers.{part, held_in, IsWithinBytes, HasRoom, Fills};
 
+use devices::limits::PULL_SIZE;
 use devices::{Failed, Source};
-use fuse_wire::limits::PULL_SIZE;
 use std::alloc::{AllocError, Allocator};
 
 /// Bytes that were pulled and are not answered yet.

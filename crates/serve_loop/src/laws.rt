@@ -5,8 +5,8 @@ ghost use Rattle.fuse_wire.specs.Stream.{IsSplit};
 ghost use Rattle.reply_model.specs.declared.moves.Move.{Move};
 ghost use Rattle.serve_loop.specs.Rounds.{Answering};
 ghost use Rattle.serve_loop.specs.declared.done.Done.{Done};
-ghost use Rattle.serve_loop.specs.declared.stop.Stop.{Stop};
-ghost use Rattle.serve_loop.specs.declared.stop.Stop.TheVariants.{BadLength, CutOff, Read, Write, Turns};
+ghost use Rattle.serve_loop.specs.declared.stream_fault.StreamFault.{StreamFault};
+ghost use Rattle.serve_loop.specs.declared.stream_fault.StreamFault.TheVariants.{BadLength, CutOff, Read, Write, Turns};
 ghost use Rattle.serve_loop.specs.Serving.{Trace, AreBalances, IsRun, IsPrompt, Begins, replies_to, flushed_bytes, before};
 ghost use Rattle.serve_loop.specs.Laws.{HasServed, HasBadLength, IsCutOff, HasFailed, HasUsedTurns, IsFront};
 
@@ -32,10 +32,10 @@ pub fn ends_are_told<A: Allocator>()
 /// did, and each failed once.
 #[tactic(auto, using(crate::proofs::Ends::faults))]
 pub fn faults_are_the_devices<A: Allocator>()
-    ensures read { (by : Answering) (n turns : ℕ) (t : Trace) (r : Result (Done A) Stop) →
+    ensures read { (by : Answering) (n turns : ℕ) (t : Trace) (r : Result (Done A) StreamFault) →
         IsRun by n turns t r →
         ((r ≡ Err Read) ↔ (t.source.failures ≡ t.source_before.failures + 1)) }
-    ensures write { (by : Answering) (n turns : ℕ) (t : Trace) (r : Result (Done A) Stop) →
+    ensures write { (by : Answering) (n turns : ℕ) (t : Trace) (r : Result (Done A) StreamFault) →
         IsRun by n turns t r → ((r ≡ Err Write) ↔ (t.sink.failures ≡ t.sink_before.failures + 1)) }
 {}
 
@@ -44,11 +44,11 @@ pub fn faults_are_the_devices<A: Allocator>()
 /// which it is cut in one way.
 #[tactic(auto, using(crate::proofs::Ends::always))]
 pub fn replies_come_in_order<A: Allocator>()
-    ensures front { (by : Answering) (n turns : ℕ) (t : Trace) (r : Result (Done A) Stop) →
+    ensures front { (by : Answering) (n turns : ℕ) (t : Trace) (r : Result (Done A) StreamFault) →
         IsRun by n turns t r → IsFront by t }
-    ensures prompt { (by : Answering) (n turns : ℕ) (t : Trace) (r : Result (Done A) Stop) →
+    ensures prompt { (by : Answering) (n turns : ℕ) (t : Trace) (r : Result (Done A) StreamFault) →
         IsRun by n turns t r → IsPrompt by t }
-    ensures flushed { (by : Answering) (n turns : ℕ) (t : Trace) (r : Result (Done A) Stop)
+    ensures flushed { (by : Answering) (n turns : ℕ) (t : Trace) (r : Result (Done A) StreamFault)
         (messages : List (List ℕ)) (rest : List ℕ) → IsRun by n turns t r →
         IsSplit (before t) messages rest → Begins (replies_to by messages) (flushed_bytes t) }
 {}

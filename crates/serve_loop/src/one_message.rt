@@ -4,7 +4,7 @@ ghost use Rattle.std.specs.Prelude.{◌≡◌, ◌^◌, ◌++◌, ℕ, List, len
 ghost use Rattle.fuse_wire.specs.Stream.{IsMessage};
 ghost use Rattle.reply_model.specs.declared.session.Session.{Session};
 ghost use Rattle.lookup_balances.specs.Balances.{AreWithin};
-ghost use Rattle.serve_loop.specs.Rounds.{Answering, change, AppendsAnswer};
+ghost use Rattle.serve_loop.specs.Rounds.{Answering, output, AppendsAnswer};
 
 use fuse_wire::Replies;
 use reply_model::Session;
@@ -34,5 +34,5 @@ pub trait AnswersOne {
         requires nodes { length balances.old ≡ nodes self.now }
         requires within { AreWithin (2 ^ 123) balances.old }
         ensures { IfOk result (λ after. AppendsAnswer (answering self.now) session message.now after
-            replies.old.items replies.new.items (change balances.old balances.new)) };
+            (output replies.old.items balances.old) (output replies.new.items balances.new)) };
 }

@@ -2,11 +2,11 @@
 
 ghost use Rattle.std.specs.Prelude.{◌≡◌, ◌≤◌, ◌^◌, ◌++◌, ℕ, List, length, IfOk};
 ghost use Rattle.lookup_balances.specs.Balances.{AreWithin};
-ghost use Rattle.serve_loop.specs.Rounds.{change, AppendsRound};
+ghost use Rattle.serve_loop.specs.Rounds.{output, AppendsRound};
 
+use crate::limits::{ENOUGH_REPLIES, MAX_ROUND_MESSAGES};
 use crate::one_message::AnswersOne;
-use crate::round::Round;
-use fuse_wire::limits::{ENOUGH_REPLIES, MAX_ROUND_MESSAGES};
+use crate::one_round::RoundEnd;
 use fuse_wire::{Framed, Replies, frame};
 use reply_model::Session;
 use std::alloc::{AllocError, Allocator};
@@ -22,15 +22,15 @@ pub fn walk<T: AnswersOne, A: Allocator>(
     session: Session,
     replies: &mut Replies<A>,
     balances: &mut [i128],
-) -> Result<Round, AllocError>
+) -> Result<RoundEnd, AllocError>
     requires nodes { length balances.old ≡ T.nodes answers.now }
     requires within { AreWithin (2 ^ 122) balances.old }
     requires short { length stream.now ≤ 2 ^ 57 }
     ensures { IfOk result (λ round. AppendsRound (T.answering answers.now) session stream.now round
-        replies.old.items replies.new.items (change balances.old balances.new)) }
+        (output replies.old.items balances.old) (output replies.new.items balances.new)) }
 {
     let begun = replies.len();
-    let mut round = Round {
+    let mut round = RoundEnd {
         used: 0,
         messages: 0,
         session,

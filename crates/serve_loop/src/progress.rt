@@ -6,8 +6,9 @@ ghost use Rattle.serve_loop.specs.Steps.{serving_state, beginning};
 
 use crate::buffer::Buffer;
 use crate::done::Done;
+use crate::limits::ENOUGH_REPLIES;
 use fuse_wire::Replies;
-use fuse_wire::limits::{ENOUGH_REPLIES, MAX_REPLY_SIZE};
+use fuse_wire::limits::MAX_REPLY_SIZE;
 use reply_model::Session;
 use std::alloc::{AllocError, Allocator};
 

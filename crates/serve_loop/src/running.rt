@@ -4,18 +4,17 @@ ghost use Rattle.std.specs.Prelude.{◌≡◌, Err, MatchOption, OnOk};
 ghost use Rattle.std.specs.Io.KnownBytes.{IsAtEnd};
 ghost use Rattle.devices.specs.States.{devices};
 ghost use Rattle.fuse_wire.specs.Stream.{IsRest, IsBad, IsOpen};
-ghost use Rattle.serve_loop.specs.declared.stop.Stop.TheVariants.{Turns};
+ghost use Rattle.serve_loop.specs.declared.stream_fault.StreamFault.TheVariants.{Turns};
 ghost use Rattle.serve_loop.specs.Serving.{AreReady, Does, IsRun};
 
 use crate::done::Done;
+use crate::one_round::AnswersRounds;
 use crate::progress::Progress;
-use crate::round::Rounds;
 use crate::rounds_on::answer_all;
-use crate::stop::Stop;
+use crate::stream_fault::StreamFault;
 use devices::{Sink, Source};
 use fuse_wire::{Framed, frame};
 use std::alloc::Allocator;
-use std::thread::Threads;
 
 /// Serves the source's stream of requests into the sink, in at most `turns` pulls of at most 65,536
 /// bytes each. The stream begins in the session that `answers` names.
@@ -27,16 +26,15 @@ use std::thread::Threads;
 /// - `Write` and `Memory`: some of the first replies are written.
 ///
 /// `Read` and `Write` come exactly where the source's or the sink's count of failures rose in this
-/// call. A fault of an image is never told. No pull follows an end, a bad length or a failure, and
-/// no device is called after memory was refused. With no turns it answers `Turns` at once.
-pub fn run_by<R: Threads + Sync, T: Rounds, S: Source, K: Sink, A: Allocator + Copy + Send + Sync>(
-    rt: &R,
+/// call. No pull follows an end, a bad length or a failure, and no device is called after memory was
+/// refused. With no turns it answers `Turns` at once.
+pub fn run_by<T: AnswersRounds, S: Source, K: Sink, A: Allocator + Copy>(
     alloc: A,
     answers: &T,
     source: &mut S,
     sink: &mut K,
     turns: u64,
-) -> Result<Done<A>, Stop>
+) -> Result<Done<A>, StreamFault>
     requires ready { T.ready answers.now }
     requires devices { AreReady turns (devices (S.state source.old) (K.state sink.old)) }
     ensures run { Does (λ t. IsRun (T.answering answers.now) (T.nodes answers.now) turns t result)
@@ -46,34 +44,34 @@ pub fn run_by<R: Threads + Sync, T: Rounds, S: Source, K: Sink, A: Allocator + C
     ensures at_once { turns ≡ 0 → result ≡ Err Turns }
 {
     if turns == 0 {
-        return Err(Stop::Turns);
+        return Err(StreamFault::Turns);
     }
     let mut progress = Progress::new(alloc, answers.first(), answers.nodes())?;
     for _turn in 0..turns {
         progress.buffer.make_room()?;
         let got = match progress.buffer.pull(source) {
             Ok(got) => got,
-            Err(_) => return Err(Stop::Read),
+            Err(_) => return Err(StreamFault::Read),
         };
         if got == 0 {
             if progress.buffer.rest().is_empty() {
                 return Ok(progress.done());
             }
-            return Err(Stop::CutOff { at: progress.at });
+            return Err(StreamFault::CutOff { at: progress.at });
         }
         // as `?`, but each end is an arm, by whose name the proof speaks of it
-        match answer_all(rt, alloc, answers, &mut progress, sink) {
+        match answer_all(answers, &mut progress, sink) {
             Ok(()) => {}
-            Err(stop) => return Err(stop),
+            Err(fault) => return Err(fault),
         }
         if let Some(len) = bad_length(progress.buffer.rest()) {
-            return Err(Stop::BadLength {
+            return Err(StreamFault::BadLength {
                 at: progress.at,
                 len,
             });
         }
     }
-    Err(Stop::Turns)
+    Err(StreamFault::Turns)
 }
 
 // The length that the next message says, where no message has it, of bytes in which none is whole.

@@ -1,7 +1,7 @@
 use Rattle.std.proofs.Common.{◌≡◌, ◌≤◌, ℕ, ap, arith, length, subst, sym}
 use Rattle.std.specs.Vec.{vec_items}
 use Rattle.std.proofs.Math.Facts.{Fits-lt-pow}
-use Rattle.fuse_wire.specs.declared.limits.TheConstants.{MAX_ROUND_MESSAGES}
+use Rattle.serve_loop.specs.declared.limits.TheConstants.{MAX_ROUND_MESSAGES}
 use Rattle.reply_pieces.specs.Batches.{batches}
 use Rattle.reply_pieces.specs.Spread.{AreFirstJobs}
 use Rattle.reply_pieces.proofs.Batched.{batches_few}

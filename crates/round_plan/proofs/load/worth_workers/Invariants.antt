@@ -1,5 +1,5 @@
 use Rattle.std.proofs.Common.{◌*◌, ◌-◌, ◌^◌, ◌≤◌}
-use Rattle.fuse_wire.specs.declared.limits.TheConstants.{MAX_ROUND_MESSAGES}
+use Rattle.serve_loop.specs.declared.limits.TheConstants.{MAX_ROUND_MESSAGES}
 use Rattle.round_plan.proofs.load.worth_workers.Given as goal
 
 -- at most 256 messages so far, a bounded time for each, and replies within 2 MiB

@@ -3,12 +3,12 @@ use Rattle.serve_loop.specs.Steps.{serving_state, IsInOrder, Proceeds}
 use Rattle.serve_loop.proofs.rounds_on.answer_all.Given as goal
 
 -- some messages are answered, and their replies flushed
-abbrev pub invariant-loop-stop : goal.invariant-loop-stop
-invariant-loop-stop g l =
-    Proceeds (g.T.Rounds.answering l.answers) (serving_state l.initial.progress) (serving_state l.progress)
+abbrev pub invariant-loop-fault : goal.invariant-loop-fault
+invariant-loop-fault g l =
+    Proceeds (g.T.AnswersRounds.answering l.answers) (serving_state l.initial.progress) (serving_state l.progress)
     (g.K.Sink.state l.initial.sink) (g.K.Sink.state l.sink)
-    × IsInOrder (g.T.Rounds.nodes l.answers) l.progress
+    × IsInOrder (g.T.AnswersRounds.nodes l.answers) l.progress
 
 -- how many bytes are not answered yet
-abbrev pub decreases-loop-stop : goal.decreases-loop-stop
-decreases-loop-stop g l = length (serving_state l.progress).rest
+abbrev pub decreases-loop-fault : goal.decreases-loop-fault
+decreases-loop-fault g l = length (serving_state l.progress).rest

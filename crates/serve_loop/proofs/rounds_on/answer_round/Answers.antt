@@ -15,7 +15,7 @@ use Rattle.serve_loop.proofs.rounds_on.answer_round.Goals.{In_ok-round}
 use Rattle.serve_loop.proofs.rounds_on.answer_round.Goals as goal
 
 -- the round that was answered, as one of the state before it
-seen : (g : Over) (c : In_ok-round g) → IsRound (g.T.Rounds.answering c.args.answers.now) (serving_state c.args.progress.now).session
+seen : (g : Over) (c : In_ok-round g) → IsRound (g.T.AnswersRounds.answering c.args.answers.now) (serving_state c.args.progress.now).session
     (serving_state c.args.progress.now).rest c.in_ok-round.round c.in_ok-round.ensures.0
     (record { old = c.args.progress.now.balances.items; new = (with_items c.args.progress.now.balances c.answer_round.new.balances).items })
 seen g c =
@@ -28,15 +28,13 @@ pub returns-in_err-round-clause-err : goal.returns-in_err-round-clause-err
 returns-in_err-round-clause-err g c =
     from_memory c.from_residual.result _ c.from_residual.ensures.1 (
       [],
-      [],
-      _,
       Appends-nil _,
-      halts_now (g.T.Rounds.answering c.args.answers.now) (serving_state c.args.progress.now) _,
+      halts_now (g.T.AnswersRounds.answering c.args.answers.now) (serving_state c.args.progress.now) _,
     )
 
 pub returns-then-round-eq0-clause-ok : goal.returns-then-round-eq0-clause-ok
 returns-then-round-eq0-clause-ok g c =
-    let by = g.T.Rounds.answering c.args.answers.now in
+    let by = g.T.AnswersRounds.answering c.args.answers.now in
     let from = serving_state c.args.progress.now in
     let round = c.in_ok-round.round in
     let r = seen g (goal.at.returns-then-round-eq0-clause-ok g c).In_ok-round in (
@@ -60,7 +58,7 @@ overflow_add-progress-2 g c =
 
 pub returns : goal.returns
 returns g c =
-    let by = g.T.Rounds.answering c.args.answers.now in
+    let by = g.T.AnswersRounds.answering c.args.answers.now in
     let from = serving_state c.args.progress.now in
     let round = c.in_ok-round.round in
     let put = c.in_ok-round.ensures.0 in
@@ -109,7 +107,7 @@ returns-in_err-round-clause-ok g c = IfOk-from_err c.from_residual.result _ c.fr
 
 pub returns-then-round-eq0-clause-in_order : goal.returns-then-round-eq0-clause-in_order
 returns-then-round-eq0-clause-in_order g c =
-    let by = g.T.Rounds.answering c.args.answers.now in
+    let by = g.T.AnswersRounds.answering c.args.answers.now in
     let from = serving_state c.args.progress.now in
     let round = c.in_ok-round.round in
     let r = seen g (goal.at.returns-then-round-eq0-clause-in_order g c).In_ok-round in

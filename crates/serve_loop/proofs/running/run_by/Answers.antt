@@ -19,8 +19,8 @@ returns-in_err-progress-clause-run g c =
 
 pub loop-turn-init : goal.loop-turn-init
 loop-turn-init g c =
-    let by = g.T.Rounds.answering c.args.answers.now in
-    let nodes = g.T.Rounds.nodes c.args.answers.now in
+    let by = g.T.AnswersRounds.answering c.args.answers.now in
+    let nodes = g.T.AnswersRounds.nodes c.args.answers.now in
     let p = c.in_ok-progress.ensures in
     let is = p.1 ∙ ap (λ s. start s c.nodes.result []) c.first.ensures ∙ ap (λ n. start by.first n []) c.nodes.ensures in (
       first_turn by nodes _ (serving_state c.in_ok-progress.progress) is,
@@ -50,7 +50,7 @@ returns-then-got-eq0-clause-run g c =
 
 -- what a pull gave stands behind what was left
 fed_now : (g : Over) (c : In-Ok g) → (c.in-Ok.got ≡ 0 → ⊥)
-    → IsAfter (g.T.Rounds.answering c.args.answers.now) (g.T.Rounds.nodes c.args.answers.now)
+    → IsAfter (g.T.AnswersRounds.answering c.args.answers.now) (g.T.AnswersRounds.nodes c.args.answers.now)
     (devices (g.S.Source.state c.args.source.now) (g.K.Sink.state c.args.sink.now)) c.loop-turn._turn
     (devices (g.S.Source.state c.pull.new.source) (g.K.Sink.state c.loop-turn.sink))
     (record (serving_state c.loop-turn.progress) { rest = held_in c.pull.new.self })
@@ -59,7 +59,7 @@ fed_now g c some =
     c.in-Ok.ensures.pull some
 
 pub answer_all-requires-clause-in_order : goal.answer_all-requires-clause-in_order
-answer_all-requires-clause-in_order g c κs within =
+answer_all-requires-clause-in_order g c =
     let fed = fed_now g (goal.at.answer_all-requires-clause-in_order g c).In-Ok c.if-got-eq0.false in
     record {
       range = c.pull.ensures.range;
@@ -137,7 +137,7 @@ pub returns-then-got-eq0-clause-at_once : goal.returns-then-got-eq0-clause-at_on
 returns-then-got-eq0-clause-at_once g c = λ none. absurd (c.if-turns-eq0.false none)
 
 pub answer_all-requires-clause-ready : goal.answer_all-requires-clause-ready
-answer_all-requires-clause-ready g c κs within = c.requires.ready
+answer_all-requires-clause-ready g c = c.requires.ready
 
 pub returns-in-Err-answer_all-clause-end : goal.returns-in-Err-answer_all-clause-end
 returns-in-Err-answer_all-clause-end g c = tt

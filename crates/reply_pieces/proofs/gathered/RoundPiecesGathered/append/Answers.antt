@@ -1,5 +1,5 @@
 use Rattle.std.proofs.Common.{subst, sym}
-use Rattle.serve_loop.specs.Rounds.{Answering, AppendsRound, change}
+use Rattle.serve_loop.specs.Rounds.{Answering, AppendsRound, output}
 use Rattle.reply_pieces.specs.Batches.{AreOrdered}
 use Rattle.reply_pieces.proofs.Hands.{light_enough}
 use Rattle.reply_pieces.proofs.Spreading.{by_spread}
@@ -13,10 +13,10 @@ append_all-requires-clause-light g c =
 pub returns : goal.returns
 returns g c = λ by s stream told. (
     let (first, stack, same, o) = told in
-    subst (λ (a : Answering). AppendsRound a s stream c.args.self.round c.args.replies.now.items c.append_all.new.replies.items
-    (change c.args.balances.now c.append_all.new.balances)) (sym same)
-    (by_spread first stack s stream c.args.self c.args.replies.now.items c.append_all.new.replies.items
-    (change c.args.balances.now c.append_all.new.balances) o (record {
+    let old = output c.args.replies.now.items c.args.balances.now in
+    let new = output c.append_all.new.replies.items c.append_all.new.balances in
+    subst (λ (a : Answering). AppendsRound a s stream c.args.self.round old new) (sym same)
+    (by_spread first stack s stream c.args.self old new o (record {
       ordered = c.deref.result.now;
       order = subst (AreOrdered c.args.self.pieces.items) (sym c.deref.ensures.value) c.sort_by_number.ensures;
       bytes = c.in_ok-append_all.ensures.bytes;

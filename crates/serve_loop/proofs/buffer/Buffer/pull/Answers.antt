@@ -2,7 +2,7 @@ use Rattle.std.proofs.Common.{◌∙◌, [], ap, take, drop, sym, refl, subst, �
 use Rattle.std.proofs.KnownBytes.{Consumes-nil, Consumes-kept}
 use Rattle.std.proofs.lemmas.List.{with_items_is}
 use Rattle.std.proofs.lemmas.Result.{err_from_is_err_and}
-use Rattle.fuse_wire.specs.declared.limits.TheConstants.{PULL_SIZE}
+use Rattle.devices.specs.declared.limits.TheConstants.{PULL_SIZE}
 use Rattle.serve_loop.proofs.Parts.{as_many, held_grown, held_unchanged}
 use Rattle.serve_loop.proofs.buffer.Buffer.pull.Goals as goal
 

@@ -1,0 +1,9 @@
+//! The limits of what is pulled from a source, each said once: code reads the constants, and
+//! definitions, clauses and proofs name the same ones. Both are this project's.
+
+/// The most bytes of one pull from a source: 64 KiB.
+pub const PULL_SIZE: usize = 65_536;
+
+/// The most pulls of one stream, so that all its bytes are counted in 64 bits, and of one file that
+/// is read whole.
+pub const MAX_TURNS: u64 = 1 << 40;

@@ -1,0 +1,61 @@
+-- What an end of serving tells: where it is `Ok` so was the stream's; where it is a refusal of images
+-- it is that of no stream, and of one refusal alone.
+use Rattle.std.proofs.Common.{◌≡◌, ℕ, Result, Ok, Err}
+use Rattle.romfs_format.specs.declared.rule.ImageFault.{ImageFault}
+use Rattle.stack_prepare.specs.declared.refusal.Refusal.{Refusal}
+use Rattle.stack_prepare.specs.declared.refusal.Refusal.TheVariants as refusals
+use Rattle.serve_loop.specs.declared.done.Done.{Done}
+use Rattle.serve_loop.specs.declared.stream_fault.StreamFault.{StreamFault}
+use Rattle.serve_loop.specs.declared.stream_fault.StreamFault.TheVariants.{BadLength, CutOff, Read, Write, Turns, Memory}
+use Rattle.serve_core.specs.declared.stop.Stop.{Stop}
+use Rattle.serve_core.specs.declared.stop.Stop.TheVariants.{Layer, Layers}
+use Rattle.serve_core.specs.Stops.{stop_of_fault, stop_of_refusal, told}
+
+-- two results that are stops are so of one
+pub same_stop : {A : Type 0} {a b : Stop} → (let result : Result (Done A) Stop = Err a in result ≡ Err b) → a ≡ b
+same_stop e = cc
+
+-- where serving came to an end, the stream did
+pub ended_well : {A : Type 0} (done : Done A) (ended : Result (Done A) StreamFault) → Ok done ≡ told ended → ended ≡ Ok done
+ended_well done (Ok other) e = cc
+ended_well done (Err fault) e = absurd (cc)
+
+-- a fault of a stream is no refusal of images
+not_many : (count : ℕ) (fault : StreamFault) → ¬ (Layers count ≡ stop_of_fault fault)
+not_many count (BadLength at len) e = absurd (cc)
+not_many count (CutOff at) e = absurd (cc)
+not_many count Read e = absurd (cc)
+not_many count Write e = absurd (cc)
+not_many count Turns e = absurd (cc)
+not_many count Memory e = absurd (cc)
+
+not_broken : (layer : ℕ) (broken : ImageFault) (fault : StreamFault) → ¬ (Layer layer broken ≡ stop_of_fault fault)
+not_broken layer broken (BadLength at len) e = absurd (cc)
+not_broken layer broken (CutOff at) e = absurd (cc)
+not_broken layer broken Read e = absurd (cc)
+not_broken layer broken Write e = absurd (cc)
+not_broken layer broken Turns e = absurd (cc)
+not_broken layer broken Memory e = absurd (cc)
+
+-- nor is the end of a stream
+pub never_many : {A : Type 0} (count : ℕ) (ended : Result (Done A) StreamFault) → ¬ (Err (Layers count) ≡ told ended)
+never_many count (Ok done) e = absurd (cc)
+never_many count (Err fault) e = not_many count fault (same_stop e)
+
+pub never_broken : {A : Type 0} (layer : ℕ) (broken : ImageFault) (ended : Result (Done A) StreamFault)
+    → ¬ (Err (Layer layer broken) ≡ told ended)
+never_broken layer broken (Ok done) e = absurd (cc)
+never_broken layer broken (Err fault) e = not_broken layer broken fault (same_stop e)
+
+-- a wrong number of images is told of that number alone
+pub many_told : (count : ℕ) (refusal : Refusal) → Layers count ≡ stop_of_refusal refusal → refusal ≡ refusals.Layers count
+many_told count (refusals.Layers n) e = cc
+many_told count (refusals.Layer layer fault) e = absurd (cc)
+many_told count refusals.Memory e = absurd (cc)
+
+-- a broken image is told of that image and its fault alone
+pub broken_told : (layer : ℕ) (broken : ImageFault) (refusal : Refusal) → Layer layer broken ≡ stop_of_refusal refusal
+    → refusal ≡ refusals.Layer layer broken
+broken_told layer broken (refusals.Layer n fault) e = cc
+broken_told layer broken (refusals.Layers count) e = absurd (cc)
+broken_told layer broken refusals.Memory e = absurd (cc)

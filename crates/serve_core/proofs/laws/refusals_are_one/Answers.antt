@@ -1,5 +1,0 @@
-use Rattle.serve_core.proofs.Refusals.{good_are_taken}
-use Rattle.serve_core.proofs.laws.refusals_are_one.Goals as goal
-
-pub returns-clause-good : goal.returns-clause-good
-returns-clause-good c = good_are_taken

@@ -1,0 +1,60 @@
+use Rattle.std.proofs.Common.{◌≡◌, ◌+◌, length, subst, sym, arith}
+use Rattle.std.proofs.lemmas.List.{length-map}
+use Rattle.std.specs.Vec.Iter.{into_iter_items}
+use Rattle.romfs_check.specs.Refusals.{IsRefusal}
+use Rattle.stack_prepare.specs.declared.refusal.Refusal.TheVariants.{Layer}
+use Rattle.stack_prepare.specs.Checking.{IsBroken}
+use Rattle.stack_prepare.specs.Layers.{contents_of}
+use Rattle.stack_prepare.proofs.Checked.{all_checked, next_breaks, one_more, taken_within}
+use Rattle.stack_prepare.proofs.checking.check_in_turn.Goals as goal
+
+pub loop-bytes-preserved : goal.loop-bytes-preserved
+loop-bytes-preserved g c =
+    record {
+      can_next = tt;
+      is_finite = tt;
+      done = rw c.in_ok-push-in-Ok.ensures.items (one_more c.loop-bytes.invariant.done c.in-Some.bytes _ c.in-Some.ensures.steps.0
+          c.in-Ok.image c.in-Ok.ensures.ok.0 c.in-Ok.ensures.ok.1);
+    }
+
+pub returns : goal.returns
+returns g c =
+    let none : length (into_iter_items c.loop-bytes.bytes-iterator) ≡ 0 = omega (
+      arith,
+      c.in-None.ensures.steps.0,
+      c.loop-bytes.bytes-iterator.rest.ok,
+    ) in (
+      all_checked c.loop-bytes.invariant.done none,
+      tt,
+    )
+
+pub returns-in-Err-Broken : goal.returns-in-Err-Broken
+returns-in-Err-Broken g c =
+    let bytes = c.in-Some.bytes in
+    let number : c.len-in-loop-bytes.result ≡ length c.loop-bytes.checked.items = omega (
+      arith,
+      c.len-in-loop-bytes.ensures,
+      c.loop-bytes.checked.ok,
+    ) in
+    let broken = subst (λ fault. IsRefusal c.args.profile bytes.items fault) c.in-Err-Broken.field-0-is c.in-Err-Broken.ensures.err in
+    let why = next_breaks c.loop-bytes.invariant.done bytes _ c.in-Some.ensures.steps.0 c.args.first c.len-in-loop-bytes.result
+    c.in-Err-Broken.fault number broken in (
+      tt,
+      subst (λ fault. IsBroken c.args.first c.args.profile (contents_of c.args.images)
+          (Layer (c.args.first + c.len-in-loop-bytes.result) fault)) (sym c.in-Err-Broken.fault-is) why,
+    )
+
+pub overflow_cast-layer : goal.overflow_cast-layer
+overflow_cast-layer g c =
+    let taken = taken_within c.loop-bytes.invariant.done in
+    let all = length-map c.args.images.items (λ image. image.items) in
+    omega (arith, c.len-in-loop-bytes.ensures, c.loop-bytes.checked.ok, c.requires)
+
+pub overflow_add-layer : goal.overflow_add-layer
+overflow_add-layer g c =
+    let taken = taken_within c.loop-bytes.invariant.done in
+    let all = length-map c.args.images.items (λ image. image.items) in
+    omega (arith, c.len-in-loop-bytes.ensures, c.loop-bytes.checked.ok, c.requires)
+
+pub returns-in-Err-Memory : goal.returns-in-Err-Memory
+returns-in-Err-Memory g c = (tt, tt)

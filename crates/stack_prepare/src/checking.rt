@@ -1,0 +1,123 @@
+//! Images, some checked at the same time.
+//!
+//! A list is cut in two, and so on; each half is checked in a call of its own, and what both find
+//! is put together: where both have a broken image the lower half's is told.
+
+ghost use Rattle.std.specs.Prelude.{◌+◌, ◌≤◌, length, IfOk, IfErr};
+ghost use Rattle.stack_prepare.specs.Layers.{contents_of, AreLayers, AreRefused, IsFew};
+ghost use Rattle.stack_prepare.specs.Checking.{Checks, Joins};
+ghost use denote.Param.Send.{IsSync, IsSend, Frees};
+ghost use Rattle.stack_model.specs.declared.limits.TheConstants.{MAX_LAYERS};
+
+use crate::refusal::Refusal;
+use romfs_check::{Check, CheckFault, Image};
+use romfs_format::Profile;
+use std::alloc::Allocator;
+use std::thread::{Threads, join};
+use work_gate::{Gate, Work};
+
+/// How many times a list is cut into halves that are checked at the same time.
+const FORKS: u32 = 4;
+
+/// The images, checked by the rules of a profile, in their order.
+///
+/// `Layer` names the lowest image that breaks a rule, counted from 0, and its fault. The gate is
+/// passed before each check. At most 16 parts of a list are checked at the same time.
+///
+/// It asks for 1 to 128 images.
+pub(crate) fn check_all<R: Threads + Sync, A: Allocator + Copy + Send + Sync, G: Gate + Sync>(
+    rt: &R,
+    alloc: A,
+    images: Vec<Vec<u8, A>, A>,
+    profile: Profile,
+    gate: &G,
+) -> Result<Vec<Image<A>, A>, Refusal>
+    requires { IsFew (length images.items) }
+    ensures ok { IfOk result (λ checked. AreLayers profile (contents_of images) checked.items) }
+    ensures err { IfErr result (λ refusal. AreRefused profile (contents_of images) refusal) }
+{
+    check_from(rt, alloc, 0, images, profile, gate, FORKS)
+}
+
+/// A run of images, of which the lowest has the number `first`, checked: its halves at the same
+/// time, each of which is cut so once less, or one after another.
+#[cycle(halves)]
+fn check_from<R: Threads + Sync, A: Allocator + Copy + Send + Sync, G: Gate + Sync>(
+    rt: &R,
+    alloc: A,
+    first: u16,
+    mut images: Vec<Vec<u8, A>, A>,
+    profile: Profile,
+    gate: &G,
+    forks: u32,
+) -> Result<Vec<Image<A>, A>, Refusal>
+    requires { first + length images.items ≤ MAX_LAYERS }
+    ensures { Checks first profile (contents_of images) result }
+{
+    if forks == 0 || images.len() < 2 {
+        return check_in_turn(alloc, first, images, profile, gate);
+    }
+    let less = forks - 1;
+    let half = images.len() / 2;
+    let highs = images.split_off(half)?;
+    let lows = images;
+    let next = first + half as u16;
+    // the lowest layer, mostly the largest, waits for no thread to start
+    let (high, low) = join(
+        rt,
+        move || -> Result<Vec<Image<A>, A>, Refusal>
+            requires { IsSync R.row × IsSync G.row × IsSync A.row × IsSend A.row
+                × Frees A.Allocator A.dealloc_token × (next + length highs.items ≤ MAX_LAYERS) }
+            ensures { Checks next profile (contents_of highs) result }
+        { check_from(rt, alloc, next, highs, profile, gate, less) },
+        move || -> Result<Vec<Image<A>, A>, Refusal>
+            requires { IsSync R.row × IsSync G.row × IsSync A.row × IsSend A.row
+                × Frees A.Allocator A.dealloc_token × (first + length lows.items ≤ MAX_LAYERS) }
+            ensures { Checks first profile (contents_of lows) result }
+        { check_from(rt, alloc, first, lows, profile, gate, less) },
+    );
+    together(low, high)
+}
+
+/// What two halves of a run come to: want of memory in either, else the lower one's broken image,
+/// else the upper one's.
+fn together<A: Allocator>(
+    low: Result<Vec<Image<A>, A>, Refusal>,
+    high: Result<Vec<Image<A>, A>, Refusal>,
+) -> Result<Vec<Image<A>, A>, Refusal>
+    ensures { Joins low high result }
+{
+    match (low, high) {
+        (Ok(mut all), Ok(mut rest)) => {
+            all.append(&mut rest)?;
+            Ok(all)
+        }
+        (_, Err(Refusal::Memory)) => Err(Refusal::Memory),
+        (Err(refusal), _) => Err(refusal),
+        (Ok(_), Err(refusal)) => Err(refusal),
+    }
+}
+
+/// A run of images, of which the lowest has the number `first`, checked from the lowest up.
+fn check_in_turn<A: Allocator + Copy, G: Gate>(
+    alloc: A,
+    first: u16,
+    images: Vec<Vec<u8, A>, A>,
+    profile: Profile,
+    gate: &G,
+) -> Result<Vec<Image<A>, A>, Refusal>
+    requires { first + length images.items ≤ MAX_LAYERS }
+    ensures { Checks first profile (contents_of images) result }
+{
+    let mut checked = Vec::with_capacity(alloc, images.len())?;
+    for bytes in images {
+        let layer = first + checked.len() as u16;
+        gate.pass(Work::Check, u32::from(layer));
+        match Image::check_as(alloc, bytes, profile) {
+            Ok(image) => checked.push(image)?,
+            Err(CheckFault::Broken(fault)) => return Err(Refusal::Layer { layer, fault }),
+            Err(CheckFault::Memory) => return Err(Refusal::Memory),
+        }
+    }
+    Ok(checked)
+}
