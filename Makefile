@@ -4,13 +4,14 @@
 # make cases: the cases alone, on build/strata. make plant: sees that the cases notice wrong lines.
 # make mounted [STRATA=PROGRAM]: real mounts, looked at through the kernel.
 # make layers: tools/layers.py on layouts made on the spot, and, where umoci stands, on images that umoci makes.
+# make registry: layers on many machines: a store, and, where the programs are, a registry on the loopback and sandboxes.
 # make trials [CRATES=..]: tries the wrong bodies of trials/, over what make kept has kept; docs/trials.txt tells the last runs.
 # make bench: figures. make growth: how time and memory grow with nodes and layers, drawn in docs/growth.svg.
 # make fuzz [FUZZ=WORDS]: random and changed inputs, against a plain reading of the formats; WORDS are those of tools/fuzz.py,
 # as `--minutes 120 --seed 1000000 long device`.
 # make threads: 10,000 runs of one stream by 64 workers, each of which must give the same bytes; and valgrind over it.
 # make soak [MINUTES=20]: little memory by steps, the largest image, and random requests for so many minutes a part.
-.PHONY: test build kept demo cases layers mounted plant trials bench growth fuzz threads soak needed
+.PHONY: test build kept demo cases layers registry mounted plant trials bench growth fuzz threads soak needed
 
 PYTHON = python3 -B
 
@@ -22,6 +23,7 @@ test: needed
 	$(PYTHON) tools/cases.py build/strata
 	$(PYTHON) tools/layers_test.py build/strata
 	$(PYTHON) tools/layers_umoci.py build/strata
+	$(PYTHON) checks/registry/run.py build/strata --quick
 	$(PYTHON) tools/mounted.py build/strata
 	$(PYTHON) tools/soak.py build/strata --quick memory
 	$(PYTHON) tools/bench.py build/strata --quick
@@ -77,6 +79,9 @@ soak: build/strata
 layers: build/strata
 	$(PYTHON) tools/layers_test.py build/strata
 	$(PYTHON) tools/layers_umoci.py build/strata
+
+registry: build/strata
+	$(PYTHON) checks/registry/run.py build/strata
 
 needed:
 	@command -v rt > /dev/null || { echo "strata needs the command rt of the Rattle kit on the path"; exit 1; }

@@ -99,7 +99,7 @@ def images_asked(layout, tag, platform):
     """The images that are meant: the one of a platform, or all."""
     if platform == "all":
         return all_images(layout, tag)
-    return [image_of(layout, layout.descriptor(tag, platform))]
+    return [image_of(layout, layout.descriptor(tag, platform), platform)]
 
 
 def new_name(layout, tag, word):

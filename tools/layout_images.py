@@ -34,12 +34,14 @@ def archives_in(config, count, where):
     return found
 
 
-def image_of(layout, descriptor):
-    """The image of a manifest."""
+def image_of(layout, descriptor, asked=None):
+    """The image of a manifest; where a platform is asked for, it must be of it."""
     manifest, where = layout.document(descriptor)
     layers = layers_in(manifest, where)
     described = descriptor_of(field(manifest, "config", dict, where), where)
     config, where = layout.document(described, is_config=True)
+    if asked and config.get("architecture", asked[0]) != asked[0]:
+        raise Refused("%s: is for %s" % (where, shown(str(config["architecture"]))))
     archives = archives_in(config, len(layers), where)
     return Image(descriptor, manifest, config, described.media, layers, archives)
 

@@ -181,7 +181,7 @@ def chosen(found, where, asked=None):
     here = [it for it in images if runs_here(it, own)]
     if here:
         return here[0]
-    if len(images) == 1 and not asked:
+    if len(images) == 1 and not (asked and any(images[0].platform)):
         return images[0]
     there = ", ".join(sorted({platform_text(it) for it in images})) or "nothing"
     raise Refused("%s: nothing for linux/%s; there is %s" % (where, "/".join(own[:2]), there))

@@ -51,7 +51,7 @@ def pull(store, source, name, platform, lost):
     with store.locked():
         maker = Maker(store, lost, checks_archives=True)
         with opened(maker, source, platform) as (layout, found, digest):
-            image = image_of(layout, found)
+            image = image_of(layout, found, platform)
             with Progress("layers", sum(it.size for it in image.layers)) as progress:
                 layout.heard = progress.add
                 layers = maker.layers(layout, image)

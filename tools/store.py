@@ -89,15 +89,18 @@ class Store:
         self.images, self.records, self.new = (opened(it, self.root) for it in ("images", "made", "new"))
 
     def mark(self, make):
-        """Sees that the folder is a store, or, where it is empty, makes it one."""
+        """Sees that the folder is a store, or, where it is empty, makes it one: the mark comes first."""
+        fcntl.flock(self.root, fcntl.LOCK_EX if make else fcntl.LOCK_SH)
         found = self.small_file(self.root, MARK)
-        if found == MARK_TEXT:
-            return
-        # a run that was ended while it made the store may have left this much
-        if found is not None or not make or not {*os.listdir(self.root)} <= {"new"}:
+        if found is None and make and not os.listdir(self.root):
+            number = os.open(MARK, os.O_WRONLY | os.O_CREAT | os.O_EXCL | os.O_CLOEXEC, 0o644, dir_fd=self.root)
+            os.write(number, MARK_TEXT)
+            os.close(number)
+            found = MARK_TEXT
+        fcntl.flock(self.root, fcntl.LOCK_UN)
+        # a run that was killed may have left an empty mark
+        if found not in (MARK_TEXT, b""):
             raise Refused("%s: no store of layers" % self.name)
-        self.new = make_folder("new", self.root)
-        self.write_small(self.root, MARK, MARK_TEXT)
 
     @contextlib.contextmanager
     def locked(self):

@@ -121,12 +121,17 @@ def layers_of(store, word, is_verified=False):
     return [store.path_of(it.digits) for it in image.layers], marks
 
 
+def is_file(word):
+    """Whether a word names something that is there, but no folder."""
+    return os.path.lexists(word) and not os.path.isdir(word)
+
+
 def image_meant(word, store):
     """The image that a word of a mount means, or None where it is a file. `image:NAME:TAG` always is an
     image; else a file that is there comes before an image."""
     if word.startswith("image:"):
         return word.partition(":")[2]
-    if store is None or os.path.lexists(word):
+    if store is None or is_file(word):
         return None
     try:
         return full_name(store, word)
@@ -137,7 +142,7 @@ def image_meant(word, store):
 def store_for(words, place):
     """The store at a place, where words of a mount may mean one of its images; else None."""
     is_asked = any(word.startswith("image:") for word in words)
-    if not is_asked and (all(map(os.path.lexists, words)) or not os.path.isdir(place)):
+    if not is_asked and (all(map(is_file, words)) or not os.path.isdir(place)):
         return None
     try:
         return Store(place)
