@@ -1,6 +1,5 @@
 """Checks of what must not go wrong: strangers' layouts, broken bytes, runs that are killed, two at once, a full disk."""
 import gzip
-import json
 import os
 import random
 import shutil
@@ -10,7 +9,7 @@ import sys
 import time
 
 import made
-from rooms import CHECKOUT, Failed, LeftOut, hold, needs, shown_by, snapshot
+from rooms import CHECKOUT, Failed, LeftOut, hold, needs, snapshot
 from stores import mounted_layers
 
 
@@ -156,22 +155,23 @@ def large_layers(count):
             for layer in range(count)]
 
 
-def hold_after_end(room, source, wanted, words):
-    """After a run that was killed: what stands there is right, and a whole run ends well."""
-    if os.path.isdir(os.path.join(room.store, "blobs")) and os.path.exists(os.path.join(room.store, "made")):
-        for name in room.blobs():
-            with open(os.path.join(room.store, "blobs", "sha256", name), "rb") as file:
-                hold("a layer", "sha256:" + name, made.digest(file.read()))
-        for name in os.listdir(os.path.join(room.store, "images")):
-            hold("layers of an image", True, all(map(os.path.exists, mounted_layers(room, name))))
+def hold_after_end(room):
+    """After a run that was killed each layer has its digest, and each image its layers."""
+    if not os.path.isdir(os.path.join(room.store, "new")):
+        return  # before its folders are all there nothing is written
+    for name in room.blobs():
+        with open(os.path.join(room.store, "blobs", "sha256", name), "rb") as file:
+            hold("a layer", "sha256:" + name, made.digest(file.read()))
+    for name in os.listdir(os.path.join(room.store, "images")):
+        hold("layers of an image", True, all(map(os.path.exists, mounted_layers(room, name))))
 
 
 def killed(room, count):
     """Kills pulls and conversions at random moments; how many were killed before their end."""
     draw, source, out = random.Random(66), made.layout(room.name(), large_layers(4)), room.name()
     begin = time.monotonic()
-    room.layers("pull", "oci:" + source.path, "a:1", store=room.name())
-    length, early = time.monotonic() - begin, 0
+    room.ran(*room.words("pull", "oci:" + source.path, "a:1", store=room.name()))
+    length, early = 1.5 * (time.monotonic() - begin), 0
     for number in range(count):
         if number % 4 == 0:
             shutil.rmtree(room.store, ignore_errors=True)
@@ -182,7 +182,7 @@ def killed(room, count):
         early += run.poll() is None
         run.kill()
         run.wait()
-        hold_after_end(room, source, None, words)
+        hold_after_end(room)
     hold("pulled", "a:1: 4 layers", room.layers("pull", "oci:" + source.path, "a:1").partition(",")[0])
     room.layers("convert", "--compress", "gzip", source.path, out + ":1")
     hold("verified", "", room.layers("verify"))
