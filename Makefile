@@ -10,7 +10,10 @@
 # as `--minutes 120 --seed 1000000 long device`.
 # make threads: 10,000 runs of one stream by 64 workers, each of which must give the same bytes; and valgrind over it.
 # make soak [MINUTES=20]: little memory by steps, the largest image, and random requests for so many minutes a part.
+# make install [PREFIX=/usr/local] [DESTDIR=], make uninstall: what make build has made, with man pages and the mount helper.
+# make deb, make dist [PACKAGES=build]: a Debian package, a tar of the same files. make installed: all of these in fresh roots.
 .PHONY: test build kept demo cases layers mounted plant trials bench growth fuzz threads soak needed
+.PHONY: install uninstall deb dist installed
 
 PYTHON = python3 -B
 
@@ -23,6 +26,7 @@ test: needed
 	$(PYTHON) tools/layers_test.py build/strata
 	$(PYTHON) tools/layers_umoci.py build/strata
 	$(PYTHON) tools/mounted.py build/strata
+	$(PYTHON) checks/installed/run.py build/strata
 	$(PYTHON) tools/soak.py build/strata --quick memory
 	$(PYTHON) tools/bench.py build/strata --quick
 
@@ -77,6 +81,26 @@ soak: build/strata
 layers: build/strata
 	$(PYTHON) tools/layers_test.py build/strata
 	$(PYTHON) tools/layers_umoci.py build/strata
+
+PREFIX = /usr/local
+DESTDIR =
+# where mount(8) seeks its helpers, whatever the prefix is; empty for nowhere
+HELPERS = /sbin
+PACKAGES = build
+install:
+	@$(PYTHON) packaging/install.py $(STRATA) "$(DESTDIR)" "$(PREFIX)" "$(HELPERS)"
+
+uninstall:
+	@$(PYTHON) packaging/install.py $(STRATA) "$(DESTDIR)" "$(PREFIX)" "$(HELPERS)" --remove
+
+deb:
+	@$(PYTHON) packaging/deb.py $(STRATA) "$(PACKAGES)"
+
+dist:
+	@$(PYTHON) packaging/dist.py $(STRATA) "$(PACKAGES)"
+
+installed: $(STRATA)
+	$(PYTHON) checks/installed/run.py $(STRATA)
 
 needed:
 	@command -v rt > /dev/null || { echo "strata needs the command rt of the Rattle kit on the path"; exit 1; }

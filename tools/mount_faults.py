@@ -10,6 +10,7 @@ import struct
 import tarfile
 import zlib
 
+from mount_progress import size_of
 from refused import shown
 
 UNREADABLE = re.compile(r"image (\d+): cannot be read")
@@ -81,13 +82,6 @@ def explained_line(said, images):
         return ["the images have %d MiB together: see `ulimit -v`, and the memory that this machine has left" % (
             sum(map(size_of, images)) >> 20)]
     return []
-
-
-def size_of(path):
-    try:
-        return os.stat(path).st_size
-    except OSError:
-        return 0
 
 
 def unreadable(path):

@@ -69,8 +69,15 @@ class Book:
 
     def tell(self, now, words):
         if self.is_told:
-            sys.stderr.write("%.6f %s\n" % (now - self.start, words))
+            self.say("%.6f %s" % (now - self.start, words))
+
+    def say(self, line):
+        """Writes a line as long as somebody reads them: the mount goes on without."""
+        try:
+            sys.stderr.write(line + "\n")
             sys.stderr.flush()
+        except OSError:
+            self.is_told = False
 
     def lines(self):
         """The table of counts."""
@@ -88,49 +95,55 @@ class Book:
         """Writes the table of counts over what the file held."""
         if self.file is None:
             return
-        data = "\n".join([*self.lines(), ""]).encode()
         try:
             os.ftruncate(self.file, 0)
             os.lseek(self.file, 0, os.SEEK_SET)
         except OSError:
             pass  # a pipe or a terminal gets one table after another
-        os.write(self.file, data)
+        try:
+            os.write(self.file, "\n".join([*self.lines(), ""]).encode())
+        except OSError as fault:
+            self.say("counts: %s" % fault.strerror.lower())
+
+
+def next_request(device):
+    """The next request; nothing once the mount is gone."""
+    while True:
+        try:
+            return os.read(device, REQUEST_MOST)
+        except OSError as fault:
+            if fault.errno != errno.ENOENT:  # a request was given up while it was read
+                return b""
 
 
 def pass_requests(device, end, book):
-    """From /dev/fuse to the program, until the mount is gone."""
-    while True:
-        try:
-            message = os.read(device, REQUEST_MOST)
-        except OSError as fault:
-            if fault.errno == errno.ENOENT:
-                continue  # a request was given up while it was read
-            break
-        if not message:
-            break
-        book.asked(message)
-        try:
+    """From /dev/fuse to the program, until the mount is gone; then the program meets its input's end."""
+    try:
+        while message := next_request(device):
+            book.asked(message)
             end.send(message)
-        except OSError:
-            return  # the program has ended
-    end.shutdown(socket.SHUT_WR)
+    except OSError:
+        pass  # the program has ended
+    finally:
+        end.shutdown(socket.SHUT_WR)
 
 
 def pass_replies(device, end, book):
     """From the program to /dev/fuse, until the program ends."""
-    while True:
-        try:
-            reply = end.recv(REPLY_MOST)
-        except OSError:
-            return
-        if not reply:
-            return
-        book.answered(reply)
-        try:
-            os.write(device, reply)
-        except OSError as fault:
-            if fault.errno not in NOBODY_WAITS:
-                raise
+    try:
+        while reply := end.recv(REPLY_MOST):
+            book.answered(reply)
+            answer(device, reply)
+    finally:
+        end.shutdown(socket.SHUT_RD)
+
+
+def answer(device, reply):
+    try:
+        os.write(device, reply)
+    except OSError as fault:
+        if fault.errno not in NOBODY_WAITS:
+            raise
 
 
 def widened(end):
