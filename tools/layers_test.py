@@ -19,6 +19,7 @@ import tempfile
 
 import layers
 import layouts
+import packing
 import plain_layers
 from layer_files import (LAYER, LayoutFolder, archive, block, character, directory, entry, fifo, file, hard, layout_of, symlink,
                          tag)
@@ -342,12 +343,17 @@ def test_zstd(room):
     frame = b"\x28\xb5\x2f\xfd\xa0" + struct.pack("<I", size) + struct.pack("<I", size << 3 | 1)[:3] + data
     parts = LayoutFolder(room.name())
     parts.index([parts.manifest([parts.blob(LAYER + "+zstd", frame)])])
-    try:
-        import compression.zstd
-    except ImportError:
-        room.refused(parts.path, "layer 0: packed by zstd, which this python can't read (3.14 and later can)")
-        return
+    if packing.zstd_module() is None:
+        path, os.environ["PATH"] = os.environ["PATH"], ""
+        try:
+            room.refused(parts.path, "layer 0: packed by " + packing.NO_ZSTD)
+        finally:
+            os.environ["PATH"] = path
+        if shutil.which("zstd") is None:
+            return
     room.taken(parts.path, [data])
+    parts.index([parts.manifest([parts.blob(LAYER + "+zstd", frame[:-1])])])
+    room.refused(parts.path, "layer 0: the packed data are broken: ..")
 
 
 def test_digests(room):
