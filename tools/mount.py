@@ -1,6 +1,9 @@
 #!/usr/bin/env python3
 """Mounts romfs images, the lowest first: tools/mount.py [OPTIONS] IMAGE.. DIR, installed as strata-mount
 
+An IMAGE is a file, or else the name of a container image in the store of strata-layers (image:NAME:TAG, or NAME:TAG where
+no such file is there), which stands for its layers.
+
 It mounts an open /dev/fuse on DIR, by mount(2) where it may and else by fusermount3, and starts `strata serve --device`
 with it as standard input and output: no byte of a request or reply comes by here, but with --debug or --stats. The mount
 is ro, nosuid, nodev and default_permissions; the words of -o come after these. It waits until the mount is taken away
@@ -42,8 +45,10 @@ class Plan(argparse.Namespace):
     name, source = "strata-mount", "strata"
     program, images, folder = STRATA, (), None
     words, owner, workers = (), None, None
-    background = strict = replace = debug = False
-    may_replace, stats = True, None
+    background = strict = replace = debug = verify = False
+    may_replace, stats, store = True, None, None
+    # open files that mark layers of the store as in use while strata runs
+    marks = ()
 
     def say(self, line):
         sys.stderr.write("%s: %s\n" % (self.name, line))
@@ -138,7 +143,7 @@ def relay_words(plan, errors):
     """How the relay is called, and the descriptors that it gets."""
     words = [sys.executable, "-IBS", os.path.join(HERE, "relay.py"), "--errors", str(errors.fileno())]
     words += ["--debug"] * plan.debug
-    numbers = [errors.fileno()]
+    numbers = [errors.fileno(), *plan.marks]
     if plan.stats is not None:
         words += ["--stats", str(plan.stats)]
         numbers.append(plan.stats)
@@ -147,7 +152,7 @@ def relay_words(plan, errors):
 
 def served(plan, device, errors):
     """Starts strata on an open device, away from the signals of the terminal and from this folder."""
-    words, numbers = relay_words(plan, errors) if plan.is_relayed() else ([], [])
+    words, numbers = relay_words(plan, errors) if plan.is_relayed() else ([], plan.marks)
     try:
         return subprocess.Popen([*words, *serve_words(plan)], stdin=device, stdout=device, pass_fds=numbers,
                                 stderr=None if plan.debug else errors, start_new_session=True, cwd="/", preexec_fn=unblock)
@@ -221,10 +226,19 @@ def hold_folder(plan):
             raise OSError(0, dead_mounts.told(folder, plan.may_replace), plan.folder) from None
 
 
+def find_images(plan):
+    """Puts the layers of images of the store in the place of their names."""
+    if plan.store is None and not plan.verify and all(map(os.path.lexists, plan.images)):
+        return
+    import store_images
+    plan.images, plan.marks = store_images.mounted_words(plan.images, plan.store, plan.verify)
+
+
 def attempt(plan):
     """Mounts by a plan, or says why nothing can be mounted; the status to end with."""
     try:
         hold_folder(plan)
+        find_images(plan)
         if not shutil.which(plan.program):
             raise OSError(0, "no such program", plan.program)
         plan.folder, plan.program = os.path.realpath(plan.folder), os.path.abspath(shutil.which(plan.program))
@@ -276,12 +290,14 @@ def parser_of(name):
                         help="allow_other, noexec, max_read=N, .. of the mount; strict, workers=N, uid=N, gid=N of strata")
     parser.add_argument("--strict", action="store_true", help="ask a right checksum of every header, too")
     parser.add_argument("--replace", action="store_true", help="take a dead mount away that stands at DIR")
+    parser.add_argument("--store", metavar="DIR", help="the store of container images, in which names that are no files are")
+    parser.add_argument("--verify", action="store_true", help="look at the digests of the store's layers first")
     parser.add_argument("-d", "--debug", action="store_true", help="write each request and reply on standard error")
     parser.add_argument("--stats", metavar="FILE", help="count requests in FILE, which SIGUSR1 and the end write")
     parser.add_argument("--strata", metavar="PROGRAM", dest="program", default=STRATA, help="another program than strata's own")
     parser.add_argument("--version", action="store_true", help="say which version this is")
     parser.add_argument("names", metavar="IMAGE.. DIR", nargs="*",
-                        help="images from the lowest up, and a folder; behind -- they may begin with a -")
+                        help="images from the lowest up, or image:NAME:TAG, and a folder; behind -- they may begin with a -")
     return parser
 
 

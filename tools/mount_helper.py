@@ -1,8 +1,9 @@
-"""Mounts as mount(8) asks for it: mount.strata LOWER[:UPPER]. DIR [-sfnv] [-o OPTIONS] [-t TYPE]
+"""Mounts as mount(8) asks for it: mount.strata LOWER[:UPPER].. DIR [-sfnv] [-o OPTIONS] [-t TYPE]
 
 `mount -t strata`, `mount -t fuse.strata` and lines of /etc/fstab come by here. The images stand in one word, the lowest
-first, with a colon between them; `\\:` is a colon in a name, and `\\\\` a backslash. The mount is as strata-mount makes it in
-the background, always read-only, and its source is that word, so that mount(8) sees that it is mounted already.
+first, with a colon between them; `\\:` is a colon in a name, and `\\\\` a backslash. `image:NAME:TAG` is a container image of
+the store of strata-layers. The mount is as strata-mount makes it in the background, always read-only, and its source is that
+word, so that mount(8) sees that it is mounted already.
 
 It runs as root: what it starts are the program beside which it is installed, and fusermount3 in the system's own folders.
 Nothing of the environment is left for them. Status, as mount(8) has it: 0, 1 for the words, 8 for an interrupt, 32 where
@@ -73,8 +74,9 @@ def plan_of(asked, name):
     # mount(8) says rw wherever no ro was said; the tree is never written
     options.mount = [word for word in options.mount if word != "rw" and word not in options.unknown]
     spec, folder = asked.names
-    names = names_of(spec)
-    source = spec if all(map(os.path.isabs, names)) else word_of(names)
+    is_stored = spec.startswith("image:")
+    names = [spec] if is_stored else names_of(spec)
+    source = spec if is_stored or all(map(os.path.isabs, names)) else word_of(names)
     if len(os.fsencode(source)) > SOURCE_MOST:
         raise Wrong("the images' names are longer together than the %d bytes that a mount's source may have" % SOURCE_MOST)
     plan = mount.Plan(name=name, images=names, folder=folder, background=True, may_replace=False, source=source)
@@ -86,6 +88,7 @@ def looked_at(plan):
     """Looks at all that a mount needs, and mounts nothing."""
     try:
         mount.hold_folder(plan)
+        mount.find_images(plan)
         for image in plan.images:
             with open(image, "rb"):
                 pass

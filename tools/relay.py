@@ -95,13 +95,13 @@ class Book:
         """Writes the table of counts over what the file held."""
         if self.file is None:
             return
+        data = "\n".join([*self.lines(), ""]).encode()
         try:
-            os.ftruncate(self.file, 0)
-            os.lseek(self.file, 0, os.SEEK_SET)
-        except OSError:
-            pass  # a pipe or a terminal gets one table after another
-        try:
-            os.write(self.file, "\n".join([*self.lines(), ""]).encode())
+            if os.path.isfile("/proc/self/fd/%d" % self.file):
+                os.pwrite(self.file, data, 0)
+                os.ftruncate(self.file, len(data))
+            else:
+                os.write(self.file, data)  # a pipe or a terminal gets one table after another
         except OSError as fault:
             self.say("counts: %s" % fault.strerror.lower())
 

@@ -57,9 +57,11 @@ def hold_words(said):
 
 
 def table(path):
-    """The rows of a table of counts."""
-    with open(path, encoding="ascii") as it:
-        lines = it.read().splitlines()
+    """The first line and the rows of a table of counts, once it is whole."""
+    lines = [""]
+    while not lines[-1].startswith("all "):
+        with open(path, encoding="ascii") as it:
+            lines = it.read().splitlines() or [""]
     return lines[0], {line.split()[0]: [int(it) for it in line.split()[1:]] for line in lines[2:]}
 
 
