@@ -13,13 +13,14 @@ import errno
 import os
 import signal
 import socket
+import struct
 import subprocess
 import sys
 import threading
 import time
 
 sys.path.insert(0, os.path.dirname(os.path.realpath(__file__)))
-import fuse_words
+from fuse_text import NAMES, reply_lines, text_of
 
 # a request has at most 128 KiB and its header, since that is the most that strata lets a kernel write at once
 REQUEST_MOST = 135168
@@ -27,8 +28,28 @@ REPLY_MOST = 1 << 21
 # what a socket may hold of replies, where one may say so: more than the largest
 HELD = 1 << 22
 SO_SNDBUFFORCE = 32
+# what gets no reply
+SILENT = ("FORGET", "INTERRUPT", "BATCH_FORGET")
 # the kernel has given up a request that it then gets a reply to
 NOBODY_WAITS = (errno.ENOENT, errno.ENODEV)
+
+
+def name_of(message):
+    """The name of a request's opcode."""
+    opcode, = struct.unpack_from("<I", message, 4)
+    return NAMES.get(opcode, "opcode_%d" % opcode)
+
+
+def unique_of(message):
+    """The number that a request and its reply share."""
+    return struct.unpack_from("<Q", message, 8)[0]
+
+
+def reply_words(name, reply):
+    """A reply in one line: of rows their names, of long data the length alone."""
+    first, *rows = reply_lines(name, reply)
+    words = first.partition(" ")[2].partition(": hex ")[0]
+    return " ".join([words, *(row.split()[4] for row in rows if row.split()[1] == "ino")])
 
 
 class Count:
@@ -48,28 +69,29 @@ class Book:
 
     def asked(self, message):
         """Notes a request."""
-        now, name, unique = time.monotonic(), fuse_words.name_of(message), fuse_words.unique_of(message)
+        now, name = time.monotonic(), name_of(message)
         with self.lock:
             count = self.counts.setdefault(name, Count())
             count.requests += 1
             count.taken += len(message)
-            if name not in fuse_words.SILENT:
-                self.open[unique] = now, name
-            self.tell(now, "%d %s" % (unique, fuse_words.request_words(message)))
+            if name not in SILENT:
+                self.open[unique_of(message)] = now, name
+            if self.is_told:
+                self.tell(now, text_of(message))
 
     def answered(self, reply):
         """Notes a reply."""
-        now, unique = time.monotonic(), fuse_words.unique_of(reply)
+        now, unique = time.monotonic(), unique_of(reply)
         with self.lock:
             since, name = self.open.pop(unique, (now, "?"))
             count = self.counts.setdefault(name, Count())
-            count.errors += fuse_words.error_of(reply) != 0
+            count.errors += struct.unpack_from("<i", reply, 4)[0] != 0
             count.given += len(reply)
-            self.tell(now, "%d     %s (%d us)" % (unique, fuse_words.reply_words(name, reply), (now - since) * 1e6))
+            if self.is_told:
+                self.tell(now, "%d     %s (%d us)" % (unique, reply_words(name, reply), (now - since) * 1e6))
 
     def tell(self, now, words):
-        if self.is_told:
-            self.say("%.6f %s" % (now - self.start, words))
+        self.say("%.6f %s" % (now - self.start, words))
 
     def say(self, line):
         """Writes a line as long as somebody reads them: the mount goes on without."""
@@ -87,7 +109,7 @@ class Book:
         with self.lock:
             counts = sorted(self.counts.items())
         for name, it in counts:
-            yield row % (name.replace(" ", "_"), it.requests, it.errors, it.taken, it.given)
+            yield row % (name, it.requests, it.errors, it.taken, it.given)
         sums = [sum(getattr(it, each) for _, it in counts) for each in ("requests", "errors", "taken", "given")]
         yield row % ("all", *sums)
 

@@ -7,8 +7,9 @@ import struct
 import tarfile
 
 import mount_faults
-from mounts import OTHER, places, user
-from roots import ROOT, Failed, hold, hold_in
+from checks import ROOT
+from checks.installed.mounts import OTHER, places, user
+from checks.installed.roots import Failed, hold, hold_in
 
 RULE = os.path.join(ROOT, "crates", "romfs_format", "src", "rule.rt")
 NOT_ROMFS = "layer 1 at 00000000: not romfs\n"

@@ -4,7 +4,8 @@ import re
 import signal
 import time
 
-from roots import ROOT, LeftOut, hold, hold_in
+from checks import ROOT
+from checks.installed.roots import LeftOut, hold, hold_in
 
 STACK = "/srv/lower.romfs:/srv/upper.romfs"
 MOUNTING = os.path.join(ROOT, "docs", "MOUNTING.md")

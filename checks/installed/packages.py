@@ -3,9 +3,9 @@ import hashlib
 import os
 import re
 
-from mounts import STACK, fstab, hold_stack
-from programs import version
-from roots import LeftOut, hold, hold_in
+from checks.installed.mounts import STACK, fstab, hold_stack
+from checks.installed.programs import version
+from checks.installed.roots import LeftOut, hold, hold_in
 
 PATHS = ("bin/strata", "bin/strata-mount", "bin/strata-layers", "sbin/mount.strata", "sbin/mount.fuse.strata", "lib/strata/mount.py",
          "share/man/man1/strata.1", "share/man/man1/strata-mount.1", "share/man/man1/strata-layers.1", "share/man/man8/mount.strata.8",

@@ -3,7 +3,7 @@ import os
 import re
 
 import mount_options
-from roots import Failed, LeftOut, hold, hold_in
+from checks.installed.roots import Failed, LeftOut, hold, hold_in
 
 PAGES = ("man1/strata.1", "man1/strata-mount.1", "man1/strata-layers.1", "man8/mount.strata.8")
 MAN = "/usr/local/share/man/"

@@ -2,7 +2,8 @@
 import os
 import re
 
-from roots import ROOT, hold, hold_in
+from checks import ROOT
+from checks.installed.roots import hold, hold_in
 
 SOURCE = os.path.join(ROOT, "crates", "command_line", "src", "version.rt")
 LOGIC = "dac8208d650f15bf"

@@ -11,7 +11,8 @@ import sys
 import tempfile
 import traceback
 
-ROOT = os.path.dirname(os.path.dirname(os.path.dirname(os.path.realpath(__file__))))
+from checks import ROOT
+
 NEWNS, NEWUSER, NEWPID = 0x20000, 0x10000000, 0x20000000
 DEATH_SIGNAL = 1
 BIND, REC, PRIVATE = 0x1000, 0x4000, 0x40000

@@ -4,14 +4,11 @@ import pty
 import re
 import signal
 import subprocess
-import sys
 import time
 
-import fuse_words
-from mounts import STACK, hold_stack, places, servers, settle
-from roots import ROOT, Failed, LeftOut, hold, hold_in
+from checks.installed.mounts import hold_stack, places, servers, settle
+from checks.installed.roots import Failed, hold, hold_in
 
-SHOW = ("tools/show.py", "checks/cases/show.py")
 LINE = re.compile(r"\d+\.\d{6} (\d+)( {5})?( .*)")
 
 
@@ -90,40 +87,6 @@ def stats(root):
     hold("a file that can't be made", (1, "strata-mount: /none/x: No such file or directory\n"), (refused.status, refused.err))
     hold("-d in the background", 2, root.run("strata-mount", "-d", "--background", "/srv/lower.romfs", place).status)
     return "at SIGUSR1 and at the end; bytes of a READ as linux/fuse.h has them"
-
-
-def same_words(root):
-    """The words of requests are those that the demo's transcript prints."""
-    show = next((os.path.join(ROOT, name) for name in SHOW if os.path.exists(os.path.join(ROOT, name))), None)
-    if show is None:
-        raise LeftOut("no show.py at %s" % " or ".join(SHOW))
-    requests, replies = os.path.join(ROOT, "demo", "requests.fuse"), root.top + "/tmp/replies"
-    done = subprocess.run([root.program, "serve", "--requests", requests, "--replies", replies, root.top + "/srv/lower.romfs",
-                           root.top + "/srv/upper.romfs"], stderr=subprocess.PIPE)
-    hold("serve", (0, b""), (done.returncode, done.stderr))
-    with open(requests, "rb") as it:
-        messages = pieces(it.read())
-    printed = root.good(sys.executable, "-B", show, requests, replies).splitlines()
-    asked = [line for line in printed if not line.startswith(" ")]
-    hold("requests", asked, ["%d %s" % (fuse_words.unique_of(it), fuse_words.request_words(it)) for it in messages])
-    with open(replies, "rb") as it:
-        answers = {fuse_words.unique_of(piece): piece for piece in pieces(it.read())}
-    answered = [line.strip() for line in printed if line.startswith("    ") and not line.startswith("      ")]
-    said = [fuse_words.reply_words(fuse_words.name_of(it), answers[fuse_words.unique_of(it)])
-            if fuse_words.unique_of(it) in answers else "no reply" for it in messages]
-    pairs = [pair for pair in zip(answered, said) if not pair[1].startswith(("rows", "data of"))]
-    hold("replies", [wanted for wanted, _ in pairs], [got for _, got in pairs])
-    return "%d requests and %d replies of the demo as its transcript has them" % (len(asked), len(pairs))
-
-
-def pieces(data):
-    """The messages of a stream, each of which begins with its length."""
-    found = []
-    while data:
-        size = int.from_bytes(data[:4], "little")
-        found.append(data[:size])
-        data = data[size:]
-    return found
 
 
 def progress(root):
