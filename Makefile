@@ -1,40 +1,52 @@
 # make test: the merge gate. It holds the public calls against their table, proves every crate from nothing, tries the wrong bodies, and runs all tests and cases.
 # make build: the proved program, as build/strata. make demo: shows it at work.
 # make kept: the same, proved so that `rt check` in a crate's folder and make trials then prove what has changed alone.
+# make doors: the public calls against their table. make links: all that README.md and docs/ name is there. make crate_order: crates.txt
+# stands in the order of layers. None of these wants a proof.
 # make cases: the cases alone, on build/strata. make plant: sees that the cases notice wrong lines.
 # make mounted [STRATA=PROGRAM]: real mounts, looked at through the kernel.
 # make layers: tools/layers.py on layouts made on the spot, and, where umoci stands, on images that umoci makes.
 # make registry: layers on many machines: a store, and, where the programs are, a registry on the loopback and sandboxes.
-# make trials [CRATES=..]: tries the wrong bodies of trials/, over what make kept has kept; docs/trials.txt tells the last runs.
+# make trials [CRATES=..] [ONLY=EDIT]: tries the wrong bodies of trials/CRATE.edits, over what make kept has kept; trials/outcomes.txt tells
+# the last runs.
 # make bench: figures. make growth: how time and memory grow with nodes and layers, drawn in docs/growth.svg.
-# make fuzz [FUZZ=WORDS]: random and changed inputs, against a plain reading of the formats; WORDS are those of tools/fuzz.py,
+# make fuzz [FUZZ=WORDS]: random and changed inputs, against a plain reading of the formats; WORDS are those of checks/fuzz/fuzz.py,
 # as `--minutes 120 --seed 1000000 long device`.
 # make threads: 10,000 runs of one stream by 64 workers, each of which must give the same bytes; and valgrind over it.
 # make soak [MINUTES=20]: little memory by steps, the largest image, and random requests for so many minutes a part.
-.PHONY: test build kept demo cases layers registry mounted plant trials bench growth fuzz threads soak needed
+# make demo_files: writes the images, requests and container image of demo/ once more, which give the same bytes.
+# make install [PREFIX=/usr/local] [DESTDIR=], make uninstall: what make build has made, with man pages and the mount helper.
+# make deb, make dist [PACKAGES=build]: a Debian package, a tar of the same files. make installed: all of these in fresh roots.
+# Each of these starts a file of checks/ by `python3 checks NAME WORDS..`; `python3 checks` lists them.
+.PHONY: test build kept demo doors links crate_order cases layers registry mounted plant trials bench growth fuzz threads soak demo_files needed
+.PHONY: install uninstall deb dist installed
 
 PYTHON = python3 -B
+CHECKS = $(PYTHON) checks
 
 test: needed
-	$(PYTHON) tools/doors.py
+	$(CHECKS) doors
+	$(CHECKS) links
+	$(CHECKS) crate_order
 	rt ci
 	@mkdir -p build
 	@cp crates/strata_main/out/strata_main build/strata
-	$(PYTHON) tools/cases.py build/strata
-	$(PYTHON) tools/layers_test.py build/strata
-	$(PYTHON) tools/layers_umoci.py build/strata
-	$(PYTHON) checks/registry/run.py build/strata --quick
-	$(PYTHON) tools/mounted.py build/strata
-	$(PYTHON) tools/soak.py build/strata --quick memory
-	$(PYTHON) tools/bench.py build/strata --quick
+	$(CHECKS) cases build/strata
+	$(CHECKS) layers_test build/strata
+	$(CHECKS) layers_umoci build/strata
+	$(CHECKS) registry build/strata --quick
+	$(CHECKS) mounted build/strata
+	$(CHECKS) installed build/strata
+	$(CHECKS) soak build/strata --quick memory
+	$(CHECKS) bench build/strata --quick
 
 build: build/strata
 
 build/strata: crates.txt $(shell find crates -name '*.rt' -o -name '*.antt') | needed
-	@$(PYTHON) tools/prove.py
+	@$(CHECKS) prove
 
 kept: needed
-	$(PYTHON) tools/prove.py --kept
+	$(CHECKS) prove --kept
 
 LAYERS = demo/lower.romfs demo/upper.romfs
 demo: build/strata
@@ -45,43 +57,70 @@ demo: build/strata
 	@$(PYTHON) tools/show.py demo/requests.fuse build/replies
 	cat build/balances
 
+doors links crate_order: needed
+	$(CHECKS) $@
+
 cases: build/strata
-	$(PYTHON) tools/cases.py build/strata
+	$(CHECKS) cases build/strata
 
 STRATA = build/strata
 mounted: $(STRATA)
-	$(PYTHON) tools/mounted.py $(STRATA)
+	$(CHECKS) mounted $(STRATA)
 
 plant: build/strata
-	$(PYTHON) tools/plant.py build/strata
+	$(CHECKS) plant build/strata
 
 trials: needed
-	$(PYTHON) tools/trials.py $(CRATES)
+	$(CHECKS) trials $(addprefix --only ,$(ONLY)) $(CRATES)
 
 bench: build/strata
-	$(PYTHON) tools/bench.py build/strata
+	$(CHECKS) bench build/strata
 
 growth: build/strata
-	$(PYTHON) tools/growth.py build/strata --drawn docs/growth.svg
+	$(CHECKS) growth build/strata --drawn docs/growth.svg
 
 fuzz: build/strata
-	$(PYTHON) tools/fuzz.py build/strata $(FUZZ)
+	$(CHECKS) fuzz build/strata $(FUZZ)
 
 threads: build/strata
-	nice $(PYTHON) tools/threads.py build/strata
-	nice $(PYTHON) tools/threads.py build/strata --watch helgrind
-	nice $(PYTHON) tools/threads.py build/strata --watch drd
+	nice $(CHECKS) threads build/strata
+	nice $(CHECKS) threads build/strata --watch helgrind
+	nice $(CHECKS) threads build/strata --watch drd
 
 MINUTES = 20
 soak: build/strata
-	$(PYTHON) tools/soak.py build/strata --minutes $(MINUTES)
+	$(CHECKS) soak build/strata --minutes $(MINUTES)
 
 layers: build/strata
-	$(PYTHON) tools/layers_test.py build/strata
-	$(PYTHON) tools/layers_umoci.py build/strata
+	$(CHECKS) layers_test build/strata
+	$(CHECKS) layers_umoci build/strata
+
+demo_files:
+	$(CHECKS) demo_files demo
+	$(CHECKS) demo_layout demo/layout
+
+PREFIX = /usr/local
+DESTDIR =
+# where mount(8) seeks its helpers, whatever the prefix is; empty for nowhere
+HELPERS = /sbin
+PACKAGES = build
+install:
+	@$(PYTHON) packaging/install.py $(STRATA) "$(DESTDIR)" "$(PREFIX)" "$(HELPERS)"
+
+uninstall:
+	@$(PYTHON) packaging/install.py $(STRATA) "$(DESTDIR)" "$(PREFIX)" "$(HELPERS)" --remove
+
+deb:
+	@$(PYTHON) packaging/deb.py $(STRATA) "$(PACKAGES)"
+
+dist:
+	@$(PYTHON) packaging/dist.py $(STRATA) "$(PACKAGES)"
+
+installed: $(STRATA)
+	$(CHECKS) installed $(STRATA)
 
 registry: build/strata
-	$(PYTHON) checks/registry/run.py build/strata
+	$(CHECKS) registry build/strata
 
 needed:
 	@command -v rt > /dev/null || { echo "strata needs the command rt of the Rattle kit on the path"; exit 1; }

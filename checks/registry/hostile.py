@@ -8,9 +8,10 @@ import subprocess
 import sys
 import time
 
-import made
-from rooms import CHECKOUT, Failed, LeftOut, hold, needs, snapshot
-from stores import mounted_layers
+from checks import TOOLS
+from checks.registry import made
+from checks.registry.rooms import LAYERS, Failed, LeftOut, hold, needs, snapshot
+from checks.registry.stores import mounted_layers
 
 
 def hold_nothing(room, what):
@@ -231,7 +232,7 @@ find "$1/store/new" -type f
 def check_full_disk(room):
     """On a full disk a run ends with a line, and what was there stays as it was."""
     needs("unshare", "mount")
-    full, tool = room.name(), os.path.join(CHECKOUT, "tools", "layers.py")
+    full, tool = room.name(), LAYERS
     os.mkdir(full)
     small, large = made.layout(room.name(), made.LAYERS[:1]), made.layout(room.name(), large_layers(4))
     user = [] if os.geteuid() == 0 else ["-r"]
@@ -249,7 +250,7 @@ def check_progress(room):
     """A line of progress on a terminal, which is taken away at the end; no word of it elsewhere."""
     source = made.layout(room.name(), large_layers(2))
     code = ("import sys; sys.path.insert(0, %r); import progress; progress.FIRST_AFTER = progress.NEXT_AFTER = 0;"
-            "import layers; sys.exit(layers.main(sys.argv[1:]))" % os.path.join(CHECKOUT, "tools"))
+            "import layers; sys.exit(layers.main(sys.argv[1:]))" % TOOLS)
     words = [sys.executable, "-B", "-c", code, "pull", "--store", room.store, "oci:" + source.path, "a:1"]
     ours, theirs = os.openpty()
     run = subprocess.Popen(words, stdout=subprocess.DEVNULL, stderr=theirs, env=room.environment)

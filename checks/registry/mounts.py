@@ -3,10 +3,10 @@ import os
 import sys
 import time
 
-import made
-from hostile import flip
-from rooms import MOUNT, SECONDS, LeftOut, hold
-from stores import mounted_layers
+from checks.registry import made
+from checks.registry.hostile import flip
+from checks.registry.rooms import MOUNT, SECONDS, LeftOut, hold
+from checks.registry.stores import mounted_layers
 
 
 def mount(room, *words, folder=None):

@@ -11,12 +11,13 @@ import sys
 import time
 import urllib.request
 
-import made
-from hostile import flip
-from rooms import CHECKOUT, LAYERS, MOUNT, SECONDS, Failed, LeftOut, hold, needs
+from checks import ROOT
+from checks.registry import made
+from checks.registry.hostile import flip
+from checks.registry.rooms import LAYERS, MOUNT, SECONDS, Failed, LeftOut, hold, needs
 
 HERE = os.path.dirname(os.path.abspath(__file__))
-PAGE = os.path.join(CHECKOUT, "docs", "MOUNTING.md")
+PAGE = os.path.join(ROOT, "docs", "MOUNTING.md")
 CONFIGURATION = """
 version: 0.1
 log: {level: info, formatter: json, accesslog: {disabled: true}}

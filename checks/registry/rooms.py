@@ -8,14 +8,13 @@ import sys
 import tempfile
 from collections import namedtuple
 
-CHECKOUT = os.path.dirname(os.path.dirname(os.path.dirname(os.path.abspath(__file__))))
-LAYERS = os.path.join(CHECKOUT, "tools", "layers.py")
-MOUNT = os.path.join(CHECKOUT, "tools", "mount.py")
+import layers as tool
+from checks import TOOLS
+
+LAYERS = os.path.join(TOOLS, "layers.py")
+MOUNT = os.path.join(TOOLS, "mount.py")
 # what hangs is ended after so many seconds
 SECONDS = 300
-
-sys.path.insert(0, os.path.dirname(LAYERS))
-import layers as tool
 
 Done = namedtuple("Done", "returncode stdout stderr")
 

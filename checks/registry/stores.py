@@ -6,8 +6,9 @@ import shlex
 import shutil
 import subprocess
 
-import made
-from rooms import LeftOut, hold, shown_by
+from checks import ROOT
+from checks.registry import made
+from checks.registry.rooms import LAYERS, LeftOut, hold, shown_by
 
 
 def mounted_layers(room, name, store=None):
@@ -211,13 +212,11 @@ def check_other_forms(room):
 
 
 def check_version(room):
-    source = os.path.join(os.path.dirname(os.path.dirname(os.path.dirname(os.path.abspath(__file__)))), "crates", "command_line",
-                          "src", "version.rt")
+    source = os.path.join(ROOT, "crates", "command_line", "src", "version.rt")
     if not os.path.exists(source):
         raise LeftOut("no %s" % source)
     with open(source, encoding="utf-8") as file:
         version = file.read().split('pub const VERSION: &str = "')[1].split('"')[0]
-    from rooms import LAYERS
     hold("version", "strata-layers %s\n" % version, room.ran("python3", "-B", LAYERS, "--version"))
 
 

@@ -1,0 +1,15 @@
+"""What checks the program, in folders by what they do. `python3 checks` says what can be started."""
+import os
+import sys
+
+ROOT = os.path.dirname(os.path.dirname(os.path.abspath(__file__)))
+TOOLS = ROOT + "/tools"
+# modules of tools/ are named here as they name one another: `import layers`
+sys.path.insert(1, TOOLS)
+
+# each file that is started, by the last part of its path
+STARTED = (
+    "cases/cases", "fuzz/fuzz", "mounts/mounted", "installed/installed", "layers/layers_test", "layers/layers_umoci",
+    "registry/registry", "speed/bench", "speed/growth",
+    "soak/soak", "threads/threads", "gate/prove", "gate/trials", "gate/plant", "gate/doors", "gate/links", "gate/crate_order",
+    "demo/demo_files", "demo/demo_layout", "demo/record")

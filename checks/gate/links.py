@@ -1,0 +1,97 @@
+"""Sees that what README.md and docs/*.md name is there: python3 checks links
+
+Looked at are links and the headings that they lead to; paths from the root of the repository, and from the folder of a
+crate; file names alone, which some folder must have; `make TARGET`; and `python3 checks NAME`. In a path `*` stands for
+anything, and so does a word like NAME. It reads files alone. What is not there is a line each, and then the status is 1.
+"""
+import fnmatch
+import os
+import re
+import sys
+
+from checks import ROOT, STARTED
+
+BUILT = (".git", "build", "out", "__pycache__")
+PAGES = ("README.md", *sorted("docs/" + name for name in os.listdir(ROOT + "/docs") if name.endswith(".md")))
+PLACEHOLDER = re.compile(r"\b(?:NAME|CRATE|METHOD|EDIT)\b")
+LINK = re.compile(r"\]\(([^)\s]+)\)")
+AT_ROOT = re.compile(r"(?<![\w/.-])(?:crates|tools|checks|cases|docs|trials|demo)/[\w./*-]*")
+IN_CRATE = re.compile(r"(?<![\w/.-])(?:(\w+)/)?((?:src|specs|proofs|must-fail)/[\w./*-]+)")
+ALONE = re.compile(r"(?<![\w/.*-])[\w-]+\.(?:py|rt|antt|case|md|txt)\b(?!/)")
+TARGET = re.compile(r"(?:`|^)make ((?:[a-z_]+ ?)+)", re.M)
+CHECK = re.compile(r"python3 (?:-B )?checks (\w+)")
+
+
+def listed():
+    """All files of the repository, but for what is built."""
+    for folder, folders, names in os.walk(ROOT):
+        folders[:] = [name for name in folders if name not in BUILT]
+        yield from (os.path.relpath(os.path.join(folder, name), ROOT) for name in names)
+
+
+class There:
+    """What there is to be named."""
+
+    def __init__(self):
+        self.files = [*listed()]
+        folders = {"/".join(name.split("/")[:depth]) for name in self.files for depth in range(1, name.count("/") + 1)}
+        self.paths = {*self.files, *folders}
+        self.names = {os.path.basename(name) for name in self.files}
+        with open(ROOT + "/Makefile", encoding="utf-8") as makefile:
+            self.targets = set(" ".join(re.findall(r"^([a-z_ ]+):", makefile.read(), re.M)).split())
+        self.checks = {os.path.basename(path) for path in STARTED}
+
+    def has(self, path):
+        path = PLACEHOLDER.sub("*", path.rstrip("./"))
+        return path in self.paths or "*" in path and bool(fnmatch.filter(self.paths, path))
+
+
+def headings(text):
+    """The names by which links lead to the headings of a page."""
+    heads = re.findall(r"^#+ (.*)$", re.sub(r"^```.*?^```", "", text, flags=re.M | re.S), re.M)
+    return {re.sub(r"[^\w -]", "", head.lower()).replace(" ", "-") for head in heads}
+
+
+def read(page):
+    with open("%s/%s" % (ROOT, page), encoding="utf-8") as it:
+        return it.read()
+
+
+def wrong_links(page, text):
+    for target in LINK.findall(text):
+        path, _, heading = target.partition("#")
+        if re.match(r"[a-z]+:", target):
+            continue
+        place = os.path.normpath(os.path.join(os.path.dirname(page), path)) if path else page
+        if not os.path.exists("%s/%s" % (ROOT, place)):
+            yield target
+        elif heading and heading not in headings(read(place)):
+            yield target
+
+
+def wrong_names(text, there):
+    """The paths, names, targets and checks that are not there."""
+    yield from (path for path in AT_ROOT.findall(text) if not there.has(path))
+    for crate, path in IN_CRATE.findall(text):
+        place = "crates/%s/%s" % (crate or "*", path)
+        if not there.has(place) and not there.has(place + ".antt"):
+            yield place
+    yield from (name for name in ALONE.findall(text) if name not in there.names and not PLACEHOLDER.search(name))
+    for words in TARGET.findall(text):
+        if words.split()[0] not in there.targets:
+            yield "make %s" % words.split()[0]
+    yield from ("python3 checks %s" % name for name in CHECK.findall(text) if name not in there.checks)
+
+
+def main():
+    there, wrong = There(), []
+    for page in PAGES:
+        text = read(page)
+        wrong += ["%s: %s" % (page, it) for it in [*wrong_links(page, text), *wrong_names(text, there)]]
+    wrong += ["checks/__init__.py: %s" % path for path in STARTED if not there.has("checks/%s.py" % path)]
+    print("".join("%s is not there\n" % line for line in wrong) + "%d pages, %d names not there" % (len(PAGES), len(wrong)))
+    return 1 if wrong else 0
+
+
+if __name__ == "__main__":
+    sys.exit(main())

@@ -1,0 +1,63 @@
+"""What the tests of tools/layers.py share: a folder for each, and what must come of a layout in it."""
+import contextlib
+import io
+import os
+import tarfile
+import tempfile
+
+import layers
+from checks.layers.shown_trees import Unlike, compare, shown_tree, wanted_tree
+from checks.plain import plain_layers
+from checks.shared.layer_files import layout_of
+
+GNU, PAX, USTAR = tarfile.GNU_FORMAT, tarfile.PAX_FORMAT, tarfile.USTAR_FORMAT
+
+
+class Room:
+    """A folder for one test, in which layouts and images get names of their own."""
+
+    def __init__(self, strata):
+        self.strata, self.path, self.count = strata, tempfile.mkdtemp(prefix="layers-"), 0
+
+    def name(self):
+        self.count += 1
+        return os.path.join(self.path, str(self.count))
+
+    def convert(self, word, folder):
+        """Runs the tool as `main` in this process: its status, output and lines of standard error."""
+        out, lines = io.TextIOWrapper(io.BytesIO()), io.StringIO()
+        with contextlib.redirect_stdout(out), contextlib.redirect_stderr(lines):
+            status = layers.main([word, folder])
+        return status, out.buffer.getvalue().decode(), lines.getvalue().splitlines()
+
+    def taken(self, word, archives):
+        """Holds what the images of a layout show against the plain reading of its archives; the lines that were told."""
+        folder = self.name()
+        status, output, told = self.convert(word, folder)
+        expect(status == 0, "status %d: %s" % (status, told))
+        images = [os.path.join(folder, "%02d.romfs" % number) for number in range(len(archives))]
+        expect(output == "tools/mount.py %s DIR\n" % " ".join(images), "printed %r" % output)
+        expect(sorted(os.listdir(folder)) == [os.path.basename(it) for it in images], "in the folder: %r" % os.listdir(folder))
+        compare(wanted_tree(plain_layers.shown_by(archives)), shown_tree(self.strata, images))
+        return told
+
+    def refused(self, word, line):
+        """The tool must say exactly this line, where `..` stands for anything, and leave nothing."""
+        folder = self.name()
+        status, output, told = self.convert(word, folder)
+        expect(status == 1 and output == "" and len(told) == 1, "status %d, printed %r, told %r" % (status, output, told))
+        begin, _, end = line.partition("..")
+        expect(told[0] == line or ".." in line and told[0].startswith(begin) and told[0].endswith(end),
+               "told %r, and %r is wanted" % (told[0], line))
+        expect(not os.path.exists(folder), "there is %s" % folder)
+
+    def take(self, *archives):
+        return self.taken(layout_of(self.name(), archives).path, archives)
+
+    def refuse(self, line, *archives):
+        self.refused(layout_of(self.name(), archives).path, line)
+
+
+def expect(condition, words):
+    if not condition:
+        raise Unlike(words)

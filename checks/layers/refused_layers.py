@@ -1,0 +1,76 @@
+"""Tests of tools/layers.py: layers that must be refused, each with its line. A test is a function of a room."""
+from checks.layers.layer_room import GNU
+from checks.shared.layer_files import archive, block, character, directory, entry, fifo, file, hard, symlink
+
+
+def test_refused_entries(room):
+    most = "layer 0: %s: "
+    for line, *entries in [
+            ("layer 0: ../a: no path within a layer", file("../a")),
+            ("layer 0: a/../../b: no path within a layer", file("a/../../b")),
+            ("layer 0: /..: no path within a layer", directory("/..")),
+            ("layer 0: ../../etc/passwd: no path within a layer", hard("x", "../../etc/passwd")),
+            ("layer 0: '': no path within a layer", file("")),
+            ("layer 0: the root must be a directory", file("./")),
+            ("layer 0: the root must be a directory", symlink("/", "x")),
+            (most % ("n" * 200 + "..") + "a name of 256 bytes, at most 255 are held", file("n" * 256)),
+            (most % ("d/" * 100 + "..") + "a path of 513 names, at most 512 are held", file("/".join("d" * 513))),
+            ("layer 0: l: a link's target of 4096 bytes, at most 4095 are held", symlink("l", "t" * 4096)),
+            ("layer 0: c: a device of major number 4096, at most 4095 is held", character("c", 4096, 0)),
+            ("layer 0: c: a device of minor number 65536, at most 65535 is held", block("c", 0, 65536)),
+            ("layer 0: a: no directory, and something stands below it", file("a"), file("a/b")),
+            ("layer 0: d/l: no directory, and something stands below it", directory("d"), symlink("d/l", "."), file("d/l/b/c")),
+            ("layer 0: h: no directory, and something stands below it", file("a"), hard("h", "a"), directory("h/d")),
+            ("layer 0: h: a hard link to nothing in its layer: lower", hard("h", "lower")),
+            ("layer 0: a: a hard link to nothing in its layer: b", hard("a", "b"), hard("b", "a")),
+            ("layer 0: a: a hard link to nothing in its layer: a", hard("a", "a")),
+            ("layer 0: h: a hard link to the directory d", directory("d"), hard("h", "d")),
+            ("layer 0: h: a hard link to the directory /", hard("h", "/")),
+            ("layer 0: h: a hard link to the directory d", hard("h", "d"), directory("d")),
+            ("layer 0: h: a hard link to nothing in its layer: d/x", file("d/x"), fifo("d"), hard("h", "d/x")),
+            ("layer 0: v: an entry of the unknown type 'V'", entry(b"V", "v"))]:
+        room.refuse(line, archive(entries))
+    room.refuse("layer 1: h: a hard link to nothing in its layer: f", archive([file("f", b"1")]), archive([hard("h", "f")]))
+    room.refuse("layer 0: a\\00b: no image holds the name 'a\\00b'", archive([file("x", pax_headers={"path": "a\0b"})]))
+    room.refuse("layer 0: l: no link holds the target 'a\\00b'", archive([symlink("l", "x", pax_headers={"linkpath": "a\0b"})]))
+    room.refuse("layer 0: s: a sparse file, which is not read", archive([entry(b"S", "s")], GNU))
+
+
+def test_large(room):
+    """A file larger than an image is refused before its data come."""
+    info, _ = file("large")
+    # behind the volume's header, the root's two, and its own
+    info.size = 2 ** 32 - 16 - 96 - 64 - 32
+    room.refuse("layer 0: the archive is cut off", info.tobuf(GNU))
+    info.size += 1
+    room.refuse("layer 0: large: the image would be larger than 4294967280 bytes", info.tobuf(GNU))
+    info.size = 2 ** 40
+    room.refuse("layer 0: large: the image would be larger than 4294967280 bytes", info.tobuf(GNU))
+
+
+def test_broken_archives(room):
+    good = archive([file("a", b"1" * 600), file("b" * 120, b"2")])
+    for size in (1, 511, 513, 1100, 1111, 2047, 2048, 2559, 3072):
+        room.refuse("layer 0: the archive is cut off", good[:size])
+    room.refuse("layer 0: the archive is broken: a header's checksum", good[:10] + b"x" + good[11:])
+    room.refuse("layer 0: the archive is broken: a header's checksum", good[:1536] + b"7" * 512 + good[2048:])
+    room.refuse("layer 0: the archive is broken: a header behind its end", bytes(512) + good)
+    room.refuse("layer 0: the archive is broken: size 'xyz'", with_field(good, 124, b"xyz".ljust(12, b"\0")))
+    room.refuse("layer 0: the archive is broken: size '118'", with_field(good, 124, b"118".ljust(12)))
+    room.refuse("layer 0: the archive is broken: a size of -1", with_field(good, 124, b"\xff" * 12))
+    room.refuse("layer 0: the archive is broken: an extended header of 1048577 bytes", entry(b"x", "p", size=1048577)[0].tobuf(GNU))
+    for record in (b"9 path=a", b"0 path=a\n", b"11 path=a\n", b"99 path=a\n", b"path=a\n", b"8 patha\n", b"5 =a\n",
+                   b"-9 path=a\n", b"4 a=\n"):
+        line = "layer 0: the archive is broken: an extended header"
+        room.refuse(line, archive([entry(b"x", "p", record), file("a")], GNU))
+    room.refuse("layer 0: the archive is broken: size '1_0'", archive([file("x", pax_headers={"size": "1_0"})]))
+    room.refuse("layer 0: the archive is broken: a size of -4", archive([file("x", pax_headers={"size": "-4"})]))
+
+
+def with_field(data, at, value):
+    """The archive with another field in its first header, and that header's checksum."""
+    head = bytearray(data[:512])
+    head[at:at + len(value)] = value
+    head[148:156] = b" " * 8
+    head[148:156] = b"%06o\0 " % sum(head)
+    return bytes(head) + data[512:]

@@ -1,0 +1,138 @@
+"""A plain reading of container layers: what tar archives, one on another, show.
+
+Written from the OCI image specification (its chapter on layers) and with Python's tarfile, not from tools/layers.py. A
+path is a tuple of names; a tree is a dict of nodes by path, of which () is the root.
+"""
+import io
+import tarfile
+
+from checks.plain.plain_images import BLOCK, CHARACTER, DIRECTORY, FIFO, REGULAR, SYMLINK
+from checks.plain.plain_stacks import MARKER, MODES, OPAQUE
+
+KINDS = {tarfile.REGTYPE: REGULAR, tarfile.AREGTYPE: REGULAR, tarfile.CONTTYPE: REGULAR, tarfile.GNUTYPE_SPARSE: REGULAR,
+         tarfile.DIRTYPE: DIRECTORY, tarfile.SYMTYPE: SYMLINK, tarfile.CHRTYPE: CHARACTER, tarfile.BLKTYPE: BLOCK,
+         tarfile.FIFOTYPE: FIFO}
+
+
+class Impossible(Exception):
+    """What no image can hold."""
+
+
+class Node:
+    """What stands at a path, or at several by hard links."""
+
+    def __init__(self, layer, kind, executable, data=b"", rdev=0):
+        self.layer, self.kind, self.executable, self.data, self.rdev = layer, kind, executable, data, rdev
+
+    def mode(self):
+        return MODES[self.kind][self.executable]
+
+
+def raw(text):
+    return text.encode("utf-8", "surrogateescape")
+
+
+def names_of(text):
+    names = tuple(name for name in raw(text).split(b"/") if name not in (b"", b"."))
+    if b".." in names or any(len(name) > 255 for name in names) or len(names) > 512:
+        raise Impossible(text)
+    return names
+
+
+def without(tree, path):
+    """A tree without a path and what lies below it."""
+    return {it: node for it, node in tree.items() if it[:len(path)] != path}
+
+
+def node_of(layer, tar, info):
+    kind, executable = KINDS[info.type], info.mode & 0o111 != 0
+    if kind == REGULAR:
+        return Node(layer, kind, executable, tar.extractfile(info).read())
+    if kind == SYMLINK:
+        return Node(layer, kind, False, raw(info.linkname))
+    if kind in (BLOCK, CHARACTER):
+        if info.devmajor > 4095 or info.devminor > 65535:
+            raise Impossible("device")
+        # as the kernel packs the two numbers
+        rdev = info.devminor & 0xff | info.devmajor << 8 | (info.devminor & 0xfff00) << 12
+        return Node(layer, kind, False, rdev=rdev)
+    return Node(layer, kind, executable)
+
+
+def add_parents(tree, layer, path):
+    for depth in range(1, len(path)):
+        node = tree.setdefault(path[:depth], Node(layer, DIRECTORY, True))
+        if not isinstance(node, Node) or node.kind != DIRECTORY:
+            raise Impossible("below no directory")
+
+
+def is_below_file(tree, path):
+    """Whether an entry is hidden by a file above it, so that it removes nothing as a whiteout."""
+    above = [tree.get(path[:depth]) for depth in range(len(path))]
+    return any(node is not None and (not isinstance(node, Node) or node.kind != DIRECTORY) for node in above)
+
+
+def tree_of(layer, archive):
+    """The tree of one layer, with its markers. Until the end the path stands for a hard link to what hasn't come."""
+    tree = {(): Node(layer, DIRECTORY, True)}
+    # tarfile wants the end of an archive, which not all have
+    archive += bytes(-len(archive) % 512 + 1024)
+    with tarfile.open(fileobj=io.BytesIO(archive), encoding="utf-8", errors="surrogateescape") as tar:
+        for info in tar:
+            path = names_of(info.name)
+            if not path and not info.isdir():
+                raise Impossible("root")
+            if info.islnk():
+                target = names_of(info.linkname)
+                node = tree.get(target, target)
+                if isinstance(node, Node) and node.kind == DIRECTORY:
+                    raise Impossible("hard link to a directory")
+            else:
+                node = node_of(layer, tar, info)
+            if path and path[-1].startswith(MARKER) and is_below_file(tree, path):
+                continue
+            add_parents(tree, layer, path)
+            there = tree.get(path)
+            if isinstance(node, Node) and node.kind == DIRECTORY and isinstance(there, Node) and there.kind == DIRECTORY:
+                there.executable = node.executable
+            elif node is not there:
+                tree = without(tree, path)
+                tree[path] = node
+    return {path: ended(tree, node) for path, node in tree.items()}
+
+
+def ended(tree, node):
+    """What a hard link leads to in the end."""
+    if isinstance(node, Node):
+        return node
+    for _ in tree:
+        node = node if isinstance(node, Node) else tree.get(node)
+    if not isinstance(node, Node) or node.kind == DIRECTORY:
+        raise Impossible("hard link to nothing")
+    return node
+
+
+def laid(lower, upper):
+    """An upper layer on what lower ones show."""
+    shown = lower
+    for path in upper:
+        if path and not any(name.startswith(MARKER) for name in path[:-1]):
+            if path[-1] == OPAQUE:
+                shown = {it: node for it, node in shown.items() if it[:len(path) - 1] != path[:-1] or len(it) < len(path)}
+            elif path[-1].startswith(MARKER):
+                shown = without(shown, path[:-1] + (path[-1][len(MARKER):],))
+    for path, node in sorted(upper.items(), key=lambda it: it[0]):
+        if any(name.startswith(MARKER) for name in path):
+            continue
+        if path in shown and DIRECTORY != shown[path].kind or node.kind != DIRECTORY:
+            shown = without(shown, path)
+        shown = {**shown, path: node}
+    return shown
+
+
+def shown_by(archives):
+    """The paths that layers show, in order, each with its node."""
+    shown = {}
+    for layer, archive in enumerate(archives):
+        shown = laid(shown, tree_of(layer, archive))
+    return dict(sorted(shown.items()))
