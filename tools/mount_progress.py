@@ -1,0 +1,33 @@
+"""How far strata is with the images of a mount, as one line on a terminal, from a second on."""
+import os
+
+from progress import Progress
+
+STEP = 0.2
+
+
+def size_of(path):
+    """The bytes of an image, a block device's too; of what can't be told, 0."""
+    try:
+        with open(path, "rb") as it:
+            return it.seek(0, os.SEEK_END)
+    except OSError:
+        return 0
+
+
+def read_by(process):
+    """The bytes that a process has read."""
+    try:
+        with open("/proc/%d/io" % process, encoding="ascii") as it:
+            return int(it.readline().split()[1])
+    except (OSError, IndexError, ValueError):
+        return 0
+
+
+def watch(asking, server, images):
+    """Tells how far a server is until a thread has ended, which asks whether the mount answers."""
+    total = sum(map(size_of, images))
+    with Progress("images", total) as progress:
+        while asking.is_alive():
+            progress.add(min(read_by(server), total) - progress.count)
+            asking.join(STEP)
