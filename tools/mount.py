@@ -234,11 +234,19 @@ def find_images(plan):
     plan.images, plan.marks = store_images.mounted_words(plan.images, plan.store, plan.verify)
 
 
+def hold_images(plan):
+    """Looks that no image lies below the folder: strata would wait for itself to open it."""
+    for image in plan.images:
+        if os.path.realpath(image).startswith(os.path.join(os.path.realpath(plan.folder), "")):
+            raise OSError(0, "this image lies in the folder that it would be mounted on", image)
+
+
 def attempt(plan):
     """Mounts by a plan, or says why nothing can be mounted; the status to end with."""
     try:
         hold_folder(plan)
         find_images(plan)
+        hold_images(plan)
         if not shutil.which(plan.program):
             raise OSError(0, "no such program", plan.program)
         plan.folder, plan.program = os.path.realpath(plan.folder), os.path.abspath(shutil.which(plan.program))

@@ -5,15 +5,26 @@ import signal
 import time
 
 from checks import ROOT
-from checks.installed.roots import LeftOut, hold, hold_in
+from checks.installed.roots import LeftOut, hold, hold_in, mount
 
 STACK = "/srv/lower.romfs:/srv/upper.romfs"
 MOUNTING = os.path.join(ROOT, "docs", "MOUNTING.md")
+DEVICE = "/dev/fuse"
 NOT_MOUNTED, WRONG_WORDS = 32, 1
 OTHER = 65534
 # every word of fstab(5) and mount(8) that says when, by whom, or how a file system of the usual kind is mounted
 FSTAB_WORDS = ("defaults,auto,nouser,nofail,_netdev,nonempty,async,relatime,nodiratime,lazytime,x-systemd.automount,"
                "x-systemd.requires=srv.mount,X-mount.mkdir,comment=of a tree,strict,workers=2,noexec,nosuid,nodev,allow_other")
+
+
+def tried(root):
+    """Nothing where /dev/fuse can be mounted here."""
+    try:
+        device = os.open(DEVICE, os.O_RDWR)
+    except OSError as fault:
+        raise LeftOut("%s: %s" % (DEVICE, fault.strerror)) from None
+    mount("strata", root.top + "/mnt", "fuse", 1, "fd=%d,rootmode=40000,user_id=0,group_id=0" % device)
+    return ""
 
 
 def places(kind="fuse.strata"):
@@ -217,7 +228,8 @@ def dead(root):
     settle("no server is left", [], servers)
     killed(root, place, *background)
     hold_in("a folder below", "`umount %s` takes it away\n" % place, root.run(*background, "/srv/lower.romfs", place + "/var").err)
-    done = root.run(*background, place + "/image.romfs", "/mnt")
+    os.mkdir("/srv/other")
+    done = root.run(*background, place + "/image.romfs", "/srv/other")
     hold("an image in a dead mount", (1, "image 0: cannot be read\nstrata-mount: image 0 is %s/image.romfs: %s\n" % (place, said)),
          (done.status, done.err))
     root.good("umount", place)
