@@ -73,6 +73,7 @@ def typed(root):
         hold("mount -t " + kind, "", root.good("mount", "-t", kind, STACK, "/mnt/tree"))
         hold_stack(root, "/mnt/tree")
         hold("findmnt", "%s fuse.strata\n" % STACK, root.good("findmnt", "-rno", "SOURCE,FSTYPE", "/mnt/tree"))
+        hold("ro", "ro", root.good("findmnt", "-rno", "OPTIONS", "/mnt/tree").split(",")[0])
         hold("a write", 1, root.run("touch", "/mnt/tree/x").status)
         hold("servers", 1, len(servers()))
         hold("umount", "", root.good("umount", "/mnt/tree"))

@@ -73,6 +73,7 @@ def stats(root):
     hold("what strata-mount says", ("", 0), (process.communicate()[1], process.returncode))
     _, rows = table("/tmp/counts")
     hold("READs, errors of READs", (1, 0), tuple(rows["READ"][:2]))
+    hold("OPENs, which a kernel need not ask, as it is then told", (1, 1), tuple(rows["OPEN"][:2]))
     hold("bytes of a READ's request and of its reply", (80, 16 + 7), tuple(rows["READ"][2:]))
     hold("INITs", 1, rows["INIT"][0])
     hold("the sum", [sum(row[at] for name, row in rows.items() if name != "all") for at in range(4)], rows["all"])
