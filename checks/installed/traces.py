@@ -96,22 +96,40 @@ def progress(root):
     slow, place = "/tmp/slow", "/mnt/slow"
     os.mkdir(place)
     with open(slow, "w", encoding="ascii") as out:
-        out.write("#!/bin/sh\nsleep 3\nexec /usr/local/bin/strata \"$@\"\n")
+        out.write("#!/bin/sh\nuntil [ -e /tmp/go ]; do sleep 0.1; done\nexec /usr/local/bin/strata \"$@\"\n")
     os.chmod(slow, 0o755)
     words = ["strata-mount", "--background", "--strata", slow, "/srv/lower.romfs", place]
-    hold("what a log holds", "", root.good(*words))
-    root.good("umount", place)
     ours, theirs = pty.openpty()
     child = subprocess.Popen(words, stdin=subprocess.DEVNULL, stderr=theirs)
     os.close(theirs)
     text = b""
-    while True:
-        try:
-            text += os.read(ours, 4096)
-        except OSError:
-            break
+    while b"images: 0 of 0 MB" not in text:
+        text += os.read(ours, 4096)
+    go()
+    text += rest_of(ours)
     hold("the status", 0, child.wait())
-    hold_in("the terminal", "images: 0 of 0 MB", text.decode())
-    hold("the line is taken away", "\r\x1b[K", text.decode()[-4:])
+    hold("the line is taken away", b"\r\x1b[K", text[-4:])
+    root.good("umount", place)
+    os.unlink("/tmp/go")
+    child = subprocess.Popen(words, stdin=subprocess.DEVNULL, stderr=subprocess.PIPE)
+    time.sleep(1.5)
+    go()
+    hold("what a log holds", (b"", 0), (child.communicate()[1], child.returncode))
     root.good("umount", place)
     return "one line on a terminal, taken away at the end; nothing in a log"
+
+
+def go():
+    """Lets the slow program begin."""
+    with open("/tmp/go", "wb"):
+        pass
+
+
+def rest_of(terminal):
+    """What is written to a terminal until nobody has it open."""
+    text = b""
+    while True:
+        try:
+            text += os.read(terminal, 4096)
+        except OSError:
+            return text
