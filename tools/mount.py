@@ -273,8 +273,11 @@ def owner_of(options, program):
     """The words of `--owner`, which a strata must have for them."""
     if options.owner() is None:
         return None
-    told = subprocess.run([program, "serve", "--help"], stdin=subprocess.DEVNULL, stdout=subprocess.PIPE,
-                          stderr=subprocess.STDOUT)
+    try:
+        told = subprocess.run([program, "serve", "--help"], stdin=subprocess.DEVNULL, stdout=subprocess.PIPE,
+                              stderr=subprocess.STDOUT)
+    except OSError as fault:
+        raise Wrong("uid=, gid=: %s: %s" % (fault.filename, fault.strerror)) from None
     if b"--owner" not in told.stdout:
         raise Wrong("uid=, gid=: this strata has no --owner, and all is root's")
     return options.owner()

@@ -16,7 +16,7 @@ CHECKS = (
     programs.named, pages.shown, pages.options, pages.shells, pages.words_of_fstab, packages.same_bytes, packages.uninstalled)
 # those that mount
 MOUNTING = (
-    programs.alone, programs.links, mounts.typed, mounts.by_fstab, mounts.words, mounts.colons, mounts.faked, mounts.by_user,
+    programs.alone, programs.links, mounts.typed, mounts.by_fstab, mounts.words, mounts.colons, mounts.stored, mounts.faked, mounts.by_user,
     mounts.dead, mounts.units, traces.debug, traces.stats, traces.progress, faults.images, faults.not_permitted, faults.kinds,
     faults.rules, faults.dashes, packages.package, packages.archive)
 

@@ -1,6 +1,7 @@
 """Mounts by mount(8) and by lines of /etc/fstab; dead mounts; units of systemd."""
 import os
 import re
+import shutil
 import signal
 import time
 
@@ -73,6 +74,7 @@ def typed(root):
         hold("mount -t " + kind, "", root.good("mount", "-t", kind, STACK, "/mnt/tree"))
         hold_stack(root, "/mnt/tree")
         hold("findmnt", "%s fuse.strata\n" % STACK, root.good("findmnt", "-rno", "SOURCE,FSTYPE", "/mnt/tree"))
+        hold("ro", "ro", root.good("findmnt", "-rno", "OPTIONS", "/mnt/tree").split(",")[0])
         hold("a write", 1, root.run("touch", "/mnt/tree/x").status)
         hold("servers", 1, len(servers()))
         hold("umount", "", root.good("umount", "/mnt/tree"))
@@ -155,6 +157,29 @@ def colons(root):
     hold("the source of relative names", [("/mnt/colons", STACK)], places())
     hold("an empty name", WRONG_WORDS, root.run("mount", "-t", "strata", "lower.romfs:", "/mnt/colons").status)
     return "\\: is a colon, \\\\ a backslash, fstab's \\040 a space; names from the working folder"
+
+
+def stored(root):
+    """A container image of the store by fstab; its layers are in use as long as it is mounted."""
+    shutil.copytree(os.path.join(ROOT, "demo", "layout"), root.top + "/srv/layout")
+    root.install()
+    os.mkdir("/srv/tree")
+    hold("pull", 0, root.run("strata-layers", "pull", "oci:/srv/layout", "lantern").status)
+    fstab("image:lantern /srv/tree strata ro 0 0")
+    for _ in range(2):
+        root.good("mount", "-a")
+        hold("mounts", [("/srv/tree", "image:lantern")], places())
+    hold("a file", "beacon\n", root.good("cat", "/srv/tree/etc/hostname"))
+    root.good("strata-layers", "remove", "lantern")
+    hold_in("prune while it is mounted", "3 are in use by a mount", root.good("strata-layers", "prune"))
+    hold("a file", "beacon\n", root.good("cat", "/srv/tree/etc/hostname"))
+    root.good("umount", "/srv/tree")
+    settle("no server is left", [], servers)
+    hold_in("prune", "3 layers taken away", root.good("strata-layers", "prune"))
+    done = root.run("mount", "-a")
+    hold("an image that is gone", NOT_MOUNTED, done.status)
+    hold_in("an image that is gone", "mount.strata: ", done.err)
+    return "image:NAME by fstab; prune leaves its layers while it is mounted"
 
 
 def faked(root):

@@ -18,7 +18,7 @@ NEWNS, NEWPID = 0x20000, 0x20000000
 DEATH_SIGNAL = 1
 BIND, REC, PRIVATE = 0x1000, 0x4000, 0x40000
 # a check, and a command of it, that does not end is ended after so many seconds
-CHECK_SECONDS, SECONDS = 300, 100
+CHECK_SECONDS, SECONDS = 1200, 300
 PATH = "/usr/local/sbin:/usr/local/bin:/usr/sbin:/usr/bin:/sbin:/bin"
 # what dpkg and man write of their own accord
 SYSTEMS_OWN = ("/var/cache/", "/var/lib/dpkg/", "/var/log/", "/var/lib/systemd/", "/etc/ld.so.cache")
