@@ -77,7 +77,7 @@ module _ (a : List ℕ) (w : Folder) (old : WalkState) where
       );
     }
 
-    module _ (p : IsPlainHeader a w.header w.names at) (fits : at / 16 < length now.marks)
+    module _ (p : IsPlainHeader a w at) (fits : at / 16 < length now.marks)
         (free : get_or now.marks (at / 16) false ≡ false) (after : List Folder) (f : AddsFolder a w at now.todo after)
         (hashes : List ℕ) where
       abbrev more : List ℕ

@@ -23,7 +23,7 @@ IsKnown todo done v = Contains todo v ⊎ Contains done v
 
 -- a header of the chain of a directory that was gone along
 pub record IsSeen (a : List ℕ) (marks : List Bool) (todo done : List Folder) (w : Folder) (h : ℕ) : Type 0 where
-  pub plain : IsPlainHeader a w.header w.names h
+  pub plain : IsPlainHeader a w h
   pub marked : IsMarked marks h
   pub comes : h ≢ root a → Opens a h → IsKnown todo done (folder h (w.names + 1))
 

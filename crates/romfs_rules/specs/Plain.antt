@@ -36,18 +36,18 @@ pub record IsPlainMember (a : List ℕ) (h : ℕ) (text : List ℕ) : Type 0 whe
   pub body : HasPlainBody a h text
   pub ends : kind a h ≡ HardLink → IsPlainEnd a (destination a h)
 
--- h breaks no such rule in the chain of d, to which n names lead
-pub record IsPlainHeader (a : List ℕ) (d n h : ℕ) : Type 0 where
+-- h breaks no such rule in the chain of w
+pub record IsPlainHeader (a : List ℕ) (w : Folder) (h : ℕ) : Type 0 where
   pub inside : IsInside a h
   pub text : List ℕ
   pub is_name : name a h ≡ Some text
-  pub depth : n < MAX_NAMES
-  pub own : h ≡ root a → d ≡ root a
+  pub depth : w.names < MAX_NAMES
+  pub own : h ≡ root a → w.header ≡ root a
   pub member : h ≢ root a → ¬ IsDotted a h → IsPlainMember a h text
 
 -- and its name is mixed to this
-pub record IsHashed (a : List ℕ) (d n h hash : ℕ) : Type 0 where
-  pub plain : IsPlainHeader a d n h
+pub record IsHashed (a : List ℕ) (w : Folder) (h hash : ℕ) : Type 0 where
+  pub plain : IsPlainHeader a w h
   pub mixed : (q : List ℕ) → name a h ≡ Some q → hash ≡ name_hash q
 
 -- the directory h, to which n names lead
@@ -67,7 +67,7 @@ pub record WalkState : Type 0 where
 -- is still to come as a directory, if it is one
 pub record IsPassed (a : List ℕ) (w : Folder) (old new : WalkState) (i h : ℕ) : Type 0 where
   pub at : IsAt a w.header i h
-  pub plain : IsPlainHeader a w.header w.names h
+  pub plain : IsPlainHeader a w h
   pub unmarked : get_or old.marks (h / 16) false ≡ false
   pub marked : IsMarked new.marks h
   pub comes : h ≢ root a → Opens a h → Contains new.todo (folder h (w.names + 1))

@@ -23,8 +23,7 @@ use romfs_format::read::{cleared, is_dot_name, kind_of, text_at, word};
 #[inline(always)]
 pub(crate) fn plain_hash(volume: &Volume, folder: Folder, at: usize) -> Option<u64>
     requires { IsInside volume.now.bytes.now at }
-    ensures { IfSome result
-        (λ hash. IsHashed volume.now.bytes.now folder.header folder.names at hash) }
+    ensures { IfSome result (λ hash. IsHashed volume.now.bytes.now folder at hash) }
 {
     let name = text_at(volume.bytes, at + HEAD_SIZE)?;
     if is_plain(volume, folder, at, name) {
@@ -40,7 +39,7 @@ fn is_plain(volume: &Volume, folder: Folder, at: usize, name: &[u8]) -> bool
     requires inside { IsInside volume.now.bytes.now at }
     requires text { text_at volume.now.bytes.now (at + HEAD_SIZE) ≡ Some name.now }
     requires within { data_at at name.now ≤ length volume.now.bytes.now }
-    ensures { IsTrue result → IsPlainHeader volume.now.bytes.now folder.header folder.names at }
+    ensures { IsTrue result → IsPlainHeader volume.now.bytes.now folder at }
 {
     if folder.names >= u32::from(MAX_NAMES) {
         return false;
