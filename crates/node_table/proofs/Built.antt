@@ -22,14 +22,14 @@ use Rattle.name_keys.specs.Names.{Rise}
 use Rattle.stack_table.specs.Rows.{Line, names}
 use Rattle.stack_table.specs.Directories.{HeldDirectories}
 use Rattle.node_table.specs.declared.building.First.{First}
-use Rattle.node_table.specs.Building.{line_in, directories, HasNumberAndSize, AreFollowing, AddsRows, AddsLinked, AddsNothing, AddsByKind, IsReadFrom, IsReadOf}
+use Rattle.node_table.specs.Building.{line_in, count_directories, HasNumberAndSize, AreFollowing, AddsRows, AddsLinked, AddsNothing, AddsByKind, IsReadFrom, IsReadOf}
 use Rattle.shown_tree.proofs.NoDirectory.{not_directory}
 use Rattle.node_table.proofs.Lists.{take_one_more}
 
 -- how far the rows of children have come
 pub record Rowing (tell : Place → ℕ) (cs : List (Subtree Entry)) (old new : List Line) (n i : ℕ) : Type 0 where
   pub rows : new ≡ old ++ map (line_in tell) (take i cs)
-  pub count : n ≡ directories (take i cs)
+  pub count : n ≡ count_directories (take i cs)
   pub few : n ≤ i
 
 -- the row of the next child is added
@@ -98,7 +98,7 @@ pub rows_ended : (tell : Place → ℕ) (cs : List (Subtree Entry)) (old new : L
     → AddsRows tell cs old new n
 rows_ended tell cs old new n i le r = record {
   rows_are = r.rows ∙ ap (λ x. old ++ map (line_in tell) x) (take_all i cs le);
-  count_is = r.count ∙ ap directories (take_all i cs le);
+  count_is = r.count ∙ ap count_directories (take_all i cs le);
 }
 
 -- rows of branches come in the order of their names

@@ -13,7 +13,7 @@ use Rattle.stack_table.specs.Rows.{Line}
 use Rattle.stack_table.specs.Directories.{HeldDirectories}
 use Rattle.node_table.specs.Walks.{Visit, Walk}
 use Rattle.node_table.specs.Numbering.{visit_place, number_among}
-use Rattle.node_table.specs.Building.{line_in, directories, number_above, HasGivenHeader, StandAtStarts, completed}
+use Rattle.node_table.specs.Building.{line_in, count_directories, number_above, HasGivenHeader, StandAtStarts, completed}
 use Rattle.stack_table.specs.Held.{AreNodes}
 
 -- the row of a shown child
@@ -24,7 +24,7 @@ shown_line entries c = record { number = number entries c.place; name = c.name }
 pub record AgreeBelow (stack : Stacked) (tell : TreePlace → ℕ) (p : Place)
     (cs : List (Subtree Entry)) : Type 0 where
   pub rows_are : map (line_in tell) cs ≡ map (shown_line stack.entries) (children stack.entries p)
-  pub count_is : directories cs ≡ count_by (λ c. is_directory_at stack.layers c.place)
+  pub count_is : count_directories cs ≡ count_by (λ c. is_directory_at stack.layers c.place)
       (children stack.entries p)
 
 -- the branch agrees with the listing at its place

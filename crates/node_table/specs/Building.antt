@@ -22,14 +22,14 @@ abbrev pub line_in : (Place → ℕ) → Subtree Entry → Line
 line_in tell c = record { number = tell c.value.place; name = c.name }
 
 -- how many of these branches are directories
-abbrev pub directories : List (Subtree Entry) → ℕ
-directories cs = count_by (λ c. is_directory c.value.kind) cs
+abbrev pub count_directories : List (Subtree Entry) → ℕ
+count_directories cs = count_by (λ c. is_directory c.value.kind) cs
 
 -- the rows of children are added at the end, and the directories among these counted
 pub record AddsRows (tell : Place → ℕ) (cs : List (Subtree Entry)) (old new : List Line)
     (n : ℕ) : Type 0 where
   pub rows_are : new ≡ old ++ map (line_in tell) cs
-  pub count_is : n ≡ directories cs
+  pub count_is : n ≡ count_directories cs
 
 -- a branch's number and size stand at this place
 pub record HasNumberAndSize (tell : Place → ℕ) (numbers sizes : List ℕ) (at : ℕ)
@@ -56,12 +56,12 @@ pub record HasChildrenAfter (tell : Place → ℕ) (numbers sizes : List ℕ) (a
 
 -- the number of the branch above the one at this place
 abbrev pub number_above : List ℕ → List ℕ → ℕ → ℕ
-number_above numbers places at = slice_index numbers (slice_index places at)
+number_above numbers above at = slice_index numbers (slice_index above at)
 
 -- there is such a number
-pub record HasAbove (numbers places : List ℕ) (at : ℕ) : Type 0 where
-  pub placed : at < length places
-  pub within : slice_index places at < length numbers
+pub record HasAbove (numbers above : List ℕ) (at : ℕ) : Type 0 where
+  pub placed : at < length above
+  pub within : slice_index above at < length numbers
 
 -- the first branches stand where starts say, with numbers of their parents and children at hand
 pub record StandAtStarts (walk : Walk Entry) (numbers : List ℕ) (first : List (Visit Entry))
@@ -112,7 +112,7 @@ pub record AddsDirectory {A : Type 0} (tell : Place → ℕ) (first : First A)
   pub directory : Directory
   pub is : new.all ≡ old.all ++ directory ∷ []
   pub made : IsMade tell first.parent children old new directory
-  pub count_is : n ≡ directories children
+  pub count_is : n ≡ count_directories children
 
 -- a directory is added, which is linked by its name, its own dot and the directories in it
 pub record AddsLinked {A : Type 0} (tell : Place → ℕ) (first : First A) (nlink : ℕ)

@@ -60,11 +60,11 @@ pub record IsBelow {T : Type 0} (rows : Rows T) (j : ℕ) (branch : Subtree T)
 -- the visits are the branch and all below it, in the order of their rows, and the branch above each
 -- one stands at its place among all
 pub record AreWalked {T : Type 0} (branch : Subtree T) (place : ℕ) (all visits : List (Visit T))
-    (places : List ℕ) : Type 0 where
+    (above : List ℕ) : Type 0 where
   pub level : length visits ≡ length (whole branch)
-  pub placed : length places ≡ length visits
+  pub placed : length above ≡ length visits
   pub each : (rows : Rows T) (j : ℕ) → IsBelow rows j branch all place → (k : ℕ) (visit : Visit T)
-      → slice_get visits k ≡ Some visit → IsBelow rows (j + k) visit.now all (slice_index places k)
+      → slice_get visits k ≡ Some visit → IsBelow rows (j + k) visit.now all (slice_index above k)
 
 -- branches in the order of their paths, where the one above each stands, and how many branches each
 -- is with all below it
