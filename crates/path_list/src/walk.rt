@@ -4,7 +4,7 @@ ghost use Rattle.std.specs.Prelude.{◌≡◌, ◌<◌, ◌≤◌, ◌^◌, [], 
 ghost use Rattle.path_list.specs.Below.{AreImages};
 ghost use Rattle.path_list.specs.Lines.{lines};
 ghost use Rattle.path_list.specs.Faults.{Lists, IsBrokenOff};
-ghost use Rattle.path_list.specs.Walks.{Puts, PutsAt, IsOnWay, line_as, lines_below};
+ghost use Rattle.path_list.specs.Walks.{passage, Puts, PutsBelow, IsOnWay, line_as};
 
 use crate::fields::{FIELDS_SIZE, write_fields};
 use crate::path_text::PathText;
@@ -46,88 +46,6 @@ impl From<Failed> for ListFault {
     }
 }
 
-// Tells that each image keeps all rules, and does nothing else: what a call on an image promises
-// says so of that image.
-fn are_images<A: Allocator>(images: &[Image<A>])
-    ensures { AreImages images.now }
-{
-    for image in images {
-        let _full = image.full();
-    }
-}
-
-impl<A: Allocator> Room<A> {
-    // Puts the line of a number with a path; none where the number is not in use.
-    fn put_line<K: Sink, B: Allocator>(
-        &mut self,
-        sink: &mut K,
-        table: &Table<B>,
-        number: u64,
-        path: &[u8],
-    ) -> Result<(), Failed>
-        requires { (K.state sink.old).counts.failures < 2 ^ 63 }
-        ensures { Puts result (K.state sink.old) self.old.waiting.items
-            (K.state sink.new) self.new.waiting.items (line_as table.now number path.now) }
-    {
-        let Some(node) = table.node(number) else {
-            return Ok(());
-        };
-        let Some(attr) = table.attr(number) else {
-            return Ok(());
-        };
-        let mut fields = [0; FIELDS_SIZE];
-        let start = write_fields(&attr, node.place.layer, &mut fields);
-        self.put(sink, &fields[start..])?;
-        self.put(sink, path)?;
-        self.put_byte(sink, b'\n')
-    }
-
-    // Puts the lines of all paths below one. No recursion goes deeper than the paths are long.
-    fn put_below<K: Sink, B: Allocator>(
-        &mut self,
-        sink: &mut K,
-        table: &Table<B>,
-        number: u64,
-        path: &mut PathText<A>,
-    ) -> Result<(), Failed>
-        requires on { IsOnWay table.now number path.old }
-        requires counts { (K.state sink.old).counts.failures < 2 ^ 63 }
-        ensures put { PutsAt table.now number path.old result (K.state sink.old)
-            self.old.waiting.items (K.state sink.new) self.new.waiting.items
-            (lines_below table.now) }
-        ensures back { OnOk result (path.new ≡ path.old) }
-    {
-        let above = path.len();
-        for row in table.rows(number) {
-            path.go_down(row.name());
-            self.put_line(sink, table, row.number, path.printed())?;
-            self.put_below(sink, table, row.number, path)?;
-            path.go_up(above);
-        }
-        Ok(())
-    }
-
-    // Puts all lines.
-    fn put_all<K: Sink, B: Allocator>(
-        &mut self,
-        sink: &mut K,
-        table: &Table<B>,
-        path: &mut PathText<A>,
-    ) -> Result<(), Failed>
-        requires root { path.old ≡ [] }
-        requires counts { (K.state sink.old).counts.failures < 2 ^ 63 }
-        ensures { Puts result (K.state sink.old) self.old.waiting.items
-            (K.state sink.new) self.new.waiting.items (lines table.now.layers table.now.entries) }
-    {
-        are_images(table.images());
-        if table.len() == 0 {
-            return Ok(());
-        }
-        self.put_line(sink, table, 1, path.printed())?;
-        self.put_below(sink, table, 1, path)
-    }
-}
-
 /// Puts a line for each shown path of the table's layers to a sink, in the order of the paths.
 ///
 /// A line is `<number> <mode> <nlink> <size> <layer> <path>`: the mode in six octal digits, the
@@ -153,4 +71,88 @@ pub fn write_list<A: Allocator + Copy, B: Allocator, K: Sink>(
     room.put_all(sink, table, &mut path)?;
     room.drain(sink)?;
     Ok(())
+}
+
+impl<A: Allocator> Room<A> {
+    // Puts the line of a number with a path; none where the number is not in use.
+    fn put_line<K: Sink, B: Allocator>(
+        &mut self,
+        sink: &mut K,
+        table: &Table<B>,
+        number: u64,
+        path: &[u8],
+    ) -> Result<(), Failed>
+        requires { (K.state sink.old).counts.failures < 2 ^ 63 }
+        ensures { Puts result (passage (K.state sink.old) self.old.waiting.items)
+            (passage (K.state sink.new) self.new.waiting.items)
+            (line_as table.now number path.now) }
+    {
+        let Some(node) = table.node(number) else {
+            return Ok(());
+        };
+        let Some(attr) = table.attr(number) else {
+            return Ok(());
+        };
+        let mut fields = [0; FIELDS_SIZE];
+        let start = write_fields(&attr, node.place.layer, &mut fields);
+        self.put(sink, &fields[start..])?;
+        self.put(sink, path)?;
+        self.put_byte(sink, b'\n')
+    }
+
+    // Puts the lines of all paths below one. No recursion goes deeper than the paths are long.
+    fn put_below<K: Sink, B: Allocator>(
+        &mut self,
+        sink: &mut K,
+        table: &Table<B>,
+        number: u64,
+        path: &mut PathText<A>,
+    ) -> Result<(), Failed>
+        requires on { IsOnWay table.now number path.old }
+        requires counts { (K.state sink.old).counts.failures < 2 ^ 63 }
+        ensures put { PutsBelow table.now number path.old result
+            (passage (K.state sink.old) self.old.waiting.items)
+            (passage (K.state sink.new) self.new.waiting.items) }
+        ensures back { OnOk result (path.new ≡ path.old) }
+    {
+        let above = path.len();
+        for row in table.rows(number) {
+            path.go_down(row.name());
+            self.put_line(sink, table, row.number, path.printed())?;
+            self.put_below(sink, table, row.number, path)?;
+            path.go_up(above);
+        }
+        Ok(())
+    }
+
+    // Puts all lines.
+    fn put_all<K: Sink, B: Allocator>(
+        &mut self,
+        sink: &mut K,
+        table: &Table<B>,
+        path: &mut PathText<A>,
+    ) -> Result<(), Failed>
+        requires root { path.old ≡ [] }
+        requires counts { (K.state sink.old).counts.failures < 2 ^ 63 }
+        ensures { Puts result (passage (K.state sink.old) self.old.waiting.items)
+            (passage (K.state sink.new) self.new.waiting.items)
+            (lines table.now.layers table.now.entries) }
+    {
+        are_images(table.images());
+        if table.len() == 0 {
+            return Ok(());
+        }
+        self.put_line(sink, table, 1, path.printed())?;
+        self.put_below(sink, table, 1, path)
+    }
+}
+
+// Tells that each image keeps all rules, and does nothing else: what a call on an image promises
+// says so of that image.
+fn are_images<A: Allocator>(images: &[Image<A>])
+    ensures { AreImages images.now }
+{
+    for image in images {
+        let _full = image.full();
+    }
 }
