@@ -6,6 +6,7 @@
 # make cases: the cases alone, on build/strata. make plant: sees that the cases notice wrong lines.
 # make mounted [STRATA=PROGRAM]: real mounts, looked at through the kernel.
 # make layers: tools/layers.py on layouts made on the spot, and, where umoci stands, on images that umoci makes.
+# make registry: layers on many machines: a store, and, where the programs are, a registry on the loopback and sandboxes.
 # make trials [CRATES=..] [ONLY=EDIT]: tries the wrong bodies of trials/CRATE.edits, over what make kept has kept; trials/outcomes.txt tells
 # the last runs.
 # make bench: figures. make growth: how time and memory grow with nodes and layers, drawn in docs/growth.svg.
@@ -14,8 +15,11 @@
 # make threads: 10,000 runs of one stream by 64 workers, each of which must give the same bytes; and valgrind over it.
 # make soak [MINUTES=20]: little memory by steps, the largest image, and random requests for so many minutes a part.
 # make demo_files: writes the images, requests and container image of demo/ once more, which give the same bytes.
+# make install [PREFIX=/usr/local] [DESTDIR=], make uninstall: what make build has made, with man pages and the mount helper.
+# make deb, make dist [PACKAGES=build]: a Debian package, a tar of the same files. make installed: all of these in fresh roots.
 # Each of these starts a file of checks/ by `python3 checks NAME WORDS..`; `python3 checks` lists them.
-.PHONY: test build kept demo doors links crate_order cases layers mounted plant trials bench growth fuzz threads soak demo_files needed
+.PHONY: test build kept demo doors links crate_order cases layers registry mounted plant trials bench growth fuzz threads soak demo_files needed
+.PHONY: install uninstall deb dist installed
 
 PYTHON = python3 -B
 CHECKS = $(PYTHON) checks
@@ -30,7 +34,9 @@ test: needed
 	$(CHECKS) cases build/strata
 	$(CHECKS) layers_test build/strata
 	$(CHECKS) layers_umoci build/strata
+	$(CHECKS) registry build/strata --quick
 	$(CHECKS) mounted build/strata
+	$(CHECKS) installed build/strata
 	$(CHECKS) soak build/strata --quick memory
 	$(CHECKS) bench build/strata --quick
 
@@ -92,6 +98,29 @@ layers: build/strata
 demo_files:
 	$(CHECKS) demo_files demo
 	$(CHECKS) demo_layout demo/layout
+
+PREFIX = /usr/local
+DESTDIR =
+# where mount(8) seeks its helpers, whatever the prefix is; empty for nowhere
+HELPERS = /sbin
+PACKAGES = build
+install:
+	@$(PYTHON) packaging/install.py $(STRATA) "$(DESTDIR)" "$(PREFIX)" "$(HELPERS)"
+
+uninstall:
+	@$(PYTHON) packaging/install.py $(STRATA) "$(DESTDIR)" "$(PREFIX)" "$(HELPERS)" --remove
+
+deb:
+	@$(PYTHON) packaging/deb.py $(STRATA) "$(PACKAGES)"
+
+dist:
+	@$(PYTHON) packaging/dist.py $(STRATA) "$(PACKAGES)"
+
+installed: $(STRATA)
+	$(CHECKS) installed $(STRATA)
+
+registry: build/strata
+	$(CHECKS) registry build/strata
 
 needed:
 	@command -v rt > /dev/null || { echo "strata needs the command rt of the Rattle kit on the path"; exit 1; }

@@ -9,6 +9,7 @@ sys.path.insert(1, TOOLS)
 
 # each file that is started, by the last part of its path
 STARTED = (
-    "cases/cases", "fuzz/fuzz", "mounts/mounted", "layers/layers_test", "layers/layers_umoci", "speed/bench", "speed/growth",
+    "cases/cases", "fuzz/fuzz", "mounts/mounted", "installed/installed", "layers/layers_test", "layers/layers_umoci",
+    "registry/registry", "speed/bench", "speed/growth",
     "soak/soak", "threads/threads", "gate/prove", "gate/trials", "gate/plant", "gate/doors", "gate/links", "gate/crate_order",
     "demo/demo_files", "demo/demo_layout", "demo/record")

@@ -18,6 +18,7 @@ import platform
 import re
 import stat
 
+from progress import unheard
 from refused import Refused, shown
 
 Descriptor = collections.namedtuple("Descriptor", "media algorithm digits size reference platform is_note")
@@ -95,17 +96,24 @@ def digest_of(it):
 
 # --- blobs ---
 
-class Blob:
-    """The bytes of a blob, which are counted and hashed as they are read."""
+# no link is followed, and no pipe is waited for
+READING = os.O_RDONLY | os.O_NOFOLLOW | os.O_NONBLOCK | os.O_CLOEXEC
 
-    def __init__(self, path, it):
-        self.descriptor, self.count = it, 0
+
+def why_not(fault):
+    return "is a symbolic link" if fault.errno == errno.ELOOP else os.strerror(fault.errno).lower()
+
+
+class Blob:
+    """The bytes of a blob, which are counted and hashed as they are read; `heard` is told how many."""
+
+    def __init__(self, path, it, heard=unheard):
+        self.descriptor, self.count, self.heard = it, 0, heard
         self.hash = hashlib.new(it.algorithm)
         try:
-            self.file = os.fdopen(os.open(path, os.O_RDONLY | os.O_NOFOLLOW | os.O_NONBLOCK | os.O_CLOEXEC), "rb", 0)
+            self.file = os.fdopen(os.open(path, READING), "rb", 0)
         except OSError as fault:
-            why = "is a symbolic link" if fault.errno == errno.ELOOP else os.strerror(fault.errno).lower()
-            raise Refused("blob %s: %s" % (digest_of(it), why)) from None
+            raise Refused("blob %s: %s" % (digest_of(it), why_not(fault))) from None
         found = os.fstat(self.file.fileno())
         if not stat.S_ISREG(found.st_mode):
             self.close()
@@ -125,6 +133,7 @@ class Blob:
             raise Refused("blob %s: %s" % (digest_of(self.descriptor), os.strerror(fault.errno).lower())) from None
         self.count += len(data)
         self.hash.update(data)
+        self.heard(len(data))
         return data
 
     def settle(self):
@@ -156,14 +165,23 @@ def runs_here(it, own):
     return name == "linux" and architecture == own[0] and (not variant or variant in own[1:])
 
 
-def chosen(found, where):
-    """The first manifest that this machine runs, or the only one."""
+def platform_said(text):
+    """The platform that `linux/ARCHITECTURE[/VARIANT]` says, as own_platform has it."""
+    parts = text.split("/")
+    if len(parts) not in (2, 3) or parts[0] != "linux" or not all(parts):
+        raise Refused("%s: no platform; linux/ARCHITECTURE[/VARIANT] is wanted" % shown(text))
+    return tuple(parts[1:])
+
+
+def chosen(found, where, asked=None):
+    """The first manifest that this machine runs, or the only one; where a platform is asked for, the
+    first one of it."""
     images = [it for it in found if not it.is_note] or found
-    own = own_platform()
+    own = asked or own_platform()
     here = [it for it in images if runs_here(it, own)]
     if here:
         return here[0]
-    if len(images) == 1:
+    if len(images) == 1 and not (asked and any(images[0].platform)):
         return images[0]
     there = ", ".join(sorted({platform_text(it) for it in images})) or "nothing"
     raise Refused("%s: nothing for linux/%s; there is %s" % (where, "/".join(own[:2]), there))
@@ -187,26 +205,27 @@ class Layout:
     """An image layout in a folder."""
 
     def __init__(self, folder):
-        self.folder, self.name = folder, shown(os.fsencode(folder))
+        self.folder, self.name, self.heard = folder, shown(os.fsencode(folder)), unheard
         said = parsed(self.small_file("oci-layout"), self.name + "/oci-layout")
         if said.get("imageLayoutVersion") != "1.0.0":
             raise Refused("%s/oci-layout: no version 1.0.0" % self.name)
 
     def small_file(self, name):
         try:
-            with open(os.path.join(self.folder, name), "rb") as file:
+            number = os.open(os.path.join(self.folder, name), READING)
+            with os.fdopen(number, "rb") as file:
                 data = file.read(JSON_MOST + 1)
         except OSError as fault:
-            raise Refused("%s/%s: %s" % (self.name, name, os.strerror(fault.errno).lower())) from None
+            raise Refused("%s/%s: %s" % (self.name, name, why_not(fault))) from None
         if len(data) > JSON_MOST:
             raise Refused("%s/%s: above %d bytes" % (self.name, name, JSON_MOST))
         return data
 
     def open(self, it):
-        return Blob(os.path.join(self.folder, "blobs", it.algorithm, it.digits), it)
+        return Blob(os.path.join(self.folder, "blobs", it.algorithm, it.digits), it, self.heard)
 
-    def document(self, it):
-        """A blob that is a JSON object, and what it is called."""
+    def document(self, it, is_config=False):
+        """A blob that is a JSON object, and what it is called. A configuration says no media type."""
         where = "blob " + digest_of(it)
         if it.size > JSON_MOST:
             raise Refused("%s: above %d bytes" % (where, JSON_MOST))
@@ -217,26 +236,43 @@ class Layout:
         finally:
             blob.close()
         value = parsed(data, where)
-        if value.get("mediaType", it.media) != it.media:
+        if not is_config and value.get("mediaType", it.media) != it.media:
             raise Refused("%s: its media type is %s" % (where, shown(str(value["mediaType"]))))
         return value, where
 
     def manifests(self, value, where):
         return [descriptor_of(it, where) for it in field(value, "manifests", list, where)]
 
-    def manifest(self, tag):
-        """The manifest that is meant, through nested indexes."""
+    def found(self, tag):
+        """The manifests and indexes that a tag names, and where they stand."""
         where = self.name + "/index.json"
         found = self.manifests(parsed(self.small_file("index.json"), where), where)
-        it = chosen(tagged(found, tag, where), where)
+        return tagged(found, tag, where), where
+
+    def reference(self, tag):
+        """The tag of the image that is meant, where it has one."""
+        return tag if tag is not None else self.found(None)[0][0].reference
+
+    def has_tag(self, tag):
+        where = self.name + "/index.json"
+        found = self.manifests(parsed(self.small_file("index.json"), where), where)
+        return any(it.reference == tag for it in found)
+
+    def descriptor(self, tag, asked=None):
+        """The descriptor of the manifest that is meant, through nested indexes."""
+        found, where = self.found(tag)
+        it = chosen(found, where, asked)
         for _ in range(NESTED_MOST):
             if it.media not in INDEXES:
                 break
             value, where = self.document(it)
-            it = chosen(self.manifests(value, where), where)
+            it = chosen(self.manifests(value, where), where, asked)
         if it.media not in MANIFESTS:
             raise Refused("%s: no image manifest, but %s" % (where, shown(it.media)))
-        return self.document(it)
+        return it
+
+    def manifest(self, tag):
+        return self.document(self.descriptor(tag))
 
     def layers(self, tag):
         """The layers of an image, the lowest first, as descriptors."""

@@ -1,37 +1,63 @@
 #!/usr/bin/env python3
-"""Mounts romfs images, the lowest first: tools/mount.py [--background] [-o OPTIONS] IMAGE.. DIR
+"""Mounts romfs images, the lowest first: tools/mount.py [OPTIONS] IMAGE.. DIR, installed as strata-mount
+
+An IMAGE is a file, or else the name of a container image in the store of strata-layers (image:NAME:TAG, or NAME:TAG where
+no such file is there), which stands for its layers.
 
 It mounts an open /dev/fuse on DIR, by mount(2) where it may and else by fusermount3, and starts `strata serve --device`
-with it as standard input and output: no byte of a request or reply comes by here. The mount is ro, nosuid, nodev and
-default_permissions; the words of -o come after these. It waits until the mount is taken away (umount DIR, fusermount3 -u
-DIR), or returns once the mount answers (--background). SIGINT and SIGTERM take the mount away, and so does strata's end.
+with it as standard input and output: no byte of a request or reply comes by here, but with --debug or --stats. The mount
+is ro, nosuid, nodev and default_permissions; the words of -o come after these. It waits until the mount is taken away
+(umount DIR, fusermount3 -u DIR), or returns once the mount answers (--background). SIGINT and SIGTERM take the mount away,
+and so does strata's end.
 
 Status: 0 where the mount was taken away, 1 where nothing can be mounted, 2 for the words; else strata's own, with its line.
 """
 import argparse
 import ctypes
+import errno
 import os
 import shutil
 import signal
 import socket
 import subprocess
 import sys
-import tempfile
 import threading
 
-STRATA = os.path.join(os.path.dirname(os.path.dirname(os.path.abspath(__file__))), "build", "strata")
+from mount_options import CLEARS, SETS, Options, Wrong
+
+HERE = os.path.dirname(os.path.realpath(__file__))
+# installed, this stands in lib/strata, and else in tools/
+STRATA = os.path.join(os.path.dirname(HERE), *(["build"] if os.path.basename(HERE) == "tools" else ["..", "bin"]), "strata")
 DEVICE = "/dev/fuse"
 WORDS = "ro,nosuid,nodev,default_permissions"
-# what a word of -o sets or clears among the flags of mount(2); the kernel takes the other words as text
-SETS = {"ro": 1, "nosuid": 2, "nodev": 4, "noexec": 8, "noatime": 1024}
-CLEARS = {"rw": 1, "suid": 2, "dev": 4, "exec": 8, "atime": 1024}
-# what is no word of -o, since it is said here or is fusermount3's own affair
-OWN = ("fd", "rootmode", "user_id", "group_id", "fsname", "subtype", "auto_unmount")
 MNT_DETACH = 2
+# the most that is read at once where a relay passes replies on in packets
+RELAYED_READ = "max_read=131072"
 # SIGHUP too, but not under nohup
 STOPPING = [signal.SIGINT, signal.SIGTERM] + [signal.SIGHUP] * (signal.getsignal(signal.SIGHUP) != signal.SIG_IGN)
 libc = ctypes.CDLL(None, use_errno=True)
 
+
+class Plan(argparse.Namespace):
+    """What is mounted where, and how: what the words of strata-mount say, or those of the mount helper."""
+
+    # who is called, in messages; what `findmnt` shows as the source
+    name, source = "strata-mount", "strata"
+    program, images, folder = STRATA, (), None
+    words, owner, workers = (), None, None
+    background = strict = replace = debug = verify = False
+    may_replace, stats, store = True, None, None
+    # open files that mark layers of the store as in use while strata runs
+    marks = ()
+
+    def say(self, line):
+        sys.stderr.write("%s: %s\n" % (self.name, line))
+
+    def is_relayed(self):
+        return self.debug or self.stats is not None
+
+
+# --- the mount ---
 
 def called(status, place=None):
     """Raises what a call of the C library failed with."""
@@ -39,31 +65,34 @@ def called(status, place=None):
         raise OSError(ctypes.get_errno(), os.strerror(ctypes.get_errno()), place)
 
 
-def mounted(folder, words):
+def mounted(plan):
     """An open /dev/fuse that is mounted on a folder."""
     try:
         device = os.open(DEVICE, os.O_RDWR)
         flags, text = 0, ["fd=%d,rootmode=40000,user_id=%d,group_id=%d" % (device, os.geteuid(), os.getegid())]
-        for word in words:
+        for word in plan.words:
             flags = (flags | SETS.get(word, 0)) & ~CLEARS.get(word, 0)
             text += [word] * (word not in SETS and word not in CLEARS)
         data = ",".join(text).encode()
-        called(libc.mount(b"strata", os.fsencode(folder), b"fuse.strata", ctypes.c_ulong(flags), data), folder + ": mount")
+        called(libc.mount(os.fsencode(plan.source), os.fsencode(plan.folder), b"fuse.strata", ctypes.c_ulong(flags), data),
+               plan.folder + ": mount")
         return device
     except PermissionError:
-        return mounted_by_helper(folder, words)
+        return mounted_by_helper(plan)
 
 
-def mounted_by_helper(folder, words):
+def mounted_by_helper(plan):
     """The same by fusermount3, which sends the open device through a socket."""
     helper = shutil.which("fusermount3")
     if not helper:
-        raise OSError(0, "only root may mount, and there is no fusermount3", folder)
+        raise OSError(0, "only root may mount, and there is no fusermount3", plan.folder)
+    source = plan.source.replace("\\", "\\\\").replace(",", "\\,")
+    words = ",".join([*plan.words, "fsname=" + source, "subtype=strata"])
     ours, theirs = socket.socketpair()
     with ours, theirs:
         number = theirs.fileno()
-        done = subprocess.run([helper, "-o", ",".join([*words, "fsname=strata", "subtype=strata"]), "--", folder],
-                              stdin=subprocess.DEVNULL, pass_fds=[number], env={**os.environ, "_FUSE_COMMFD": str(number)})
+        done = subprocess.run([helper, "-o", words, "--", plan.folder], stdin=subprocess.DEVNULL, pass_fds=[number],
+                              env={**os.environ, "_FUSE_COMMFD": str(number)})
         if done.returncode != 0:
             sys.exit(1)  # it has said why
         return socket.recv_fds(ours, 1, 1)[1][0]
@@ -88,33 +117,61 @@ def answers(folder):
         return False
 
 
-def answers_first(folder):
+def answers_first(plan, server):
     """Whether a mount answers before its server ends. A thread asks, so that signals are heard here."""
     told = []
-    asking = threading.Thread(target=lambda: told.append(answers(folder)), daemon=True)
+    asking = threading.Thread(target=lambda: told.append(answers(plan.folder)), daemon=True)
     asking.start()
+    if sys.stderr.isatty() and not plan.is_relayed():
+        import mount_progress
+        mount_progress.watch(asking, server.pid, plan.name, plan.images)
     asking.join()
     return told[0]
 
 
-def served(asked, device, errors):
+# --- the server ---
+
+def serve_words(plan):
+    """How strata is called."""
+    words = [plan.program, "serve", "--device", *["--strict"] * plan.strict]
+    words += ["--workers", str(plan.workers)] * (plan.workers is not None)
+    words += ["--owner", plan.owner] * (plan.owner is not None)
+    return words + list(map(os.path.abspath, plan.images))
+
+
+def relay_words(plan, errors):
+    """How the relay is called, and the descriptors that it gets."""
+    words = [sys.executable, "-IBS", os.path.join(HERE, "relay.py"), "--errors", str(errors.fileno())]
+    words += ["--debug"] * plan.debug
+    numbers = [errors.fileno(), *plan.marks]
+    if plan.stats is not None:
+        words += ["--stats", str(plan.stats)]
+        numbers.append(plan.stats)
+    return [*words, "--"], numbers
+
+
+def served(plan, device, errors):
     """Starts strata on an open device, away from the signals of the terminal and from this folder."""
-    words = [asked.program, "serve", "--device", *["--strict"] * asked.strict, *map(os.path.abspath, asked.images)]
+    words, numbers = relay_words(plan, errors) if plan.is_relayed() else ([], plan.marks)
     try:
-        return subprocess.Popen(words, stdin=device, stdout=device, stderr=errors, start_new_session=True, cwd="/",
-                                preexec_fn=unblock)
+        return subprocess.Popen([*words, *serve_words(plan)], stdin=device, stdout=device, pass_fds=numbers,
+                                stderr=None if plan.debug else errors, start_new_session=True, cwd="/", preexec_fn=unblock)
     finally:
         os.close(device)
 
 
-def status_of(server, errors):
-    """The status with which strata ends, which is waited for; its line is passed on."""
+def status_of(server, errors, plan):
+    """The status with which strata ends, which is waited for; its line is passed on, with what stands behind it."""
     status = server.wait()
-    if errors:
-        errors.seek(0)
-        sys.stderr.write(errors.read().decode(errors="replace"))
+    errors.seek(0)
+    text = errors.read().decode(errors="replace")
+    sys.stderr.write(text)
+    if status > 0:
+        import mount_faults
+        for line in mount_faults.explained(text, plan.images):
+            plan.say(line)
     if status < 0:
-        sys.stderr.write("mount.py: strata was ended by signal %d\n" % -status)
+        plan.say("strata was ended by signal %d" % -status)
     return status if status >= 0 else 128 - status
 
 
@@ -127,51 +184,151 @@ def unblock():
     signal.pthread_sigmask(signal.SIG_UNBLOCK, STOPPING)
 
 
-def run(asked, words):
+def run(plan):
     """Mounts and serves; the status to end with."""
     hear(signal.default_int_handler)
-    # in the background strata must not hold this script's standard error open
-    errors = tempfile.TemporaryFile() if asked.background else None
+    # strata must not hold this script's standard error open in the background, and no folder is needed for what it says
+    errors = os.fdopen(os.memfd_create("errors"), "w+b")
     signal.pthread_sigmask(signal.SIG_BLOCK, STOPPING)
-    device = mounted(asked.folder, words)
+    device = mounted(plan)
     try:
-        server = served(asked, device, errors)
+        server = served(plan, device, errors)
         unblock()
-        return 0 if asked.background and answers_first(asked.folder) else status_of(server, errors)
+        if plan.stats is not None:
+            signal.signal(signal.SIGUSR1, lambda *_: server.send_signal(signal.SIGUSR1))
+        is_there = (plan.background or sys.stderr.isatty()) and answers_first(plan, server)
+        return 0 if plan.background and is_there else status_of(server, errors, plan)
     except KeyboardInterrupt:
         hear(signal.SIG_IGN)
-        take_away(asked.folder)
+        take_away(plan.folder)
         server.terminate()
         server.wait()
         return 0
     finally:
         # what stands there by now may be another mount, which answers
-        if not answers(asked.folder):
-            take_away(asked.folder)
+        if not answers(plan.folder):
+            take_away(plan.folder)
 
 
-def main(words):
-    parser = argparse.ArgumentParser(prog="mount.py", description="Mounts romfs images, the lowest first.")
-    parser.add_argument("--strata", metavar="PROGRAM", dest="program", default=STRATA)
-    parser.add_argument("--background", action="store_true", help="return once the mount answers")
-    parser.add_argument("--strict", action="store_true", help="ask a right checksum of every header, too")
-    parser.add_argument("-o", metavar="OPTIONS", default="", help="allow_other, noexec, max_read=N, ..")
-    parser.add_argument("images", metavar="IMAGE", nargs="+")
-    parser.add_argument("folder", metavar="DIR")
-    asked = parser.parse_intermixed_args(words)
-    options = [word for word in (WORDS + "," + asked.o).split(",") if word]
-    if {word.partition("=")[0] for word in options} & {*OWN}:
-        parser.error("argument -o: not allowed: " + ", ".join(OWN))
+# --- before the mount ---
+
+def hold_folder(plan):
+    """Looks whether a folder is there, and whether a mount stands there whose server has ended. It is statvfs that asks,
+    since the kernel keeps a root's attributes."""
     try:
-        os.stat(os.path.join(asked.folder, ""))  # a folder that is there, and no mount whose server has ended
-        if not shutil.which(asked.program):
-            raise OSError(0, "no such program", asked.program)
-        asked.folder, asked.program = os.path.realpath(asked.folder), os.path.abspath(shutil.which(asked.program))
-        return run(asked, options)
+        os.statvfs(os.path.join(plan.folder, ""))
     except OSError as fault:
-        sys.stderr.write("mount.py: %s: %s\n" % (fault.filename, fault.strerror))
+        if fault.errno not in (errno.ENOTCONN, errno.ECONNABORTED):
+            raise
+        import dead_mounts
+        folder = os.path.realpath(plan.folder)
+        if not plan.replace or not dead_mounts.replace(folder, take_away):
+            raise OSError(0, dead_mounts.told(folder, plan.may_replace), plan.folder) from None
+
+
+def find_images(plan):
+    """Puts the layers of images of the store in the place of their names."""
+    if plan.store is None and not plan.verify and all(map(os.path.lexists, plan.images)):
+        return
+    import store_images
+    plan.images, plan.marks = store_images.mounted_words(plan.images, plan.store, plan.verify)
+
+
+def attempt(plan):
+    """Mounts by a plan, or says why nothing can be mounted; the status to end with."""
+    try:
+        hold_folder(plan)
+        find_images(plan)
+        if not shutil.which(plan.program):
+            raise OSError(0, "no such program", plan.program)
+        plan.folder, plan.program = os.path.realpath(plan.folder), os.path.abspath(shutil.which(plan.program))
+        if plan.stats is not None:
+            plan.stats = os.open(plan.stats, os.O_WRONLY | os.O_CREAT | os.O_CLOEXEC, 0o666)
+        return run(plan)
+    except OSError as fault:
+        plan.say("%s: %s" % (fault.filename, fault.strerror))
+        for line in hints(fault, plan):
+            plan.say(line)
         return 1
 
 
+def hints(fault, plan):
+    """What to do about a fault of a mount, where that is known."""
+    if fault.filename == DEVICE and fault.errno in (errno.ENOENT, errno.ENODEV, errno.EPERM):
+        yield "the kernel's FUSE is not to be had here: `modprobe fuse`, or a container with `--device /dev/fuse`"
+    unknown = Options(",".join(plan.words)).unknown
+    if fault.errno == errno.EINVAL and unknown:
+        yield "-o: not known: %s" % ", ".join(unknown)
+
+
+def owner_of(options, program):
+    """The words of `--owner`, which a strata must have for them."""
+    if options.owner() is None:
+        return None
+    told = subprocess.run([program, "serve", "--help"], stdin=subprocess.DEVNULL, stdout=subprocess.PIPE,
+                          stderr=subprocess.STDOUT)
+    if b"--owner" not in told.stdout:
+        raise Wrong("uid=, gid=: this strata has no --owner, and all is root's")
+    return options.owner()
+
+
+def settle(plan, options):
+    """Puts what -o says into a plan."""
+    relayed = [RELAYED_READ] * (plan.is_relayed() and "max_read" not in {it.partition("=")[0] for it in options.mount})
+    plan.words = [*WORDS.split(","), *relayed, *options.mount]
+    plan.strict = plan.strict or "strict" in options.strata
+    plan.workers = options.strata.get("workers")
+    plan.owner = owner_of(options, plan.program)
+
+
+def parser_of(name):
+    parser = argparse.ArgumentParser(
+        prog=name, usage="%(prog)s [OPTIONS] IMAGE.. DIR", description="Mounts romfs images, the lowest first.",
+        epilog="DIR shows what the stacked images show until `umount DIR`, or `fusermount3 -u DIR` for who is not root.")
+    parser.add_argument("--background", action="store_true", help="return once the mount answers")
+    parser.add_argument("-o", metavar="OPTIONS", default="",
+                        help="allow_other, noexec, max_read=N, .. of the mount; strict, workers=N, uid=N, gid=N of strata")
+    parser.add_argument("--strict", action="store_true", help="ask a right checksum of every header, too")
+    parser.add_argument("--replace", action="store_true", help="take a dead mount away that stands at DIR")
+    parser.add_argument("--store", metavar="DIR", help="the store of container images, in which names that are no files are")
+    parser.add_argument("--verify", action="store_true", help="look at the digests of the store's layers first")
+    parser.add_argument("-d", "--debug", action="store_true", help="write each request and reply on standard error")
+    parser.add_argument("--stats", metavar="FILE", help="count requests in FILE, which SIGUSR1 and the end write")
+    parser.add_argument("--strata", metavar="PROGRAM", dest="program", default=STRATA, help="another program than strata's own")
+    parser.add_argument("--version", action="store_true", help="say which version this is")
+    parser.add_argument("names", metavar="IMAGE.. DIR", nargs="*",
+                        help="images from the lowest up, or image:NAME:TAG, and a folder; behind -- they may begin with a -")
+    return parser
+
+
+def plan_of(words, name):
+    """The plan that the words of strata-mount say."""
+    parser = parser_of(name)
+    front = words[:words.index("--")] if "--" in words else words
+    plan = parser.parse_intermixed_args(front, Plan(name=name))
+    names = plan.names + words[len(front) + 1:]
+    if plan.version:
+        return plan
+    if len(names) < 2:
+        parser.error("IMAGE.. DIR are missing" if not names else "DIR is missing, or an image")
+    if plan.debug and plan.background:
+        parser.error("argument -d/--debug: not with --background")
+    plan.images, plan.folder = names[:-1], names[-1]
+    try:
+        settle(plan, Options(plan.o))
+    except Wrong as wrong:
+        parser.error("argument -o: %s" % wrong)
+    return plan
+
+
+def main(words, name):
+    plan = plan_of(words, name)
+    if plan.version:
+        import version
+        print(name, version.version())
+        return 0
+    return attempt(plan)
+
+
 if __name__ == "__main__":
-    sys.exit(main(sys.argv[1:]))
+    sys.exit(main(sys.argv[1:], "mount.py"))

@@ -62,8 +62,9 @@ def words_sum(data):
 def header(next_, kind, spec, size, name):
     """A file header and its name, with the checksum by which its words sum to 0. The kind may hold the bit EXECUTABLE."""
     ended = padded_name(name)
-    fields = struct.pack(">3I", next_ | kind, spec, size)
-    return fields + struct.pack(">I", -(words_sum(fields) + words_sum(ended)) & 0xffffffff) + ended
+    first = next_ | kind
+    total = first + spec + size + words_sum(ended)
+    return struct.pack(">4I", first, spec, size, -total & 0xffffffff) + ended
 
 
 def path_text(path):

@@ -21,6 +21,8 @@ SPARSE = b"S"
 BARE = (HARD, SYMBOLIC, CHARACTER, BLOCK_DEVICE, DIRECTORY, FIFO)
 PAX, PAX_GLOBAL, LONG_NAME, LONG_LINK = (b"x", b"X"), b"g", b"L", b"K"
 ATTRIBUTES = (b"SCHILY.xattr.", b"LIBARCHIVE.xattr.")
+# the numbers of most headers
+NUMBERS = {b"%07o\0" % value: value for value in (0, 0o400, 0o444, 0o555, 0o600, 0o644, 0o700, 0o755, 0o777, 1000)}
 DECIMAL = re.compile(rb"-?[0-9]{1,18}(\.[0-9]*)?")
 
 
@@ -41,6 +43,8 @@ def text(field):
 
 def number(field, what):
     """A number of a header: octal digits, or, where the first bit says so, two's complement of the bits behind it."""
+    if field in NUMBERS:
+        return NUMBERS[field]
     if field[0] & 0x80:
         value = int.from_bytes(field, "big")
         return value - (1 << 8 * len(field)) if field[0] & 0x40 else value - (0x80 << 8 * len(field) - 8)
@@ -63,8 +67,10 @@ def decimal(value, what):
 def is_sum_right(block):
     """Whether the checksum is that of the bytes, or that of bytes with a sign, as some old programs wrote it."""
     said = number(block[148:156], "checksum")
+    if said == sum(block) - sum(block[148:156]) + 8 * 0x20:
+        return True
     rest = block[:148] + b" " * 8 + block[156:]
-    return said == sum(rest) or said == sum(struct.unpack("512b", rest))
+    return said == sum(struct.unpack("512b", rest))
 
 
 def full_name(block):
@@ -102,8 +108,11 @@ class Tar:
 
     def taken(self, size):
         """So many bytes, or fewer at the end of the source."""
-        parts, count = [], 0
-        while count < size:
+        first = self.source.read(min(size, PIECE))
+        if len(first) == size:
+            return first
+        parts, count = [first], len(first)
+        while first and count < size:
             part = self.source.read(min(size - count, PIECE))
             if not part:
                 break
@@ -122,7 +131,9 @@ class Tar:
 
     def pieces(self):
         while self.left:
-            data = self.whole(min(self.left, PIECE))
+            data = self.source.read(min(self.left, PIECE))
+            if not data:
+                raise Refused("the archive is cut off")
             self.left -= len(data)
             yield data
 

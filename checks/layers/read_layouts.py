@@ -1,9 +1,11 @@
 """Tests of tools/layers.py: packing, digests, sizes, and which image of a layout is meant. A test is a function of a room."""
 import gzip
 import os
+import shutil
 import struct
 
 import layouts
+import packing
 from checks.shared.layer_files import LAYER, LayoutFolder, archive, file, tag
 
 
@@ -29,12 +31,17 @@ def test_zstd(room):
     frame = b"\x28\xb5\x2f\xfd\xa0" + struct.pack("<I", size) + struct.pack("<I", size << 3 | 1)[:3] + data
     parts = LayoutFolder(room.name())
     parts.index([parts.manifest([parts.blob(LAYER + "+zstd", frame)])])
-    try:
-        import compression.zstd
-    except ImportError:
-        room.refused(parts.path, "layer 0: packed by zstd, which this python can't read (3.14 and later can)")
-        return
+    if packing.zstd_module() is None:
+        path, os.environ["PATH"] = os.environ["PATH"], ""
+        try:
+            room.refused(parts.path, "layer 0: packed by " + packing.NO_ZSTD)
+        finally:
+            os.environ["PATH"] = path
+        if shutil.which("zstd") is None:
+            return
     room.taken(parts.path, [data])
+    parts.index([parts.manifest([parts.blob(LAYER + "+zstd", frame[:-1])])])
+    room.refused(parts.path, "layer 0: the packed data are broken: ..")
 
 
 def test_digests(room):

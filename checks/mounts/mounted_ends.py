@@ -188,10 +188,11 @@ def refused(room):
 
 
 def hold_refused(room, words, status, line):
-    """Holds a run of mount.py that must end with this status and line, or any lines."""
+    """Holds a run of mount.py that must end with this status and line, behind which one more may say why, or any lines."""
     done = subprocess.run([*room.words(), *words], stdin=subprocess.DEVNULL, stderr=subprocess.PIPE)
-    told = done.stderr.decode()
-    hold("mount.py %s" % words, (status, told if line is None else line), (done.returncode, told))
+    told = done.stderr.decode().splitlines(True)
+    hold("mount.py %s" % words, (status, told[:1] if line is None else [line]), (done.returncode, told[:1]))
+    hold("lines that say why", True, line is None or len(told) == 1 or len(told) == 2 and told[1].startswith("mount.py: "))
     hold("mounts left", [], [place for place in places() if place.startswith(room.folder)])
 
 
@@ -268,7 +269,8 @@ def helped(room):
     who = {"user": OTHER, "group": OTHER, "extra_groups": []} if room.is_root else {}
     items = [file("x", b"data"), folder("d"), file("d/y", b"y")]
     image, at = room.layer(items), room.place()
-    words = [python_of(room), "-B", shutil.copy(SCRIPT, room.folder), "--strata", shutil.copy(room.program, room.folder)]
+    script = os.path.join(shutil.copytree(os.path.dirname(SCRIPT), room.folder + "/scripts"), os.path.basename(SCRIPT))
+    words = [python_of(room), "-B", script, "--strata", shutil.copy(room.program, room.folder)]
     if room.is_root:
         os.chown(image, OTHER, OTHER)
         os.chown(at, OTHER, OTHER)

@@ -1,0 +1,144 @@
+"""Faults that help: behind strata's line stands which file it is about, and why."""
+import gzip
+import io
+import os
+import re
+import struct
+import tarfile
+
+import mount_faults
+from checks import ROOT
+from checks.installed.mounts import OTHER, places, user
+from checks.installed.roots import Failed, hold, hold_in
+
+RULE = os.path.join(ROOT, "crates", "romfs_format", "src", "rule.rt")
+NOT_ROMFS = "layer 1 at 00000000: not romfs\n"
+
+
+def refused(root, path, *front):
+    """The status and the lines of strata-mount over the lower image and this file, for which a mount must not be left."""
+    done = root.run("strata-mount", "--background", *front, "/srv/lower.romfs", path, "/mnt")
+    hold("mounts over %s" % path, [], places())
+    return done.status, done.err
+
+
+def put(path, data):
+    with open(path, "wb") as out:
+        out.write(data)
+    return path
+
+
+def images(root):
+    """Files that can't be read, are no images, or are cut off; too many; by mount(8) too."""
+    root.install()
+    os.mkdir("/srv/folder")
+    with open("/srv/lower.romfs", "rb") as it:
+        data = it.read()
+    full, = struct.unpack_from(">I", data, 8)
+    put("/srv/cut.romfs", data[:full - 100])
+    put("/srv/empty.romfs", b"")
+    cut = "it is cut off: %d of %d bytes are there; copy or fetch it again" % (full - 100, full)
+    front = "strata-mount: %s 1 is /srv/%s: %s\n"
+    wanted = (
+        ("none.romfs", 1, "image 1: cannot be read\n" + front % ("image", "none.romfs", "no such file or directory")),
+        ("folder", 1, "image 1: cannot be read\n" + front % ("image", "folder", "it is a folder; "
+                                                             "`genromfs -d FOLDER -f IMAGE` makes an image of a folder")),
+        ("cut.romfs", 3, "layer 1 at 00000008: bad full size\n" + front % ("layer", "cut.romfs", cut)),
+        ("empty.romfs", 3, "layer 1 at 00000000: too short\n" + front % ("layer", "empty.romfs", "the file is empty")))
+    for name, status, lines in wanted:
+        hold("of " + name, (status, lines), refused(root, "/srv/" + name))
+        done = root.run("mount", "-t", "strata", "/srv/lower.romfs:/srv/" + name, "/mnt")
+        hold("by mount, of " + name, (32, lines.replace("strata-mount", "mount.strata")), (done.status, done.err))
+    done = root.run("strata-mount", *["/srv/lower.romfs"] * 129, "/mnt")
+    hold("129 images", (3, "layers: 129, allowed 1 to 128"), (done.status, done.err.splitlines()[0]))
+    hold_in("129 images", "strata-mount: 129 images were named, and 128 can be stacked", done.err)
+    return "missing, a folder, cut off, empty, 129 images; by strata-mount and by mount"
+
+
+def not_permitted(root):
+    """A file that the user may not read."""
+    root.needs("fusermount3", "setpriv")
+    root.install()
+    other = user(root)
+    os.chmod("/srv/upper.romfs", 0o600)
+    os.mkdir("/mnt/other")
+    os.chown("/mnt/other", OTHER, OTHER)
+    done = root.run(*other, "strata-mount", "/srv/lower.romfs", "/srv/upper.romfs", "/mnt/other")
+    hold("not permitted", (1, "image 1: cannot be read\nstrata-mount: image 1 is /srv/upper.romfs: permission denied\n"),
+         (done.status, done.err))
+    hold("mounts", [], places())
+    return "said to a user who may not read an image"
+
+
+def archive(names):
+    """The bytes of an archive of tar with files of these names."""
+    held = io.BytesIO()
+    with tarfile.open(fileobj=held, mode="w") as out:
+        for name in names:
+            out.addfile(tarfile.TarInfo(name))
+    return held.getvalue()
+
+
+def at(place, letters):
+    """Bytes with these letters at a place."""
+    return bytes(place) + letters + bytes(2048)
+
+
+def kinds(root):
+    """Files of other kinds, by the letters that their formats put at their places, are named, each with what to do."""
+    root.install()
+    with open("/srv/lower.romfs", "rb") as it:
+        romfs = it.read()
+    # gzip: RFC 1952; zstd: RFC 8878; squashfs, erofs, ext4: the kernel's include/uapi/linux/magic.h and its places of
+    # superblocks; ELF: elf(5); containers: the OCI image layout and what `docker save` writes
+    wanted = (
+        (gzip.compress(romfs), "compressed by gzip: unpack it by `gzip -dc %s > IMAGE`, which is an image of romfs"),
+        (gzip.compress(archive(["a"])), "compressed by gzip: it holds an archive of tar"),
+        (at(0, bytes.fromhex("28b52ffd")), "compressed by zstd: unpack it by `zstd -dc %s > IMAGE`"),
+        (at(0, b"hsqs"), "an image of squashfs; strata serves romfs: `unsquashfs -d FOLDER %s`"),
+        (at(1024, struct.pack("<I", 0xE0F5E1E2)), "an image of erofs; strata serves romfs: `fsck.erofs --extract=FOLDER %s`"),
+        (at(1024 + 56, struct.pack("<H", 0xEF53)), "an image of ext4; strata serves romfs: "),
+        (archive(["bin/sh"]), "an archive of tar: `tar xf %s -C FOLDER`"),
+        (archive(["oci-layout", "index.json"]), "an archive of a container image: `skopeo copy oci-archive:%s oci:LAYOUT:TAG`"),
+        (archive(["a/layer.tar", "manifest.json"]), "an archive of a container image: `skopeo copy docker-archive:%s "),
+        (at(0, b"\x7fELF"), "a program or library (ELF), and no image of a tree"),
+        (at(0, b"Hello"), "an image of romfs begins with `-rom1fs-`"))
+    path = "/srv/a file"
+    for data, words in wanted:
+        put(path, data)
+        status, told = refused(root, path)
+        hold("the status and strata's line: %s" % words, (3, NOT_ROMFS), (status, told.splitlines(True)[0]))
+        hold_in("a file", "strata-mount: layer 1 is /srv/a\\20file: ", told)
+        hold_in("a file", words.replace("%s", "'/srv/a file'"), told)
+    return "%d kinds of files, each named with what to do" % len(wanted)
+
+
+def rules(root):
+    """Each rule of images has a sentence, and the one that is broken stands behind its line."""
+    with open(RULE, encoding="utf-8") as it:
+        texts = re.findall(r'Rule::\w+ => "([^"]+)"', it.read())
+    hold("rules with a sentence", texts, list(mount_faults.RULES))
+    root.install()
+    with open("/srv/lower.romfs", "rb") as it:
+        data = bytearray(it.read())
+    place = data.find(b"hostname")
+    changed = bytes(data[:place + 3]) + b"X" + bytes(data[place + 4:])
+    status, told = refused(root, put("/srv/changed.romfs", changed))
+    hold("a sum", (3, "layer 1 at 0000000c: bad sum\nstrata-mount: layer 1 is /srv/changed.romfs: the first 512 bytes don't add up: "
+                      "they were changed after the image was made; the file was damaged, or what made it is at fault: make it "
+                      "anew\n"), (status, told))
+    return "%d rules, each with a sentence" % len(texts)
+
+
+def dashes(root):
+    """Names that begin with a dash, behind `--`."""
+    root.install()
+    os.rename("/srv/lower.romfs", "/srv/-x.romfs")
+    os.mkdir("/srv/-mnt")
+    root.good("strata-mount", "--background", "--", "-x.romfs", "upper.romfs", "-mnt", cwd="/srv")
+    hold("a file", "beacon\n", root.good("cat", "/srv/-mnt/etc/hostname"))
+    root.good("umount", "/srv/-mnt")
+    hold("nothing but an image", 2, root.run("strata-mount", "--", "-x.romfs", cwd="/srv").status)
+    if "-x.romfs" in root.run("strata-mount", "-x.romfs", "-mnt", cwd="/srv").out:
+        raise Failed("taken as a name without --")
+    return "-x.romfs and a folder -mnt behind --"

@@ -1,0 +1,35 @@
+"""Installs strata into fresh roots and uses it there as its users do: python3 checks installed PROGRAM [CHECK..]
+
+Each check is a function of a root (checks/installed/roots.py) that gives its line back, or raises Failed; what is missing
+here for one is said in its line. Expected values are of the images that went in, of mount(8)'s and fstab's own pages, and of
+the formats' magic numbers. It needs namespaces, an overlay and /dev/fuse; without them a line says that all is left out. The
+status is 0 where no check fails.
+"""
+import os
+import sys
+import tempfile
+
+from checks.installed import faults, mounts, packages, pages, programs, traces
+from checks.installed.roots import apart
+
+CHECKS = (
+    programs.named, programs.alone, programs.links, pages.shown, pages.options, pages.shells, pages.words_of_fstab,
+    mounts.typed, mounts.by_fstab, mounts.words, mounts.colons, mounts.faked, mounts.by_user, mounts.dead, mounts.units,
+    traces.debug, traces.stats, traces.progress, faults.images, faults.not_permitted, faults.kinds, faults.rules, faults.dashes,
+    packages.package, packages.same_bytes, packages.archive, packages.uninstalled)
+
+
+def main(program, wanted):
+    passed = failed = 0
+    with tempfile.TemporaryDirectory(prefix="installed-") as scratch:
+        for check in [it for it in CHECKS if it.__name__ in wanted or not wanted]:
+            told = apart(check, program, scratch)
+            print("%-14s %s" % (check.__name__, told), flush=True)
+            failed += told.startswith("FAILED")
+            passed += not told.startswith(("FAILED", "left out"))
+    print("installed: %d passed, %d failed" % (passed, failed))
+    return failed == 0
+
+
+if __name__ == "__main__":
+    sys.exit(0 if main(os.path.abspath(sys.argv[1]), sys.argv[2:]) else 1)

@@ -1,0 +1,239 @@
+"""Mounts by mount(8) and by lines of /etc/fstab; dead mounts; units of systemd."""
+import os
+import re
+import signal
+import time
+
+from checks import ROOT
+from checks.installed.roots import LeftOut, hold, hold_in
+
+STACK = "/srv/lower.romfs:/srv/upper.romfs"
+MOUNTING = os.path.join(ROOT, "docs", "MOUNTING.md")
+NOT_MOUNTED, WRONG_WORDS = 32, 1
+OTHER = 65534
+# every word of fstab(5) and mount(8) that says when, by whom, or how a file system of the usual kind is mounted
+FSTAB_WORDS = ("defaults,auto,nouser,nofail,_netdev,nonempty,async,relatime,nodiratime,lazytime,x-systemd.automount,"
+               "x-systemd.requires=srv.mount,X-mount.mkdir,comment=of a tree,strict,workers=2,noexec,nosuid,nodev,allow_other")
+
+
+def places(kind="fuse.strata"):
+    """Where something of a type is mounted, with its source."""
+    with open("/proc/self/mountinfo", encoding="utf-8") as lines:
+        halves = [line.split(" - ") for line in lines]
+    return [(front.split()[4], back.split()[1]) for front, back in halves if back.split()[0] == kind]
+
+
+def servers():
+    """The processes of strata."""
+    found = []
+    for name in filter(str.isdigit, os.listdir("/proc")):
+        try:
+            with open("/proc/%s/comm" % name, encoding="ascii", errors="replace") as it, open("/proc/%s/stat" % name, "rb") as stat:
+                if it.read() == "strata\n" and stat.read().rpartition(b")")[2].split()[0] != b"Z":
+                    found.append(int(name))
+        except OSError:
+            continue
+    return found
+
+
+def settle(what, wanted, function):
+    """Waits until something is so; a check that waits for ever is ended from outside."""
+    while function() != wanted:
+        time.sleep(0.01)
+    return what
+
+
+def hold_stack(root, place):
+    """Holds what a mount of the demo's two layers shows."""
+    hold("a file of the upper layer", "beacon\n", root.good("cat", place + "/etc/hostname"))
+    hold("a file that is whited out", 2, root.run("ls", place + "/etc/motd").status)
+
+
+def fstab(*lines):
+    with open("/etc/fstab", "w", encoding="ascii") as out:
+        out.write("".join(line + "\n" for line in lines))
+
+
+def typed(root):
+    """`mount -t strata` and `mount -t fuse.strata`, by the helper where mount(8) finds it; `umount` ends the server."""
+    root.install()
+    os.mkdir("/mnt/tree")
+    for kind in ("strata", "fuse.strata"):
+        hold("mount -t " + kind, "", root.good("mount", "-t", kind, STACK, "/mnt/tree"))
+        hold_stack(root, "/mnt/tree")
+        hold("findmnt", "%s fuse.strata\n" % STACK, root.good("findmnt", "-rno", "SOURCE,FSTYPE", "/mnt/tree"))
+        hold("a write", 1, root.run("touch", "/mnt/tree/x").status)
+        hold("servers", 1, len(servers()))
+        hold("umount", "", root.good("umount", "/mnt/tree"))
+        settle("no server is left", [], servers)
+    hold_in("-v", STACK, root.good("mount", "-v", "-t", "strata", STACK, "/mnt/tree", "-o", "ro"))
+    return "mount -t strata and -t fuse.strata, -v, umount; the server ends with the mount"
+
+
+def by_fstab(root):
+    """Lines of fstab: mount -a, twice; a line by its folder alone; umount."""
+    root.install()
+    os.makedirs("/srv/tree")
+    os.mkdir("/srv/other")
+    fstab(STACK + " /srv/tree strata ro,nofail 0 0", "/srv/lower.romfs /srv/other fuse.strata ro,noauto 0 0")
+    for _ in range(2):
+        root.good("mount", "-a")
+        hold("mounts", [("/srv/tree", STACK)], places())
+    hold_stack(root, "/srv/tree")
+    root.good("mount", "/srv/other")
+    hold("the line with noauto", "lantern\n", root.good("cat", "/srv/other/etc/hostname"))
+    root.good("umount", "/srv/other")
+    root.good("umount", "-a", "-t", "fuse.strata")
+    hold("mounts", [], places())
+    return "mount -a twice mounts once; mount DIR; umount -a"
+
+
+def words(root):
+    """Every word that fstab knows is taken; one that nobody knows is named, and nothing is mounted."""
+    root.install()
+    fstab(STACK + " /srv/made strata " + FSTAB_WORDS.replace(" ", "\\040") + " 0 0")
+    root.good("mount", "-a")
+    hold_stack(root, "/srv/made")
+    shown = root.good("findmnt", "-rno", "OPTIONS", "/srv/made").strip().split(",")
+    hold("options of the mount", {"ro", "noexec", "nosuid", "nodev", "allow_other"},
+         {"ro", "noexec", "nosuid", "nodev", "allow_other"} & set(shown))
+    root.good("umount", "/srv/made")
+    for said in ("nonsense", "ro,nonsense=3", "defaults,nonsense"):
+        done = root.run("mount", "-t", "strata", STACK, "/srv/made", "-o", said)
+        hold("the status of -o %s" % said, WRONG_WORDS, done.status)
+        hold_in("-o " + said, "mount.strata: -o: not known: nonsense", done.err)
+    for said in ("workers=many", "strict=yes", "fd=3", "uid=-1"):
+        hold("the status of -o %s" % said, WRONG_WORDS, root.run("mount", "-t", "strata", STACK, "/srv/made", "-o", said).status)
+    hold("mounts", [], places())
+    root.good("mount", "-s", "-t", "strata", STACK, "/srv/made", "-o", "nonsense")
+    hold_stack(root, "/srv/made")
+    return "%d words of fstab are taken, others are named" % (FSTAB_WORDS.count(",") + 1)
+
+
+def colons(root):
+    """A colon, a space, a comma and a backslash in the names of images."""
+    root.install()
+    os.mkdir("/mnt/colons")
+    os.rename("/srv/lower.romfs", "/srv/l:o w\\e,r.romfs")
+    spec = "/srv/l\\:o w\\\\e,r.romfs:/srv/upper.romfs"
+    root.good("mount", "-t", "strata", spec, "/mnt/colons")
+    hold_stack(root, "/mnt/colons")
+    root.good("umount", "/mnt/colons")
+    fstab(spec.replace(" ", "\\040") + " /mnt/colons strata ro 0 0")
+    for _ in range(2):
+        root.good("mount", "-a")
+        hold("mounts", 1, len(places()))
+    hold_stack(root, "/mnt/colons")
+    root.good("umount", "/mnt/colons")
+    os.chdir("/srv")
+    os.rename("/srv/l:o w\\e,r.romfs", "/srv/lower.romfs")
+    root.good("mount", "-t", "strata", "lower.romfs:upper.romfs", "/mnt/colons")
+    hold("the source of relative names", [("/mnt/colons", STACK)], places())
+    hold("an empty name", WRONG_WORDS, root.run("mount", "-t", "strata", "lower.romfs:", "/mnt/colons").status)
+    return "\\: is a colon, \\\\ a backslash, fstab's \\040 a space; names from the working folder"
+
+
+def faked(root):
+    """`mount -f` mounts nothing, and says what would not do."""
+    root.install()
+    os.mkdir("/mnt/faked")
+    root.good("mount", "-f", "-t", "strata", STACK, "/mnt/faked")
+    root.good("/sbin/mount.strata", STACK, "/mnt/faked", "-fn", "-o", "rw,nofail")
+    done = root.run("/sbin/mount.strata", "/srv/none.romfs", "/mnt/faked", "-f")
+    hold("an image that is missing", (NOT_MOUNTED, "mount.strata: /srv/none.romfs: No such file or directory\n"),
+         (done.status, done.err))
+    hold("mounts", [], places())
+    return "nothing is mounted, a missing image is said"
+
+
+def user(root):
+    """The words that start a command as a user who is not root, who may open /dev/fuse, as udev lets all."""
+    if os.stat("/dev/fuse").st_mode & 0o006 != 0o006:
+        os.mknod("/tmp/fuse", 0o20666, os.stat("/dev/fuse").st_rdev)
+        os.chmod("/tmp/fuse", 0o666)
+        root.good("mount", "--bind", "/tmp/fuse", "/dev/fuse")
+    other = ("setpriv", "--reuid=%d" % OTHER, "--regid=%d" % OTHER, "--clear-groups")
+    if root.run(*other, "sh", "-c", "exec 3<>/dev/fuse").status != 0:
+        raise LeftOut("a user who is not root can't open /dev/fuse here")
+    return other
+
+
+def by_user(root):
+    """A line with `user`: who is not root mounts and takes away, by fusermount3."""
+    root.needs("fusermount3", "setpriv")
+    root.install()
+    other = user(root)
+    os.mkdir("/mnt/user")
+    os.chown("/mnt/user", OTHER, OTHER)
+    fstab(STACK + " /mnt/user strata user,noauto,ro 0 0")
+    root.good(*other, "mount", "/mnt/user")
+    hold("mounts", [("/mnt/user", STACK)], places())
+    hold("a look", "beacon\n", root.good(*other, "cat", "/mnt/user/etc/hostname"))
+    hold("root's look", 1, root.run("cat", "/mnt/user/etc/hostname").status)
+    root.good(*other, "umount", "/mnt/user")
+    hold("mounts", [], places())
+    return "mount DIR and umount DIR by a user whom fstab lets"
+
+
+def killed(root, place, *front):
+    """A dead mount of the demo's stack, which the kernel still knows the root of."""
+    root.good(*front, "/srv/lower.romfs", "/srv/upper.romfs", place)
+    os.stat(place)
+    server, = servers()
+    os.kill(server, signal.SIGKILL)
+    settle("the server is gone", [], servers)
+
+
+def dead(root):
+    """A dead mount is said, by each program, with the command that takes it away; --replace does it."""
+    root.install()
+    place = "/mnt/dead"
+    os.mkdir(place)
+    background = ("strata-mount", "--background")
+    killed(root, place, *background)
+    said = "a dead mount stands here, whose server has ended (fuse.strata): `umount %s` takes it away" % place
+    done = root.run(*background, "/srv/lower.romfs", place)
+    hold("strata-mount", (1, "strata-mount: %s: %s, and so does --replace\n" % (place, said)), (done.status, done.err))
+    done = root.run("mount", "-t", "strata", STACK, place)
+    hold("mount", (NOT_MOUNTED, "mount.strata: %s: %s\n" % (place, said)), (done.status, done.err))
+    hold("mounts", 1, len(places()))
+    root.good(*background, "--replace", "/srv/lower.romfs", "/srv/upper.romfs", place)
+    hold_stack(root, place)
+    hold("mounts", 1, len(places()))
+    root.good("umount", place)
+    settle("no server is left", [], servers)
+    killed(root, place, *background)
+    hold_in("a folder below", "`umount %s` takes it away\n" % place, root.run(*background, "/srv/lower.romfs", place + "/var").err)
+    root.good("umount", place)
+    root.good(*background, "--replace", "/srv/lower.romfs", place)
+    root.good("umount", place)
+    return "said by strata-mount and by mount, with the command; --replace takes it away"
+
+
+def unit_texts():
+    """The units that stand in MOUNTING, by the names of their files."""
+    with open(MOUNTING, encoding="utf-8") as it:
+        blocks = re.findall(r"```ini\n# (\S+)\n(.*?)```", it.read(), re.S)
+    return {os.path.basename(name): text for name, text in blocks}
+
+
+def units(root):
+    """The units of MOUNTING are what systemd takes, and the mount that a unit says can be made."""
+    texts = unit_texts()
+    hold("units of MOUNTING", {"srv-tree.mount", "tree.service"}, set(texts))
+    root.needs("systemd-analyze")
+    root.install()
+    os.makedirs("/tmp/units")
+    for name, text in texts.items():
+        with open("/tmp/units/" + name, "w", encoding="ascii") as out:
+            out.write(text)
+    for words_of_it, name in ((["--system"], "srv-tree.mount"), (["--user"], "tree.service")):
+        done = root.run("systemd-analyze", *words_of_it, "--man=no", "verify", "/tmp/units/" + name,
+                        env=dict(os.environ, XDG_RUNTIME_DIR="/tmp"))
+        told = [line for line in (done.err + done.out).splitlines() if name in line or "tree" in line]
+        hold("systemd-analyze verify %s: %s" % (name, done.err), (0, []), (done.status, told))
+    said = dict(re.findall(r"^(What|Where|Type|Options)=(.*)$", texts["srv-tree.mount"], re.M))
+    os.makedirs(said["Where"])
+    root.good("mount", "-t", said["Type"], said["What"], said["Where"], "-o", said["Options"])
+    hold_stack(root, said["Where"])
+    return "both units of MOUNTING pass systemd-analyze verify"

@@ -1,0 +1,110 @@
+"""The Debian package, the archive of dist, and that what is taken away leaves nothing."""
+import hashlib
+import os
+import re
+
+from checks.installed.mounts import STACK, fstab, hold_stack
+from checks.installed.programs import version
+from checks.installed.roots import LeftOut, hold, hold_in
+
+PATHS = ("bin/strata", "bin/strata-mount", "bin/strata-layers", "sbin/mount.strata", "sbin/mount.fuse.strata", "lib/strata/mount.py",
+         "share/man/man1/strata.1", "share/man/man1/strata-mount.1", "share/man/man1/strata-layers.1", "share/man/man8/mount.strata.8",
+         "share/man/man8/mount.fuse.strata.8")
+
+
+def made(root, target, suffix):
+    """What a target of the Makefile makes, in a folder of the root."""
+    if target == "deb":
+        root.needs("dpkg-deb", "strip")
+    os.makedirs(root.top + "/tmp/made", exist_ok=True)
+    root.make(target, "PACKAGES=%s/tmp/made" % root.top)
+    name, = [name for name in os.listdir(root.top + "/tmp/made") if name.endswith(suffix)]
+    return "/tmp/made/" + name
+
+
+def package(root):
+    """The package installs, mounts by fstab to who has nothing else, has no error of lintian's, and goes without a trace."""
+    root.needs("dpkg", "dpkg-deb", "strip")
+    path, number = made(root, "deb", ".deb"), version()
+    root.enter()
+    if root.run("dpkg", "-s", "python3").status != 0:
+        raise LeftOut("no package python3, which this one asks for")
+    said = root.good("dpkg-deb", "-f", path, "Version", "Depends", "Recommends", "Suggests")
+    for part in ("Version: %s\n" % number, "Depends: python3", "Recommends: fuse3", "Suggests: skopeo"):
+        hold_in("the package's control", part, said)
+    before = root.written()
+    done = root.run("dpkg", "-i", path)
+    hold("dpkg -i: %s" % done.err, 0, done.status)
+    for name in PATHS:
+        name = "/usr/" + name + (".gz" if name.startswith("share/man") else "")
+        hold(name, True, os.path.exists(name))
+    os.mkdir("/srv/tree")
+    fstab(STACK + " /srv/tree strata ro,nofail 0 0")
+    root.good("mount", "-a")
+    hold_stack(root, "/srv/tree")
+    root.good("umount", "/srv/tree")
+    root.good("dpkg", "--verify", "strata")
+    done = root.run("dpkg", "-P", "strata")
+    hold("dpkg -P: %s" % done.err, 0, done.status)
+    hold("what is left", {"/etc/fstab"}, root.written() - before)
+    return "installed, mounted by fstab, taken away without a trace; " + linted(root, path)
+
+
+def linted(root, path):
+    """What lintian finds, which must be no error."""
+    try:
+        root.needs("lintian")
+    except LeftOut as missing:
+        return "left out: %s" % missing
+    done = root.run("lintian", "--fail-on", "error", path)
+    hold("lintian", (0, []), (done.status, [line for line in done.out.splitlines() if line.startswith("E:")]))
+    return "lintian finds no error"
+
+
+def sum_of(path):
+    with open(path, "rb") as it:
+        return hashlib.sha256(it.read()).hexdigest()
+
+
+def same_bytes(root):
+    """The package and the archive are the same bytes each time."""
+    sums = []
+    for _ in range(2):
+        targets = [made(root, "dist", ".tar.gz")]
+        try:
+            targets.append(made(root, "deb", ".deb"))
+        except LeftOut:
+            pass
+        sums.append([sum_of(root.top + path) for path in targets])
+        for path in targets:
+            os.unlink(root.top + path)
+    hold("sums", sums[0], sums[1])
+    return "%d files, made twice" % len(sums[0])
+
+
+def archive(root):
+    """What dist packs is what is installed, and runs where it is unpacked."""
+    path = made(root, "dist", ".tar.gz")
+    root.make("install", "PREFIX=/opt/installed", "HELPERS=")
+    root.enter()
+    os.makedirs("/opt/unpacked")
+    root.good("tar", "xf", path, "--strip-components=1", "-C", "/opt/unpacked")
+    root.good("diff", "-r", "--no-dereference", "/opt/unpacked", "/opt/installed")
+    root.good("/opt/unpacked/bin/strata-mount", "--background", "/srv/lower.romfs", "/mnt")
+    hold("a file", "lantern\n", root.good("cat", "/mnt/etc/hostname"))
+    root.good("umount", "/mnt")
+    owners = root.good("tar", "--numeric-owner", "-tvf", path)
+    hold("owners", set(), set(re.findall(r"^\S+ (\S+)", owners, re.M)) - {"0/0"})
+    return "the same files as make install, and they run"
+
+
+def uninstalled(root):
+    """make uninstall leaves no file of make install, in /sbin neither."""
+    before = root.written()
+    root.make("install", "PREFIX=/usr/local")
+    for name in ("mount.strata", "mount.fuse.strata"):
+        hold("/sbin/" + name, "/usr/local/sbin/" + name, os.readlink(root.top + "/sbin/" + name))
+    hold_in("what is installed", "/usr/local/lib/strata/mount.py", root.written())
+    root.make("uninstall", "PREFIX=/usr/local")
+    hold("what is left", set(), root.written() - before)
+    return "no file is left"

@@ -1,0 +1,138 @@
+"""Man pages and completions: that they can be read, and that they name the options that the programs' helps name."""
+import os
+import re
+
+import mount_options
+from checks.installed.roots import Failed, LeftOut, hold, hold_in
+
+PAGES = ("man1/strata.1", "man1/strata-mount.1", "man1/strata-layers.1", "man8/mount.strata.8")
+MAN = "/usr/local/share/man/"
+SHARE = "/usr/local/share/"
+SUBCOMMANDS = ("check", "list", "serve", "socket")
+VERBS = ("convert", "pull", "images", "verify", "remove", "prune", "config")
+OPTION = re.compile(r"(?<![\w-])(--[a-z][a-z-]*|-[A-Za-z])(?![\w-])")
+# a short form that the parser of strata's words may give to --version
+CLAP = {"-V"}
+COMPLETED = {"bash": SHARE + "bash-completion/completions/%s", "zsh": SHARE + "zsh/site-functions/_%s",
+             "fish": SHARE + "fish/vendor_completions.d/%s.fish"}
+
+
+def shown(root):
+    """Each page is shown without a warning, also by its name."""
+    root.needs("man")
+    root.install()
+    env = dict(os.environ, MANWIDTH="80", MANPAGER="cat")
+    for page in PAGES:
+        text = root.good("man", "--warnings", "-E", "UTF-8", "-l", MAN + page, env=env)
+        name, section = os.path.basename(page).rsplit(".", 1)
+        for part in ("NAME", "SYNOPSIS", "DESCRIPTION", "EXIT STATUS", "SEE ALSO", "%s(%s)" % (name.upper(), section)):
+            hold_in(page, part, text)
+        hold("man %s" % name, text, root.good("man", "--warnings", "-E", "UTF-8", section, name, env=env))
+    return "%d pages, without a warning" % len(PAGES)
+
+
+def of_page(page):
+    """The options that a page's paragraphs of options, and its synopsis, name."""
+    with open(MAN + page, encoding="utf-8") as it:
+        text = it.read()
+    found = set()
+    for line in re.findall(r"^\.TP\n(.*)$", text, re.M):
+        found |= set(OPTION.findall(re.sub(r"\\f[A-Z]|\\-", lambda it: "-" if it[0] == "\\-" else " ", line).replace('"', " ")))
+    return found
+
+
+def of_help(text):
+    """The options that a help names at the beginning of a line, or that its usage has."""
+    found = set()
+    for line in text.splitlines():
+        front = re.match(r"\s{2,}(-\S.*?)(?:\s{2,}|$)", line)
+        if front or line.startswith("usage:") or line.startswith("       "):
+            found |= set(OPTION.findall(front[1] if front else line))
+    return found - CLAP
+
+
+def helped(root, *words):
+    done = root.run(*words)
+    return done.out + done.err
+
+
+def helps(root):
+    """What each program's helps name."""
+    def of(name, *subcommands):
+        return set().union(*(of_help(helped(root, name, *words, "--help")) for words in ((), *((it,) for it in subcommands))))
+    return {"man1/strata.1": of("strata", *SUBCOMMANDS), "man1/strata-mount.1": of("strata-mount"),
+            "man1/strata-layers.1": of("strata-layers", *VERBS), "man8/mount.strata.8": of("/sbin/mount.strata")}
+
+
+def options(root):
+    """A page, its program's help and its completions name the same options."""
+    root.install()
+    wanted = helps(root)
+    for page in PAGES:
+        hold("options of " + page, sorted(wanted[page]), sorted(of_page(page)))
+    for page in PAGES[:3]:
+        name = os.path.basename(page).rpartition(".")[0]
+        longs = sorted(it for it in wanted[page] if it.startswith("--"))
+        for shell, place in COMPLETED.items():
+            with open(place % name, encoding="utf-8") as it:
+                text = it.read()
+            if shell == "fish":
+                found = {"--" + it for it in re.findall(r"^complete .* -l ([a-z-]+)", text, re.M)}
+            else:
+                found = set(re.findall(r"(?<![\w-])--[a-z][a-z-]*", text))
+            hold("options of %s in %s" % (name, shell), longs, sorted(found))
+    return "helps, pages and completions of three shells name the same %d options" % sum(map(len, wanted.values()))
+
+
+def words_of_fstab(root):
+    """The page of the mount helper names every word that it takes or passes over."""
+    root.install()
+    with open(MAN + PAGES[3], encoding="utf-8") as it:
+        text = it.read().replace("\\-", "-")
+    words = {*mount_options.IGNORED, *mount_options.KERNEL, *mount_options.SETS, *mount_options.CLEARS, *mount_options.STRATA,
+             *mount_options.IGNORED_FRONTS}
+    missing = sorted(word for word in words if not re.search(r"(?<![\w-])%s(?![a-z])" % re.escape(word), text))
+    hold("words that the page leaves out", [], missing)
+    return "%d words of -o" % len(words)
+
+
+def bash(root):
+    script = ("source /usr/share/bash-completion/bash_completion 2>/dev/null; for name in strata strata-mount strata-layers; do "
+              "source %sbash-completion/completions/$name; done; COMP_WORDS=(strata-mount --repl); COMP_CWORD=1; COMP_LINE='strata-mount "
+              "--repl'; compopt() { :; }; _strata_mount; echo ${COMPREPLY[*]}; COMP_WORDS=(strata serve --dev); COMP_CWORD=2; _strata; "
+              "echo ${COMPREPLY[*]}; complete -p strata strata-mount strata-layers | wc -l" % SHARE)
+    hold("bash", "--replace\n--device\n3\n", root.good("bash", "--norc", "-c", script))
+
+
+def zsh(root):
+    script = ("fpath=(%szsh/site-functions $fpath); autoload -Uz compinit; compinit -u -D; "
+              "print $_comps[strata] $_comps[strata-mount] $_comps[strata-layers]; "
+              "for name in strata strata-mount strata-layers; do autoload +X -Uz _$name || exit 1; done" % SHARE)
+    hold("zsh", "_strata _strata-mount _strata-layers\n", root.good("zsh", "-f", "-c", script))
+    for name in ("strata", "strata-mount", "strata-layers"):
+        root.good("zsh", "-f", "-n", COMPLETED["zsh"] % name)
+
+
+def fish(root):
+    env = dict(os.environ, XDG_DATA_DIRS="/usr/local/share:/usr/share", HOME="/tmp")
+    for words, wanted in (("strata-mount --repl", "--replace"), ("strata serve --dev", "--device"), ("strata so", "socket")):
+        said = root.good("fish", "--no-config", "-c", "source %s; complete -C %r" % (
+            COMPLETED["fish"] % words.split()[0], words), env=env)
+        hold("fish: " + words, wanted, said.split("\t")[0])
+    root.good("fish", "--no-config", "-n", COMPLETED["fish"] % "strata-layers", env=env)
+
+
+def shells(root):
+    """The completions load in each shell that is here, and complete."""
+    root.install()
+    told, missing = [], []
+    for shell in (bash, zsh, fish):
+        try:
+            root.needs(shell.__name__)
+            shell(root)
+            told.append(shell.__name__)
+        except LeftOut:
+            missing.append(shell.__name__)
+    if not told:
+        raise LeftOut("no %s" % ", ".join(missing))
+    return "completions of " + ", ".join(told) + ("; left out: no " + ", ".join(missing)) * bool(missing)

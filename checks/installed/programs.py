@@ -1,0 +1,74 @@
+"""The installed programs run by their names, whatever stands around them."""
+import os
+import re
+
+from checks import ROOT
+from checks.installed.roots import hold, hold_in
+
+SOURCE = os.path.join(ROOT, "crates", "command_line", "src", "version.rt")
+LOGIC = "dac8208d650f15bf"
+EVIL = "raise SystemExit('a stranger was imported')\n"
+
+
+def version():
+    """The version that stands in the program's sources."""
+    with open(SOURCE, encoding="utf-8") as it:
+        return re.search(r'^pub const VERSION: &str = "([^"]+)";$', it.read(), re.M)[1]
+
+
+def named(root):
+    """Each program says its version and its options by its name."""
+    number = version()
+    root.install()
+    hold("strata", "strata %s (logic %s)\n" % (number, LOGIC), root.good("strata", "--version"))
+    for name in ("strata-mount", "strata-layers"):
+        hold(name, "%s %s\n" % (name, number), root.good(name, "--version"))
+    for name in ("mount.strata", "mount.fuse.strata"):
+        hold(name, "mount.strata %s\n" % number, root.good("/sbin/" + name, "--version"))
+    for name in ("strata-mount", "mount.strata"):
+        hold_in(name, "usage: " + name, root.good(name, "--help"))
+    return "strata, strata-mount, strata-layers and mount.strata say version %s" % number
+
+
+def alone(root):
+    """Neither the working folder nor the environment decides what is executed or imported."""
+    root.install()
+    folder = "/tmp/stranger"
+    os.mkdir(folder)
+    for name in ("mount", "version", "os", "argparse", "ctypes", "mount_options", "sitecustomize", "refused", "layouts"):
+        with open("%s/%s.py" % (folder, name), "w", encoding="ascii") as out:
+            out.write(EVIL)
+    for name in ("strata", "fusermount3", "python3", "umount"):
+        with open("%s/%s" % (folder, name), "w", encoding="ascii") as out:
+            out.write("#!/bin/sh\necho a stranger was started >&2\nexit 9\n")
+        os.chmod("%s/%s" % (folder, name), 0o755)
+    env = dict(os.environ, PYTHONPATH=folder, PYTHONHOME=folder, PYTHONSTARTUP=folder + "/mount.py", PATH=folder,
+               HOME=folder, PYTHONINSPECT="1")
+    for name in ("/usr/local/bin/strata-mount", "/usr/local/bin/strata-layers", "/usr/local/sbin/mount.strata"):
+        hold_in(name, version_of(name), root.good(name, "--version", cwd=folder, env=env))
+    os.mkdir("/mnt/alone")
+    words = ("/usr/local/sbin/mount.strata", "/srv/lower.romfs:/srv/upper.romfs", "/mnt/alone")
+    hold("the mount helper", "", root.good(*words, cwd=folder, env=env))
+    hold("what is mounted", "beacon\n", root.good("cat", "/mnt/alone/etc/hostname"))
+    root.good("umount", "/mnt/alone")
+    return "modules and programs of strangers in the working folder, PYTHONPATH and PATH are not met"
+
+
+def version_of(path):
+    return os.path.basename(path) + " "
+
+
+def links(root):
+    """However a link leads to a program, it finds what belongs to it; and so does what was moved as a whole."""
+    root.install()
+    os.makedirs("/opt/a/b")
+    os.symlink("/usr/local/bin/strata-mount", "/opt/a/one")
+    os.symlink("../one", "/opt/a/b/two")
+    hold_in("a link to a link", "mount", root.good("./two", "--version", cwd="/opt/a/b"))
+    root.good("cp", "-a", "/usr/local", "/opt/moved")
+    root.good("rm", "-r", "/usr/local/lib/strata", "/usr/local/bin/strata")
+    os.mkdir("/mnt/links")
+    root.good("/opt/moved/bin/strata-mount", "--background", "/srv/lower.romfs", "/mnt/links")
+    hold("what is mounted", "lantern\n", root.good("cat", "/mnt/links/etc/hostname"))
+    root.good("umount", "/mnt/links")
+    return "links to links, and the whole moved elsewhere"

@@ -1,0 +1,105 @@
+"""Checks of mounts of images by their names in a store."""
+import os
+import sys
+import time
+
+from checks.registry import made
+from checks.registry.hostile import flip
+from checks.registry.rooms import MOUNT, SECONDS, LeftOut, hold
+from checks.registry.stores import mounted_layers
+
+
+def mount(room, *words, folder=None):
+    """Mounts in the background: where, and how it went."""
+    at = folder or room.name()
+    os.makedirs(at, exist_ok=True)
+    done = room.run(sys.executable, "-B", MOUNT, "--strata", room.strata, "--store", room.store, "--background", *words, at)
+    if done.returncode == 0:
+        room.ends.append(lambda: take_away(room, at))
+    return at, done
+
+
+def take_away(room, at):
+    if os.path.ismount(at):
+        room.run(*(["umount"] if os.geteuid() == 0 else ["fusermount3", "-u"]), at)
+
+
+def mounted(room, *words):
+    """Where an image is mounted, which must be so."""
+    at, done = mount(room, *words)
+    if done.returncode != 0 and "/dev/fuse" in done.stderr or "ermission" in done.stderr or "fusermount3" in done.stderr:
+        raise LeftOut("no mounts here: %s" % done.stderr.strip())
+    hold("mounted %r" % (words,), (0, ""), (done.returncode, done.stderr))
+    return at
+
+
+def seen(at):
+    """Every path of a mount, with its type and mode and a file's size."""
+    found = {}
+    for place, folders, files in os.walk(at):
+        for name in [""] + files + [it for it in folders if os.path.islink(os.path.join(place, it))]:
+            path = os.path.join(place, name).rstrip("/")
+            it = os.lstat(path)
+            is_folder = it.st_mode & 0o170000 == 0o040000
+            found["/" + os.path.relpath(path, at) if path != at else "/"] = "%06o" % it.st_mode, 0 if is_folder else it.st_size
+    return found
+
+
+WANTED = {path: (mode, size) for path, (mode, _, size) in made.SHOWN.items()}
+
+
+def check_mounts_by_name(room):
+    """By NAME, NAME:TAG and image:NAME:TAG; over and under other images; a file of that name comes first."""
+    room.layers("pull", "oci:" + made.layout(room.name()).path, "team/app:1")
+    for word in ("team/app", "team/app:1", "image:team/app:1"):
+        hold(word, WANTED, seen(mounted(room, word)))
+    lower, *others = mounted_layers(room, "team%app:1")
+    hold("beside files", WANTED, seen(mounted(room, lower, "team/app:1")))
+    os.makedirs(os.path.join(room.path, "team"))
+    os.symlink(lower, os.path.join(room.path, "team", "app:1"))
+    hold("a file", True, os.path.exists(os.path.join(mounted(room, "team/app:1"), "bin", "tell")))
+    hold("an image", WANTED, seen(mounted(room, "image:team/app:1")))
+    for word in ("image:none", "image:team/app:2", "image:../app"):
+        at, done = mount(room, word)
+        hold(word, (1, 1, False), (done.returncode, done.stderr.count("\n"), os.path.ismount(at)))
+
+
+def check_one_file(room):
+    """Two images that share layers are mounted from the same files."""
+    for name, layers in (("a", made.LAYERS), ("b", made.LAYERS[:3])):
+        room.layers("pull", "oci:" + made.layout(room.name(), layers).path, name + ":1")
+    hold("files", mounted_layers(room, "a:1")[:3], mounted_layers(room, "b:1"))
+
+
+def check_used_layers(room):
+    """prune leaves the layers of a mount, and takes them away when it has ended."""
+    source = made.layout(room.name())
+    room.layers("pull", "oci:" + source.path, "a:1")
+    at = mounted(room, "a:1")
+    room.layers("remove", "a:1")
+    line = "0 layers taken away, 0 bytes; 5 are in use by a mount\n"
+    hold("while it is mounted", line, room.layers("prune"))
+    hold("mounted still", WANTED, seen(at))
+    take_away(room, at)
+    for _ in range(SECONDS * 10):
+        told = room.layers("prune")
+        if told != line and not room.blobs():
+            break
+        time.sleep(0.1)  # until the server has ended
+    hold("layers at the end", [], room.blobs())
+
+
+def check_verified_mounts(room):
+    """--verify refuses a layer whose bytes are not those that its digest says, and mounts what is right."""
+    room.layers("pull", "oci:" + made.layout(room.name()).path, "a:1")
+    hold("right", WANTED, seen(mounted(room, "--verify", "a")))
+    layer = mounted_layers(room, "a:1")[1]
+    flip(layer)
+    at, done = mount(room, "--verify", "a")
+    hold("flipped", (1, 1, True, False), (done.returncode, done.stderr.count("\n"), layer in done.stderr, os.path.ismount(at)))
+    os.unlink(layer)
+    at, done = mount(room, "a:1")
+    hold("missing", (1, True, False), (done.returncode, os.path.basename(layer) in done.stderr, os.path.ismount(at)))
+
+
+CHECKS = [check_mounts_by_name, check_one_file, check_used_layers, check_verified_mounts]

@@ -1,0 +1,224 @@
+"""Checks of convert and of a store, which need no other program."""
+import gzip
+import json
+import os
+import shlex
+import shutil
+import subprocess
+
+from checks import ROOT
+from checks.registry import made
+from checks.registry.rooms import LAYERS, LeftOut, hold, shown_by
+
+
+def mounted_layers(room, name, store=None):
+    """The paths of an image's layers, as the file of the image in the store says them."""
+    place = store or room.store
+    with open(os.path.join(place, "images", name), "rb") as file:
+        digests = [it["digest"] for it in json.load(file)["layers"]]
+    return [os.path.join(place, "blobs", *it.split(":")) for it in digests]
+
+
+def hold_converted(room, path, tag, source, packed):
+    """Holds a layout that convert wrote against the one that it was made of; its manifest."""
+    new, old = made.Read(path, tag), made.Read(source.path, "1")
+    manifest, was = new.json(new.top), old.json(old.top)
+    hold("media types", [made.ROMFS + packed] * len(was["layers"]), [it["mediaType"] for it in manifest["layers"]])
+    hold("what layers were made of", [{"vnd.strata.layer.source": it["digest"]} for it in was["layers"]],
+         [it["annotations"] for it in manifest["layers"]])
+    config, config_was = new.json(manifest["config"]), old.json(was["config"])
+    images = [unpacked(new.blob(it), packed) for it in manifest["layers"]]
+    hold("digests of layers", [made.digest(it) for it in images], config["rootfs"].pop("diff_ids"))
+    config_was["rootfs"].pop("diff_ids")
+    hold("the configuration", config_was, config)
+    hold("beginnings", [b"-rom1fs-"] * len(images), [it[:8] for it in images])
+    return images
+
+
+def unpacked(data, packed):
+    if packed == "+zstd":
+        return subprocess.run(["zstd", "-dcq"], input=data, stdout=subprocess.PIPE, check=True).stdout
+    return gzip.decompress(data) if packed else data
+
+
+def files_of(path):
+    found = {}
+    for place, _, files in os.walk(path):
+        for name in files:
+            with open(os.path.join(place, name), "rb") as file:
+                found[os.path.relpath(os.path.join(place, name), path)] = file.read()
+    return found
+
+
+def check_convert(room):
+    """The same layers in the same order, the configuration kept, and the same bytes each time."""
+    source = made.layout(room.name())
+    out, again = room.name(), room.name()
+    hold("printed", "oci:%s:1\n" % out, room.layers("convert", source.path, out))
+    images = hold_converted(room, out, "1", source, "")
+    paths = [room.name() for _ in images]
+    for path, data in zip(paths, images):
+        with open(path, "wb") as file:
+            file.write(data)
+    hold("shown", made.SHOWN, shown_by(room, paths))
+    room.layers("convert", source.path + ":1", again + ":1", store=room.name())
+    hold("the same bytes in another store", files_of(out), files_of(again))
+    room.layers("convert", source.path, out + ":2")
+    with open(os.path.join(out, "index.json"), "rb") as file:
+        tags = [it["annotations"][made.TAG] for it in json.load(file)["manifests"]]
+    hold("tags", ["1", "2"], tags)
+
+
+def check_compress(room):
+    """Packed layers unpack to the same; a packed layout can be converted to one that isn't."""
+    source, plain = made.layout(room.name()), room.name()
+    room.layers("convert", source.path, plain)
+    images = hold_converted(room, plain, "1", source, "")
+    for packing in ["gzip"] + ["zstd"] * (shutil.which("zstd") is not None):
+        out, again, back = room.name(), room.name(), room.name()
+        room.layers("convert", "--compress", packing, source.path, out)
+        hold(packing, images, hold_converted(room, out, "1", source, "+" + packing))
+        room.layers("convert", "--compress", packing, source.path, again, store=room.name())
+        hold("the same bytes", files_of(out), files_of(again))
+        room.layers("convert", out, back, store=room.name())
+        hold("back", files_of(plain), files_of(back))
+
+
+def check_platforms(room):
+    """One platform of an index, or all, without what a builder attests."""
+    source, data = made.Layout(room.name()), [made.archive(made.entry("n", b"%d" % it)) for it in range(3)]
+    images = [{**source.image([it], ("linux", name)), "platform": {"os": "linux", "architecture": name}}
+              for it, name in zip(data, ("amd64", "arm64"))]
+    note = {**source.image([data[2]]), "platform": {"os": "unknown", "architecture": "unknown"}}
+    source.index(made.tagged(source.blob(made.INDEX, {"schemaVersion": 2, "manifests": [*images, note]}), "1"))
+    out, one = room.name(), room.name()
+    room.layers("convert", "--platform", "all", source.path, out)
+    both = made.Read(out, "1")
+    found = both.json(both.top)["manifests"]
+    hold("platforms", ["amd64", "arm64"], [it["platform"]["architecture"] for it in found])
+    room.layers("convert", "--platform", "linux/arm64", source.path, one)
+    read = made.Read(one, "1")
+    wanted, = read.json(read.top)["layers"]
+    hold("the image of arm64", both.json(found[1])["layers"], [wanted])
+    for platform, line in (("linux/vax", "blob ..: nothing for linux/vax; there is linux/amd64, linux/arm64"),
+                           ("vax", "vax: no platform; linux/ARCHITECTURE[/VARIANT] is wanted")):
+        room.refused(line, "convert", "--platform", platform, source.path, room.name())
+
+
+def check_pull(room):
+    """An image from archives, from layers of romfs, and from packed ones is the same image of the store."""
+    source, plain, packed = made.layout(room.name()), room.name(), room.name()
+    elsewhere = room.name()
+    room.layers("convert", source.path, plain, store=elsewhere)
+    room.layers("convert", "--compress", "gzip", source.path, packed, store=elsewhere)
+    for number, place in enumerate((plain, packed, source.path)):
+        store, name = room.name(), "team/app:v%d" % number
+        hold("printed", "%s: 5 layers, 5 of them new\n" % name, room.layers("pull", "oci:" + place, name, store=store))
+        hold("layers", room.blobs(elsewhere), room.blobs(store))
+        hold("shown", made.SHOWN, shown_by(room, mounted_layers(room, name.replace("/", "%"), store)))
+        hold("printed again", "other:latest: 5 layers, 0 of them new\n",
+             room.layers("pull", "oci:%s:1" % place, "other", store=store))
+        hold("images", ["other:latest", name],
+             [it.split()[0] for it in room.layers("images", store=store).splitlines()])
+        hold("verified", "", room.layers("verify", store=store))
+    hold("a name of its own", "%s:1: 5 layers, 5 of them new\n" % os.path.basename(plain),
+         room.layers("pull", "oci:" + plain))
+
+
+def check_shared(room):
+    """A second image that shares three layers brings the others; remove and prune leave what is needed."""
+    one = made.layout(room.name())
+    two = made.layout(room.name(), (*made.LAYERS[:3], made.archive(made.entry("x", b"x")),
+                                    made.archive(made.entry("y", b"y"))))
+    room.layers("pull", "oci:" + one.path, "one")
+    before = room.blobs()
+    hold("printed", "two:latest: 5 layers, 2 of them new\n", room.layers("pull", "oci:" + two.path, "two"))
+    hold("how many layers", 7, len(room.blobs()))
+    hold("pruned", "0 layers taken away, 0 bytes; 0 are in use by a mount\n", room.layers("prune"))
+    room.layers("remove", "two")
+    hold("pruned", True, room.layers("prune").startswith("2 layers taken away, "))
+    hold("layers that stay", before, room.blobs())
+    room.refused("two: no such image in %s" % room.store, "remove", "two")
+    room.layers("remove", "one:latest")
+    room.layers("prune")
+    hold("nothing stays", ([], []), (room.blobs(), os.listdir(os.path.join(room.store, "made"))))
+
+
+def check_names(room):
+    """A name that is none is refused before anything is written."""
+    source = made.layout(room.name())
+    room.layers("pull", "oci:" + source.path, "z")
+    room.layers("remove", "z")
+    room.layers("prune")
+    for name in ("..", "../x", "a/../b", "/a", "a//b", "a/", "a..b", ":", "a:", "a:b:c", "a:../b", "a b", "a\nb", ".a",
+                 "-a/..", "a" * 121, "a:" + "b" * 129, "\u00e4", "a%b"):
+        for verb, words in (("pull", ("oci:" + source.path, name)), ("remove", (name,)), ("config", (name,))):
+            done = room.tried(verb, "--", *words)
+            hold("%s %r" % (verb, name), (1, 1, True),
+                 (done.returncode, done.stderr.count("\n"), "no name of an image" in done.stderr))
+    hold("images", "", room.layers("images"))
+    hold("layers", [], room.blobs())
+    room.layers("pull", "oci:" + source.path, "a:1")
+    room.layers("pull", "oci:" + source.path, "a:2")
+    room.refused("a: which tag? There is 1, 2", "config", "a")
+    room.layers("pull", "oci:" + source.path, "a")
+    room.layers("config", "a")
+    other = os.path.join(room.path, "other")
+    os.mkdir(other)
+    os.mkdir(os.path.join(other, "new"))
+    os.mkdir(os.path.join(other, "work"))
+    room.refused("%s: no store of layers" % other, "pull", "oci:" + source.path, "a", store=other)
+    hold("what is no store", ["new", "work"], sorted(os.listdir(other)))
+    room.refused("%s: no store of layers" % room.name(), "images", store=os.path.join(room.path, str(room.count)))
+
+
+def check_config(room):
+    """Entry point, environment, folder and user, for people and as words that a shell evaluates."""
+    room.layers("pull", "oci:" + made.layout(room.name()).path, "a")
+    hold("config", "entrypoint /bin/say 'it'\"'\"'s'\ncommand 'a b'\nenv PATH=/bin\nenv 'WORD=x y'\nfolder /var\nuser 7:8\n",
+         room.layers("config", "a"))
+    words = shlex.split(room.layers("config", "--bwrap", "a"))
+    hold("bwrap", ["--clearenv", "--setenv", "PATH", "/bin", "--setenv", "WORD", "x y", "--chdir", "/var",
+                   "--unshare-user", "--uid", "7", "--gid", "8", "--", "/bin/say", "it's", "a b"], words)
+    words = shlex.split(room.layers("config", "--podman", "a"))
+    hold("podman", ["--entrypoint", '["/bin/say", "it\'s", "a b"]', "--workdir", "/var", "--env", "PATH=/bin",
+                    "--env", "WORD=x y", "--user", "7:8"], words)
+
+
+def check_lost(room):
+    """What is lost is told, and what others may read by it."""
+    done = room.run(*room.words("convert", made.layout(room.name()).path, room.name()))
+    hold("told", ["owners are not kept: 1 entry, first layer 1: data",
+                  "mode bits are not kept, but whether a file or directory is executable: 3 entries, first layer 0: root/",
+                  "others may read or enter in the mount, and could not in the layer: 2 entries",
+                  "  layer 0: root/", "  layer 0: root/key"],
+         done.stderr.splitlines())
+
+
+def check_other_forms(room):
+    """An archive of docker save and a folder of skopeo's are named with what makes a layout of them."""
+    path, where = room.name(), room.name()
+    with open(path, "wb") as out:
+        out.write(made.archive(made.entry("manifest.json", b"[]")))
+    os.mkdir(where)
+    with open(os.path.join(where, "version"), "wb") as out:
+        out.write(b"Directory Transport Version: 1.1\n")
+    end = " oci:LAYOUT:TAG`%s makes a layout of it"
+    archive = "; `skopeo copy docker-archive:%s" % path + end % " (or oci-archive:)"
+    room.refused("%s: no such folder" % path + archive, "convert", path, room.name())
+    room.refused("%s:a: no such folder" % path + archive, "pull", "oci:%s:a" % path)
+    room.refused("%s/oci-layout: no such file or directory; `skopeo copy dir:%s" % (where, where) + end % "",
+                 "convert", where, room.name())
+
+
+def check_version(room):
+    source = os.path.join(ROOT, "crates", "command_line", "src", "version.rt")
+    if not os.path.exists(source):
+        raise LeftOut("no %s" % source)
+    with open(source, encoding="utf-8") as file:
+        version = file.read().split('pub const VERSION: &str = "')[1].split('"')[0]
+    hold("version", "strata-layers %s\n" % version, room.ran("python3", "-B", LAYERS, "--version"))
+
+
+CHECKS = [check_convert, check_compress, check_platforms, check_pull, check_shared, check_names, check_config, check_lost,
+          check_other_forms, check_version]

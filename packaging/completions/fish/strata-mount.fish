@@ -1,0 +1,12 @@
+# fish completion for strata-mount(1)
+complete -c strata-mount -l background -d 'Return once the mount answers'
+complete -c strata-mount -s o -x -a 'allow_other noexec noatime max_read= suid dev rw strict workers= uid= gid=' -d 'Options'
+complete -c strata-mount -l strict -d 'Ask a right checksum of every header'
+complete -c strata-mount -l replace -d 'Take a dead mount away that stands there'
+complete -c strata-mount -l store -r -d 'The store of container images'
+complete -c strata-mount -l verify -d 'Look at the digests of layers first'
+complete -c strata-mount -s d -l debug -d 'Write each request and reply'
+complete -c strata-mount -l stats -r -d 'Count requests in a file'
+complete -c strata-mount -l strata -r -d 'Start another program'
+complete -c strata-mount -s h -l help -d 'Print the options'
+complete -c strata-mount -l version -d 'Print the version'

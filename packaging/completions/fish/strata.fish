@@ -1,0 +1,18 @@
+# fish completion for strata(1)
+set -l commands check list serve socket
+complete -c strata -n "not __fish_seen_subcommand_from $commands" -f -a check -d 'Check images'
+complete -c strata -n "not __fish_seen_subcommand_from $commands" -f -a list -d 'Print the paths that images show'
+complete -c strata -n "not __fish_seen_subcommand_from $commands" -f -a serve -d 'Answer the requests of a stream'
+complete -c strata -n "not __fish_seen_subcommand_from $commands" -f -a socket -d 'Answer the requests of clients'
+complete -c strata -n "not __fish_seen_subcommand_from $commands" -l version -d 'Print the version'
+complete -c strata -l help -d 'Print the options'
+complete -c strata -n "__fish_seen_subcommand_from $commands" -l strict -d 'Ask a right checksum of every header'
+complete -c strata -n "__fish_seen_subcommand_from serve socket" -l workers -x -d 'At most N workers'
+complete -c strata -n "__fish_seen_subcommand_from serve socket" -l batch -x -d 'At most N requests a batch'
+complete -c strata -n "__fish_seen_subcommand_from serve socket" -l lasting -d 'Tell the client that nothing changes'
+complete -c strata -n "__fish_seen_subcommand_from serve" -l requests -r -d 'Where requests come from'
+complete -c strata -n "__fish_seen_subcommand_from serve" -l replies -r -d 'Where replies go'
+complete -c strata -n "__fish_seen_subcommand_from serve" -l balances -r -d 'Where balances go'
+complete -c strata -n "__fish_seen_subcommand_from serve" -l device -d 'The streams are one open /dev/fuse'
+complete -c strata -n "__fish_seen_subcommand_from socket" -l listen -r -d 'Where the socket is made'
+complete -c strata -n "__fish_seen_subcommand_from socket" -l sessions -x -d 'How many sessions are served'

@@ -1,0 +1,131 @@
+"""Makes a Debian package of what is installed, by dpkg-deb: packaging/deb.py PROGRAM FOLDER
+
+The same commit and program give the same bytes: every file bears the commit's time, and archives are packed in order.
+"""
+import email.utils
+import gzip
+import hashlib
+import os
+import re
+import subprocess
+import sys
+import tempfile
+
+import files
+import install
+
+PYTHON = "/usr/bin/python3"
+MAINTAINER = "strata maintainers <maintainers@users.noreply.dittanystair.example>"
+CONTROL = """\
+Package: strata
+Version: {version}
+Architecture: {architecture}
+Maintainer: {maintainer}
+Installed-Size: {size}
+Depends: python3 (>= 3.9), libc6 (>= {libc})
+Recommends: fuse3
+Suggests: skopeo, genromfs, zstd
+Section: utils
+Priority: optional
+Description: read-only file trees, stacked of romfs images, by FUSE
+ strata checks romfs images, lays them one on another by the whiteout rules
+ of container layers, and mounts what they show together. That every reply
+ is the right one is proved. strata-layers makes an image of each layer of
+ a container image, and mount.strata mounts by /etc/fstab.
+"""
+COPYRIGHT = """\
+Format: https://www.debian.org/doc/packaging-manuals/copyright-format/1.0/
+Upstream-Name: strata
+
+Files: *
+Copyright: {year} the maintainers of strata
+License: none-stated
+ The sources of strata state no license.
+"""
+CHANGELOG = """\
+strata ({version}) unstable; urgency=medium
+
+  * The package of this version, made by its own `make deb`.
+
+ -- {maintainer}  {date}
+"""
+
+
+def packed(data, moment):
+    return gzip.compress(data, 9, mtime=moment)
+
+
+def gzipped(entry):
+    """A page, or a link to one, as packages have it."""
+    if entry.link is not None:
+        return entry._replace(path=entry.path + ".gz", link=entry.link + ".gz")
+    return entry._replace(path=entry.path + ".gz", data=packed(entry.data, 0))
+
+
+def stripped(program):
+    """The bytes of the program without its table of symbols, as packages have it."""
+    with tempfile.NamedTemporaryFile() as out:
+        subprocess.run(["strip", "--strip-unneeded", "-o", out.name, program], check=True)
+        with open(out.name, "rb") as it:
+            return it.read()
+
+
+def entries(program, moment):
+    """What the package holds: what is installed with pages as Debian packs them, and what is said of a package."""
+    version = files.version()
+    found = []
+    for entry in files.entries(program, PYTHON):
+        if entry.path == "bin/strata":
+            entry = entry._replace(data=stripped(program))
+        if entry.path.startswith("share/man/"):
+            entry = gzipped(entry)
+        if entry.path.startswith("share/zsh/"):
+            entry = entry._replace(path=entry.path.replace("site-functions", "vendor-completions"))
+        found.append(entry)
+    log = CHANGELOG.format(version=version, maintainer=MAINTAINER, date=email.utils.formatdate(moment, False))
+    year = email.utils.formatdate(moment).split()[3]
+    found.append(files.Entry("share/doc/strata/copyright", 0o644, COPYRIGHT.format(year=year).encode()))
+    found.append(files.Entry("share/doc/strata/changelog.gz", 0o644, packed(log.encode(), 0)))
+    return sorted(found)
+
+
+def libc_of(program):
+    """The least version of the C library that a program asks for."""
+    with open(program, "rb") as it:
+        found = re.findall(rb"GLIBC_(\d+)\.(\d+)", it.read())
+    return "%d.%d" % max((int(major), int(minor)) for major, minor in found)
+
+
+def architecture():
+    return subprocess.run(["dpkg", "--print-architecture"], check=True, stdout=subprocess.PIPE, text=True).stdout.strip()
+
+
+def control(program, found, moment):
+    """What dpkg is told of the package, as files of its own folder."""
+    size = sum(-(-len(entry.data or b"") // 1024) for entry in found) + len(files.folders(found))
+    text = CONTROL.format(version=files.version(), architecture=architecture(), maintainer=MAINTAINER, size=size,
+                          libc=libc_of(program))
+    sums = "".join("%s  usr/%s\n" % (hashlib.md5(entry.data).hexdigest(), entry.path) for entry in found if entry.link is None)
+    return [files.Entry("DEBIAN/control", 0o644, text.encode()), files.Entry("DEBIAN/md5sums", 0o644, sums.encode())]
+
+
+def build(program, folder):
+    """Makes the package; its path."""
+    moment = files.moment()
+    found = entries(program, moment)
+    path = os.path.join(folder, "strata_%s_%s.deb" % (files.version(), architecture()))
+    with tempfile.TemporaryDirectory(prefix="strata-deb-") as top:
+        os.chmod(top, 0o755)
+        usr = [entry._replace(path="usr/" + entry.path) for entry in found]
+        every = [*control(program, found, moment), *usr]
+        for below in files.folders(every):
+            install.make_folder(os.path.join(top, below))
+        for entry in every:
+            install.write(os.path.join(top, entry.path), entry)
+        subprocess.run(["dpkg-deb", "--root-owner-group", "-Zxz", "-z6", "--build", top, path], check=True,
+                       stdout=subprocess.DEVNULL, env={**os.environ, "SOURCE_DATE_EPOCH": str(moment), "XZ_DEFAULTS": "-T1"})
+    return path
+
+
+if __name__ == "__main__":
+    print(build(*sys.argv[1:]))

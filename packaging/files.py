@@ -1,0 +1,103 @@
+"""What is installed: which files, where, and what they hold. packaging/install.py, deb.py and dist.py go by it."""
+import ast
+import collections
+import os
+import re
+import subprocess
+import sys
+
+ROOT = os.path.dirname(os.path.dirname(os.path.realpath(__file__)))
+TOOLS = os.path.join(ROOT, "tools")
+sys.path.insert(0, TOOLS)
+from version import version
+
+# a path below the prefix, with its mode and what it holds, or the name that a link leads to
+Entry = collections.namedtuple("Entry", "path mode data link", defaults=(None, None))
+# what users call, the module of it, and what that is called with
+PROGRAMS = (
+    ("bin/strata-mount", "mount", "sys.argv[1:], \"strata-mount\""),
+    ("bin/strata-layers", "layers", "sys.argv[1:]"),
+    ("sbin/mount.strata", "mount_helper", "sys.argv[1:]"),
+)
+COMPLETIONS = {
+    "bash": "share/bash-completion/completions", "zsh": "share/zsh/site-functions", "fish": "share/fish/vendor_completions.d"}
+
+
+def read(*names):
+    with open(os.path.join(ROOT, *names), "rb") as it:
+        return it.read()
+
+
+def named_in(module):
+    """The modules of tools/ that a module imports, or starts by their file's name."""
+    found = set()
+    for node in ast.walk(ast.parse(read("tools", module + ".py"))):
+        if isinstance(node, ast.Import):
+            found |= {alias.name for alias in node.names}
+        elif isinstance(node, ast.ImportFrom):
+            found.add(node.module)
+        elif isinstance(node, ast.Constant) and isinstance(node.value, str) and re.fullmatch(r"\w+\.py", node.value):
+            found.add(node.value[:-3])
+    return {name for name in found if os.path.exists(os.path.join(TOOLS, name + ".py"))}
+
+
+def modules():
+    """The modules that the programs need, by following what they name."""
+    found, todo = set(), [module for _, module, _ in PROGRAMS]
+    while todo:
+        module = todo.pop()
+        if module not in found:
+            found.add(module)
+            todo += named_in(module)
+    return sorted(found)
+
+
+def launcher(path, module, words, python):
+    text = read("packaging", "launcher.py").decode()
+    values = {"PYTHON": python, "NAME": os.path.basename(path), "MODULE": module, "WORDS": words}
+    return re.sub("@([A-Z]+)@", lambda it: values[it[1]], text).encode()
+
+
+def pages(number):
+    """The man pages, which say the version."""
+    for name in sorted(os.listdir(os.path.join(ROOT, "docs", "man"))):
+        data = read("docs", "man", name).replace(b"@VERSION@", number.encode())
+        yield Entry("share/man/man%s/%s" % (name[-1], name), 0o644, data)
+    yield Entry("share/man/man8/mount.fuse.strata.8", 0o777, link="mount.strata.8")
+
+
+def completions():
+    for shell, folder in COMPLETIONS.items():
+        for name in sorted(os.listdir(os.path.join(ROOT, "packaging", "completions", shell))):
+            yield Entry("%s/%s" % (folder, name), 0o644, read("packaging", "completions", shell, name))
+
+
+def entries(program, python):
+    """All that is installed, in the order of paths: the program from this file, and what goes by this python3."""
+    number = version()
+    with open(program, "rb") as it:
+        found = [Entry("bin/strata", 0o755, it.read())]
+    found += [Entry(path, 0o755, launcher(path, module, words, python)) for path, module, words in PROGRAMS]
+    found.append(Entry("sbin/mount.fuse.strata", 0o777, link="mount.strata"))
+    found += [Entry("lib/strata/%s.py" % module, 0o644, read("tools", module + ".py")) for module in modules()]
+    found.append(Entry("lib/strata/version", 0o644, number.encode() + b"\n"))
+    return sorted([*found, *pages(number), *completions()])
+
+
+def folders(found):
+    """The folders in which files stand, those above before those below."""
+    every = set()
+    for entry in found:
+        above = os.path.dirname(entry.path)
+        while above:
+            every.add(above)
+            above = os.path.dirname(above)
+    return sorted(every)
+
+
+def moment():
+    """The time that every file of a package bears: SOURCE_DATE_EPOCH, or that of the commit."""
+    said = os.environ.get("SOURCE_DATE_EPOCH")
+    if said:
+        return int(said)
+    return int(subprocess.run(["git", "-C", ROOT, "log", "-1", "--format=%ct"], check=True, stdout=subprocess.PIPE).stdout)

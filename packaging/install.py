@@ -1,0 +1,86 @@
+"""Installs what `make build` has made, or takes it away: packaging/install.py PROGRAM DESTDIR PREFIX HELPERS [--remove]
+
+Files go below DESTDIR/PREFIX. mount(8) seeks its helpers in HELPERS alone (/sbin): where the prefix is another, links to
+them are made there, and where that may not be, this is said. Nothing is proved or built.
+"""
+import os
+import sys
+
+import files
+
+PYTHONS = ("/usr/bin/python3", os.path.realpath(sys.executable))
+LINKS = ("mount.strata", "mount.fuse.strata")
+OURS = "lib/strata"
+
+
+def write(place, entry):
+    """Writes a file beside its place and renames it, so that nobody meets half of one, or a program that is busy."""
+    beside = "%s.new-%d" % (place, os.getpid())
+    if entry.link is not None:
+        os.symlink(entry.link, beside)
+    else:
+        with open(os.open(beside, os.O_WRONLY | os.O_CREAT | os.O_EXCL, 0o600), "wb") as out:
+            out.write(entry.data)
+            os.fchmod(out.fileno(), entry.mode)
+    os.replace(beside, place)
+
+
+def make_folder(place):
+    """Makes a folder, and those above it, which all may enter."""
+    if not os.path.isdir(place):
+        make_folder(os.path.dirname(place))
+        os.mkdir(place)
+        os.chmod(place, 0o755)
+
+
+def helper_links(destdir, prefix, helpers):
+    """The links in the folder where mount(8) seeks helpers, each with what it leads to."""
+    if not helpers or prefix in ("/usr", "/") or os.path.realpath(os.path.join(prefix, "sbin")) == os.path.realpath(helpers):
+        return []
+    return [(destdir + helpers + "/" + name, os.path.join(prefix, "sbin", name)) for name in LINKS]
+
+
+def install(found, top, links):
+    for folder in files.folders(found):
+        make_folder(os.path.join(top, folder))
+    for entry in found:
+        write(os.path.join(top, entry.path), entry)
+    # modules of an earlier strata
+    kept = {os.path.basename(entry.path) for entry in found if os.path.dirname(entry.path) == OURS}
+    for name in os.listdir(os.path.join(top, OURS)):
+        if name.endswith(".py") and name not in kept:
+            os.unlink(os.path.join(top, OURS, name))
+    for place, target in links:
+        try:
+            make_folder(os.path.dirname(place))
+            write(place, files.Entry(place, 0o777, link=target))
+        except OSError as fault:
+            print("%s: %s; `mount -t strata` finds its helper only there" % (place, fault.strerror))
+
+
+def remove(found, top, links):
+    places = [os.path.join(top, entry.path) for entry in found]
+    places += [place for place, target in links if os.path.islink(place) and os.readlink(place) == target]
+    for place in places:
+        if os.path.lexists(place):
+            os.unlink(place)
+    ours = os.path.join(top, OURS)
+    if os.path.isdir(ours) and not os.listdir(ours):
+        os.rmdir(ours)
+
+
+def main(program, destdir, prefix, helpers, *words):
+    act = remove if words == ("--remove",) else install
+    if act is remove:
+        program = os.devnull
+    elif not os.path.exists(program):
+        sys.exit("%s is not there: make build, first" % program)
+    python = next(path for path in PYTHONS if os.path.exists(path))
+    prefix = os.path.abspath(prefix)
+    destdir = os.path.abspath(destdir) if destdir else ""
+    found, links = files.entries(program, python), helper_links(destdir, prefix, helpers)
+    act(found, destdir + prefix, links)
+
+
+if __name__ == "__main__":
+    main(*sys.argv[1:])

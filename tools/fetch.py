@@ -1,0 +1,104 @@
+"""Fetches an image from a registry by skopeo: only the layers that a store lacks.
+
+skopeo copies the image into a layout in the store's folder of new files. It doesn't fetch a blob that is
+there already; so for each layer that the store has, an empty file of its name and size stands there.
+"""
+import contextlib
+import ctypes
+import hashlib
+import os
+import re
+import secrets
+import shutil
+import signal
+import subprocess
+import sys
+
+from layout_images import layers_in
+from layout_writer import json_bytes
+from layouts import INDEXES, JSON_MOST, Layout, chosen, descriptor_of, field, parsed
+from refused import Refused, shown
+
+TRANSPORT = "docker://"
+TAG = "pulled"
+PR_SET_PDEATHSIG = 1
+MESSAGE = re.compile(r'level=fatal msg="((?:[^"\\]|\\.)*)"')
+libc = ctypes.CDLL(None)
+
+
+def end_with_parent():
+    """Lets a program end with the run that started it."""
+    libc.prctl(PR_SET_PDEATHSIG, signal.SIGKILL)
+
+
+def skopeo(*words):
+    """What skopeo prints; Refused with what it says where it fails. On a terminal it tells what it does."""
+    program = shutil.which("skopeo")
+    if program is None:
+        raise Refused("docker:// needs the program skopeo")
+    is_shown = words[0] == "copy" and sys.stderr is not None and sys.stderr.isatty()
+    done = subprocess.run([program, *words], stdin=subprocess.DEVNULL, stderr=subprocess.PIPE,
+                          stdout=sys.stderr if is_shown else subprocess.PIPE,
+                          preexec_fn=end_with_parent, check=False)
+    if done.returncode != 0:
+        said = done.stderr.decode(errors="replace").strip()
+        found = MESSAGE.search(said)
+        raise Refused("skopeo: %s" % (found[1].replace('\\"', '"') if found else said or done.returncode))
+    return done.stdout
+
+
+def split_reference(reference):
+    """`HOST/NAME`, and what is behind it: `:TAG`, `@DIGEST`, or nothing."""
+    name, at, digest = reference.partition("@")
+    if at:
+        return name.rpartition(":")[0] if ":" in name.rpartition("/")[2] else name, at + digest
+    slash = name.rfind("/")
+    colon = name.find(":", slash + 1)
+    return (name[:colon], name[colon:]) if colon > 0 else (name, "")
+
+
+class Reference:
+    """An image of a registry, as `HOST/NAME[:TAG]` or `HOST/NAME@DIGEST` says it."""
+
+    def __init__(self, reference):
+        self.name, self.rest = split_reference(reference)
+
+    def raw_manifest(self, rest):
+        """The manifest or index as the registry has it, and its digest."""
+        data = skopeo("inspect", "--raw", TRANSPORT + self.name + rest)
+        if len(data) > JSON_MOST:
+            raise Refused("%s: above %d bytes" % (shown(self.name + rest), JSON_MOST))
+        return data, "sha256:" + hashlib.sha256(data).hexdigest()
+
+    def manifest(self, asked):
+        """The manifest that is meant, and its digest."""
+        where = shown(self.name + self.rest)
+        data, digest = self.raw_manifest(self.rest)
+        value = parsed(data, where)
+        if value.get("mediaType") in INDEXES or "manifests" in value:
+            found = [descriptor_of(it, where) for it in field(value, "manifests", list, where)]
+            it = chosen(found, where, asked)
+            data, digest = self.raw_manifest("@%s:%s" % (it.algorithm, it.digits))
+            value = parsed(data, where)
+        return value, digest, where
+
+
+@contextlib.contextmanager
+def fetched(store, reference, asked, is_known):
+    """A layout with an image of a registry, and the digest of its manifest there. `is_known` tells of a
+    layer's descriptor whether the store has it; such a layer is an empty file of its size."""
+    it = Reference(reference)
+    manifest, digest, where = it.manifest(asked)
+    folder = os.path.join(store.place, "new", secrets.token_hex(8))
+    os.makedirs(os.path.join(folder, "blobs", "sha256"))
+    try:
+        for layer in layers_in(manifest, where):
+            if layer.algorithm == "sha256" and is_known(layer):
+                with open(os.path.join(folder, "blobs", "sha256", layer.digits), "wb") as out:
+                    out.truncate(layer.size)
+        with open(os.path.join(folder, "oci-layout"), "wb") as out:
+            out.write(json_bytes({"imageLayoutVersion": "1.0.0"}))
+        skopeo("copy", TRANSPORT + it.name + "@" + digest, "oci:%s:%s" % (folder, TAG))
+        yield Layout(folder), digest
+    finally:
+        shutil.rmtree(folder, ignore_errors=True)

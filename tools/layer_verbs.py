@@ -1,0 +1,148 @@
+"""The verbs of strata-layers: convert, pull, images, verify, remove, prune, config."""
+import argparse
+import os
+import sys
+import textwrap
+
+from convert import convert
+from image_config import config_lines, sandbox_words
+from layouts import platform_said
+from lost import Lost
+from open_layout import open_layout
+from packing import PACKINGS
+from pull import pull
+from store import Store, default_place
+from store_images import full_name, image_in, remove_image
+from store_upkeep import image_lines, prune, verified
+from version import command
+
+
+def platform_asked(text):
+    return text if text in (None, "all") else platform_said(text)
+
+
+def print_line(text):
+    sys.stdout.buffer.write(os.fsencode(text) + b"\n")
+
+
+def told(lost):
+    for line in lost.lines():
+        sys.stderr.write(line + "\n")
+
+
+def run_convert(asked):
+    layout, tag = open_layout(asked.layout)
+    asked.platform = platform_asked(asked.platform)
+    lost = Lost()
+    folder, tag = convert(Store(asked.store, make=True), layout, tag, asked.new_layout, asked, lost)
+    told(lost)
+    print_line("oci:%s:%s" % (folder, tag))
+    return 0
+
+
+def run_pull(asked):
+    platform = None if asked.platform is None else platform_said(asked.platform)
+    lost = Lost()
+    name, count, new = pull(Store(asked.store, make=True), asked.source, asked.name, platform, lost)
+    told(lost)
+    print_line("%s: %d layers, %d of them new" % (name, count, new))
+    return 0
+
+
+def run_images(asked):
+    for line in image_lines(Store(asked.store)):
+        print_line(line)
+    return 0
+
+
+def run_verify(asked):
+    is_right = True
+    for line in verified(Store(asked.store)):
+        is_right = False
+        print_line(line)
+    return 0 if is_right else 1
+
+
+def run_remove(asked):
+    store = Store(asked.store)
+    with store.locked():
+        remove_image(store, asked.name)
+    return 0
+
+
+def run_prune(asked):
+    store = Store(asked.store)
+    with store.locked():
+        print_line("%d layers taken away, %d bytes; %d are in use by a mount" % prune(store))
+    return 0
+
+
+def run_config(asked):
+    store = Store(asked.store)
+    config = image_in(store, full_name(store, asked.name)).config
+    if asked.form is not None:
+        print_line(sandbox_words(config, asked.form))
+        return 0
+    for line in config_lines(config):
+        print_line(line)
+    return 0
+
+
+HELP = {
+    "convert": "Writes an image layout whose layers are images of romfs, made of those of LAYOUT in the"
+               " same order. Layers are made in the store, each once, and copied from there. Prints the new"
+               " layout as skopeo names it.",
+    "pull": "Brings an image into the store, from a layout or, by skopeo, from a registry: only the layers"
+            " that are missing. Layers may be images of romfs or archives, which are converted. Without a"
+            " NAME it is the layout's folder, or the image's name in the registry without the host.",
+    "images": "Prints a line for each image: its name, how many layers it has, their bytes, and the digest of"
+              " its manifest.",
+    "verify": "Reads all layers, and prints a line for each whose digest is wrong or that is missing; then"
+              " the status is 1.",
+    "remove": "Takes the name of an image away; prune takes its layers away.",
+    "prune": "Takes away the layers that no image names and no mount uses.",
+    "config": "Prints entry point, command, environment, working folder and user of an image, as words of the"
+              " shell; or all of it as words for bwrap or podman run, to be used by eval.",
+}
+
+
+def parser():
+    it = argparse.ArgumentParser(prog=command("layers"))
+    verbs = it.add_subparsers(dest="verb", required=True)
+    parts = {verb: verbs.add_parser(verb, description=textwrap.fill(text, 100), help=text.split(";")[0],
+                                    formatter_class=argparse.RawDescriptionHelpFormatter)
+             for verb, text in HELP.items()}
+    for part in parts.values():
+        part.add_argument("--store", metavar="DIR", default=default_place(),
+                          help="where layers are kept (default: %(default)s)")
+    add_words(parts)
+    return it
+
+
+def add_words(parts):
+    """What each verb is asked."""
+    platform = "linux/ARCHITECTURE[/VARIANT]; by default this machine's"
+    parts["convert"].add_argument("--platform", metavar="PLATFORM", help=platform + "; all: every one")
+    parts["convert"].add_argument("--compress", dest="packing", choices=PACKINGS, default="",
+                                  help="pack layers; machines unpack them once, at pull")
+    parts["convert"].add_argument("layout", metavar="LAYOUT[:TAG]")
+    parts["convert"].add_argument("new_layout", metavar="LAYOUT2[:TAG2]")
+    parts["pull"].add_argument("--platform", metavar="PLATFORM", help=platform)
+    parts["pull"].add_argument("source", metavar="SOURCE", help="oci:LAYOUT[:TAG] or docker://HOST/NAME[:TAG]")
+    parts["pull"].add_argument("name", metavar="NAME[:TAG]", nargs="?")
+    for verb in ("remove", "config"):
+        parts[verb].add_argument("name", metavar="NAME[:TAG]")
+    form = parts["config"].add_mutually_exclusive_group()
+    form.add_argument("--bwrap", dest="form", action="store_const", const="bwrap",
+                      help="as the last words of bwrap")
+    form.add_argument("--podman", dest="form", action="store_const", const="podman",
+                      help="as words of podman run, before --rootfs")
+
+
+RUNS = {"convert": run_convert, "pull": run_pull, "images": run_images, "verify": run_verify,
+        "remove": run_remove, "prune": run_prune, "config": run_config}
+
+
+def run(words):
+    asked = parser().parse_args(words)
+    return RUNS[asked.verb](asked)

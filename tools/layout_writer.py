@@ -1,0 +1,161 @@
+"""Writes images into an OCI image layout, which is made where it isn't there.
+
+Blobs are written beside their place and renamed; the index, which names them, comes last. Two runs over
+one layout wait for one another.
+"""
+import contextlib
+import errno
+import fcntl
+import hashlib
+import json
+import os
+import re
+import secrets
+
+from layouts import REFERENCE, Layout, has_type, parsed
+from refused import Refused, shown
+from store_layers import write_all
+
+NEW = ".strata-"
+TAG = re.compile(r"[A-Za-z0-9](-?[A-Za-z0-9._:@/+-])*")
+FICLONE = 0x40049409
+PIECE = 1 << 26
+
+
+def split_new_name(word):
+    """The folder and the tag of `LAYOUT[:TAG]`, where LAYOUT need not be there: a tag has no slash."""
+    end = len(word)
+    while end > 0:
+        if os.path.isdir(word[:end]):
+            return word[:end], word[end + 1:] if end < len(word) else None
+        end = word.rfind(":", 0, end)
+    folder, colon, tag = word.rpartition(":")
+    return (folder, tag) if colon and folder and "/" not in tag else (word, None)
+
+
+def check_tag(tag):
+    if not has_type(tag, str) or not TAG.fullmatch(tag) or len(tag) > 128:
+        raise Refused("%s: no good tag" % shown(str(tag)))
+
+
+def copy_file(source, out):
+    """Copies an open file into a new one; where the file system can, the two share their blocks."""
+    with contextlib.suppress(OSError):
+        fcntl.ioctl(out, FICLONE, source)
+        return
+    at, size = 0, os.fstat(source).st_size
+    while at < size:
+        count = os.sendfile(out, source, at, PIECE)
+        if count == 0:
+            raise OSError(errno.EIO, os.strerror(errno.EIO))
+        at += count
+
+
+class LayoutWriter:
+    """A layout that is written to, by one run at a time."""
+
+    def __init__(self, folder):
+        self.folder, self.name = folder, shown(os.fsencode(folder))
+        with contextlib.suppress(FileExistsError):
+            os.mkdir(folder)
+        self.root = os.open(folder, os.O_RDONLY | os.O_DIRECTORY | os.O_CLOEXEC)
+        fcntl.flock(self.root, fcntl.LOCK_EX)
+        self.begin()
+        self.blobs = self.made("sha256", self.made("blobs", self.root))
+
+    def begin(self):
+        """Takes away what an interrupted run has left, and sees that the folder is a layout or empty."""
+        for name in os.listdir(self.root):
+            if name.startswith(NEW):
+                os.unlink(name, dir_fd=self.root)
+        if os.listdir(self.root):
+            Layout(self.folder)
+        else:
+            self.write(self.root, "oci-layout", json_bytes({"imageLayoutVersion": "1.0.0"}))
+
+    @staticmethod
+    def made(name, above):
+        with contextlib.suppress(FileExistsError):
+            os.mkdir(name, dir_fd=above)
+        return os.open(name, os.O_RDONLY | os.O_DIRECTORY | os.O_NOFOLLOW | os.O_CLOEXEC, dir_fd=above)
+
+    # --- files ---
+
+    @contextlib.contextmanager
+    def new_file(self):
+        name = NEW + secrets.token_hex(8)
+        flags = os.O_RDWR | os.O_CREAT | os.O_EXCL | os.O_NOFOLLOW | os.O_CLOEXEC
+        number = os.open(name, flags, 0o666, dir_fd=self.root)
+        try:
+            with os.fdopen(number, "w+b", 0) as file:
+                yield file, name
+        finally:
+            with contextlib.suppress(FileNotFoundError):
+                os.unlink(name, dir_fd=self.root)
+
+    def keep(self, file, name, folder, new_name):
+        os.fsync(file.fileno())
+        os.rename(name, new_name, src_dir_fd=self.root, dst_dir_fd=folder)
+
+    def write(self, folder, new_name, data):
+        with self.new_file() as (file, name):
+            write_all(file, data)
+            self.keep(file, name, folder, new_name)
+
+    def has(self, digits, size):
+        """Whether there is a blob of this size."""
+        try:
+            return os.stat(digits, dir_fd=self.blobs, follow_symlinks=False).st_size == size
+        except FileNotFoundError:
+            return False
+
+    # --- blobs ---
+
+    def document(self, media, value, **more):
+        """Writes an object as a blob; its descriptor."""
+        data = json_bytes(value)
+        digits = hashlib.sha256(data).hexdigest()
+        if not self.has(digits, len(data)):
+            self.write(self.blobs, digits, data)
+        return {"mediaType": media, "digest": "sha256:" + digits, "size": len(data), **more}
+
+    def copy_of(self, number, digits, size):
+        """Writes a blob that is an open file, whose digest has these digits."""
+        if not self.has(digits, size):
+            with self.new_file() as (file, name):
+                copy_file(number, file.fileno())
+                self.keep(file, name, self.blobs, digits)
+
+    def blob(self, pieces):
+        """Writes a blob; its digits and its size."""
+        found, size = hashlib.sha256(), 0
+        with self.new_file() as (file, name):
+            for data in pieces:
+                found.update(data)
+                size += len(data)
+                write_all(file, data)
+            self.keep(file, name, self.blobs, found.hexdigest())
+        return found.hexdigest(), size
+
+    # --- the index ---
+
+    def put_index(self, descriptor, tag):
+        """Names an image in the index, in the place of what had this tag."""
+        name = self.name + "/index.json"
+        try:
+            value = parsed(Layout(self.folder).small_file("index.json"), name)
+        except Refused:
+            if os.path.lexists(os.path.join(self.folder, "index.json")):
+                raise
+            value = {"schemaVersion": 2}
+        there = value.get("manifests", [])
+        if not has_type(there, list) or not all(has_type(it, dict) for it in there):
+            raise Refused("%s: no good 'manifests'" % name)
+        others = [it for it in there if (it.get("annotations") or {}).get(REFERENCE) != tag]
+        named = {**descriptor, "annotations": {REFERENCE: tag}}
+        self.write(self.root, "index.json", json_bytes({**value, "manifests": [*others, named]}))
+
+
+def json_bytes(value):
+    """The same bytes for the same value."""
+    return json.dumps(value, separators=(",", ":"), ensure_ascii=True).encode()

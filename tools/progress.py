@@ -1,0 +1,43 @@
+"""One line of progress, where standard error is a terminal and the work takes more than a second."""
+import os
+import sys
+import time
+
+FIRST_AFTER, NEXT_AFTER = 1.0, 0.2
+MEGABYTE = 1_000_000
+
+
+class Progress:
+    """Bytes of all. `add` tells how many more were read; `end` takes the line away."""
+
+    def __init__(self, what, total):
+        self.what, self.total, self.count = what, total, 0
+        try:
+            self.is_shown = os.isatty(sys.stderr.fileno())
+        except (OSError, ValueError, AttributeError):
+            self.is_shown = False
+        self.due, self.is_written = time.monotonic() + FIRST_AFTER, False
+
+    def add(self, count):
+        self.count += count
+        if self.is_shown and time.monotonic() >= self.due:
+            self.due, self.is_written = time.monotonic() + NEXT_AFTER, True
+            line = "%s: %d of %d MB" % (self.what, self.count // MEGABYTE, self.total // MEGABYTE)
+            sys.stderr.write("\r" + line + "\x1b[K")
+            sys.stderr.flush()
+
+    def end(self):
+        if self.is_written:
+            sys.stderr.write("\r\x1b[K")
+            sys.stderr.flush()
+            self.is_written = False
+
+    def __enter__(self):
+        return self
+
+    def __exit__(self, *_):
+        self.end()
+
+
+def unheard(_):
+    """What hears of bytes where nobody asks."""

@@ -1,0 +1,217 @@
+"""A store of layers: each layer once, as an image of romfs in a file that its digest names.
+
+    STORE/blobs/sha256/DIGITS   layers, which are never written to once they have this name
+    STORE/images/NAME:TAG       images, as JSON; a slash of the name is a % here
+    STORE/made/DIGEST           which layer was made of a blob of this digest
+    STORE/new/                  what is being written; who holds the lock may clear it
+    STORE/lock                  held by the one run that writes
+
+Files are written in STORE/new, and renamed when they are whole and on the disk. So whoever reads sees
+whole files alone, and needs no lock.
+"""
+import contextlib
+import errno
+import fcntl
+import hashlib
+import json
+import os
+import re
+import secrets
+import shutil
+import stat
+import sys
+
+from progress import unheard
+from refused import Refused, shown
+
+MARK, MARK_TEXT = "strata-store", b"1\n"
+DIGEST = re.compile(r"sha256:[0-9a-f]{64}")
+PIECE = 1 << 18
+SMALL_MOST = 8 << 20
+
+
+def default_place():
+    """Where the store is if nobody says."""
+    if os.geteuid() == 0:
+        return "/var/lib/strata"
+    home = os.environ.get("XDG_DATA_HOME", "")
+    if not os.path.isabs(home):
+        home = os.path.join(os.path.expanduser("~"), ".local", "share")
+    return os.path.join(home, "strata")
+
+
+def digits_of(digest, where):
+    """The digits of a digest that a file of the store says."""
+    if not isinstance(digest, str) or not DIGEST.fullmatch(digest):
+        raise Refused("%s: no good digest of a layer" % where)
+    return digest.partition(":")[2]
+
+
+def open_folder(name, above=None):
+    flags = os.O_RDONLY | os.O_DIRECTORY | os.O_CLOEXEC
+    return os.open(name, flags | (os.O_NOFOLLOW if above is not None else 0), dir_fd=above)
+
+
+def make_folder(name, above):
+    with contextlib.suppress(FileExistsError):
+        os.mkdir(name, dir_fd=above)
+    return open_folder(name, above)
+
+
+def file_digits(number, heard=unheard):
+    """The digits of the digest of an open file."""
+    found, at = hashlib.sha256(), 0
+    while True:
+        data = os.pread(number, PIECE, at)
+        if not data:
+            return found.hexdigest()
+        found.update(data)
+        heard(len(data))
+        at += len(data)
+
+
+class Store:
+    """The store in a folder, which is made where `make` says so; none but its owner may look into it.
+    Refused where there is none, or where the folder holds something else."""
+
+    def __init__(self, place, make=False):
+        self.place, self.name = os.path.abspath(place), shown(os.fsencode(place))
+        if make:
+            os.makedirs(self.place, 0o700, exist_ok=True)
+        try:
+            self.root = open_folder(self.place)
+        except (FileNotFoundError, NotADirectoryError):
+            raise Refused("%s: no store of layers" % self.name) from None
+        self.mark(make)
+        # without the right to write, a store can be read
+        opened = make_folder if make else open_folder
+        self.blobs = opened("sha256", opened("blobs", self.root))
+        self.images, self.records, self.new = (opened(it, self.root) for it in ("images", "made", "new"))
+
+    def mark(self, make):
+        """Sees that the folder is a store, or, where it is empty, makes it one: the mark comes first."""
+        fcntl.flock(self.root, fcntl.LOCK_EX if make else fcntl.LOCK_SH)
+        found = self.small_file(self.root, MARK)
+        if found is None and make and not os.listdir(self.root):
+            number = os.open(MARK, os.O_WRONLY | os.O_CREAT | os.O_EXCL | os.O_CLOEXEC, 0o644, dir_fd=self.root)
+            os.write(number, MARK_TEXT)
+            os.close(number)
+            found = MARK_TEXT
+        fcntl.flock(self.root, fcntl.LOCK_UN)
+        # a run that was killed may have left an empty mark
+        if found not in (MARK_TEXT, b""):
+            raise Refused("%s: no store of layers" % self.name)
+
+    @contextlib.contextmanager
+    def locked(self):
+        """Waits until no other run writes; then takes away what an interrupted one has left."""
+        flags = os.O_RDWR | os.O_CREAT | os.O_NOFOLLOW | os.O_CLOEXEC
+        number = os.open("lock", flags, 0o600, dir_fd=self.root)
+        try:
+            try:
+                fcntl.flock(number, fcntl.LOCK_EX | fcntl.LOCK_NB)
+            except BlockingIOError:
+                sys.stderr.write("%s: waiting for another run\n" % self.name)
+                fcntl.flock(number, fcntl.LOCK_EX)
+            self.clear()
+            yield
+        finally:
+            os.close(number)
+
+    def clear(self):
+        for name in os.listdir(self.new):
+            path = os.path.join(self.place, "new", name)
+            if stat.S_ISDIR(os.stat(name, dir_fd=self.new, follow_symlinks=False).st_mode):
+                shutil.rmtree(path, ignore_errors=True)
+            else:
+                os.unlink(name, dir_fd=self.new)
+
+    # --- files ---
+
+    @contextlib.contextmanager
+    def new_file(self):
+        """A new file and its name in STORE/new, where it doesn't stay."""
+        name = secrets.token_hex(8)
+        flags = os.O_RDWR | os.O_CREAT | os.O_EXCL | os.O_NOFOLLOW | os.O_CLOEXEC
+        number = os.open(name, flags, 0o600, dir_fd=self.new)
+        try:
+            with os.fdopen(number, "w+b", 0) as file:
+                yield file, name
+        finally:
+            with contextlib.suppress(FileNotFoundError):
+                os.unlink(name, dir_fd=self.new)
+
+    def keep(self, file, name, folder, new_name):
+        """Gives a file that is whole its place."""
+        os.fsync(file.fileno())
+        os.rename(name, new_name, src_dir_fd=self.new, dst_dir_fd=folder)
+        os.fsync(folder)
+
+    def write_small(self, folder, name, data):
+        with self.new_file() as (file, new_name):
+            file.write(data)
+            self.keep(file, new_name, folder, name)
+
+    def small_file(self, folder, name):
+        """The bytes of a small file, or None where there is none."""
+        try:
+            number = os.open(name, os.O_RDONLY | os.O_NOFOLLOW | os.O_NONBLOCK | os.O_CLOEXEC, dir_fd=folder)
+        except FileNotFoundError:
+            return None
+        except OSError as fault:
+            if fault.errno == errno.ELOOP:
+                raise Refused("%s: %s: is a symbolic link" % (self.name, shown(name))) from None
+            raise
+        with os.fdopen(number, "rb") as file:
+            if not stat.S_ISREG(os.fstat(number).st_mode):
+                raise Refused("%s: %s: no file" % (self.name, shown(name)))
+            return file.read(SMALL_MOST)
+
+    def small_json(self, folder, name):
+        """The object in a small file, or None where there is none."""
+        data = self.small_file(folder, name)
+        if data is None:
+            return None
+        try:
+            value = json.loads(data)
+        except (ValueError, RecursionError):
+            value = None
+        if not isinstance(value, dict):
+            raise Refused("%s: %s: no JSON object" % (self.name, shown(name)))
+        return value
+
+    # --- layers ---
+
+    def path_of(self, digits):
+        return os.path.join(self.place, "blobs", "sha256", digits)
+
+    def open_layer(self, digits):
+        """An open file of a layer, or None where it is missing."""
+        try:
+            number = os.open(digits, os.O_RDONLY | os.O_NOFOLLOW | os.O_NONBLOCK | os.O_CLOEXEC,
+                             dir_fd=self.blobs)
+        except FileNotFoundError:
+            return None
+        if not stat.S_ISREG(os.fstat(number).st_mode):
+            os.close(number)
+            raise Refused("%s: no file" % shown(os.fsencode(self.path_of(digits))))
+        return number
+
+    def size_of(self, digits):
+        """The size of a layer, or None where it is missing."""
+        number = self.open_layer(digits)
+        if number is None:
+            return None
+        try:
+            return os.fstat(number).st_size
+        finally:
+            os.close(number)
+
+    def keep_layer(self, file, name, digits):
+        """Gives a layer that is written its name; it can be read only."""
+        os.fchmod(file.fileno(), 0o444)
+        self.keep(file, name, self.blobs, digits)
+
+    def layers(self):
+        """The digits of all layers, in order."""
+        return sorted(it for it in os.listdir(self.blobs) if DIGEST.fullmatch("sha256:" + it))
