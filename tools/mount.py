@@ -124,7 +124,7 @@ def answers_first(plan, server):
     asking.start()
     if sys.stderr.isatty() and not plan.is_relayed():
         import mount_progress
-        mount_progress.watch(asking, server.pid, plan.name, plan.images)
+        mount_progress.watch(asking, server.pid, plan.images)
     asking.join()
     return told[0]
 

@@ -10,6 +10,7 @@ import struct
 import tarfile
 import zlib
 
+import dead_mounts
 from mount_progress import size_of
 from refused import shown
 
@@ -93,6 +94,8 @@ def unreadable(path):
     except IsADirectoryError:
         return "it is a folder; " + MAKE
     except OSError as fault:
+        if fault.errno in dead_mounts.GONE:
+            return dead_mounts.told(os.path.realpath(path), False)
         return fault.strerror.lower()
 
 

@@ -1,10 +1,9 @@
 """How far strata is with the images of a mount, as one line on a terminal, from a second on."""
 import os
-import sys
 
-PATIENCE, STEP = 1.0, 0.2
-MIB = 1 << 20
-BACK = "\r\x1b[K"
+from progress import Progress
+
+STEP = 0.2
 
 
 def size_of(path):
@@ -25,22 +24,10 @@ def read_by(process):
         return 0
 
 
-def line(name, done, total):
-    left = "" if done < total else ", they are checked and stacked"
-    return "%s: %d of %d MiB of images are read%s" % (name, min(done, total) // MIB, total // MIB, left)
-
-
-def watch(asking, server, name, images):
+def watch(asking, server, images):
     """Tells how far a server is until a thread has ended, which asks whether the mount answers."""
-    asking.join(PATIENCE)
-    if not asking.is_alive():
-        return
     total = sum(map(size_of, images))
-    try:
+    with Progress("images", total) as progress:
         while asking.is_alive():
-            sys.stderr.write(BACK + line(name, read_by(server), total))
-            sys.stderr.flush()
+            progress.add(min(read_by(server), total) - progress.count)
             asking.join(STEP)
-    finally:
-        sys.stderr.write(BACK)
-        sys.stderr.flush()

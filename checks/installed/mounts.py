@@ -105,9 +105,22 @@ def words(root):
     for said in ("workers=many", "strict=yes", "fd=3", "uid=-1"):
         hold("the status of -o %s" % said, WRONG_WORDS, root.run("mount", "-t", "strata", STACK, "/srv/made", "-o", said).status)
     hold("mounts", [], places())
+    owner(root)
     root.good("mount", "-s", "-t", "strata", STACK, "/srv/made", "-o", "nonsense")
     hold_stack(root, "/srv/made")
     return "%d words of fstab are taken, others are named" % (FSTAB_WORDS.count(",") + 1)
+
+
+def owner(root):
+    """uid= and gid= are whose all files are, where strata has an option for it, and else are said not to be had."""
+    done = root.run("mount", "-t", "strata", STACK, "/srv/made", "-o", "uid=7,gid=8")
+    if "--owner" in root.run("strata", "serve", "--help").err:
+        hold("-o uid=7,gid=8", (0, ""), (done.status, done.err))
+        hold("whose a file is", (7, 8), os.stat("/srv/made/etc/hostname")[4:6])
+        root.good("umount", "/srv/made")
+    else:
+        hold("-o uid=7,gid=8", WRONG_WORDS, done.status)
+        hold_in("-o uid=7,gid=8", "mount.strata: uid=, gid=: this strata has no --owner", done.err)
 
 
 def colons(root):
@@ -204,6 +217,9 @@ def dead(root):
     settle("no server is left", [], servers)
     killed(root, place, *background)
     hold_in("a folder below", "`umount %s` takes it away\n" % place, root.run(*background, "/srv/lower.romfs", place + "/var").err)
+    done = root.run(*background, place + "/image.romfs", "/mnt")
+    hold("an image in a dead mount", (1, "image 0: cannot be read\nstrata-mount: image 0 is %s/image.romfs: %s\n" % (place, said)),
+         (done.status, done.err))
     root.good("umount", place)
     root.good(*background, "--replace", "/srv/lower.romfs", place)
     root.good("umount", place)

@@ -146,7 +146,7 @@ def text_of(function):
     except LeftOut as missing:
         return "left out: %s" % missing
     except BaseException as wrong:
-        return "FAILED: %s" % (wrong if isinstance(wrong, Failed) else "".join(traceback.format_exception(wrong)))
+        return "FAILED: %s" % (wrong if isinstance(wrong, Failed) else traceback.format_exc())
 
 
 def forked(function):

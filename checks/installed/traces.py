@@ -110,7 +110,7 @@ def progress(root):
         except OSError:
             break
     hold("the status", 0, child.wait())
-    hold_in("the terminal", "strata-mount: 0 of 0 MiB of images are read", text.decode())
+    hold_in("the terminal", "images: 0 of 0 MB", text.decode())
     hold("the line is taken away", "\r\x1b[K", text.decode()[-4:])
     root.good("umount", place)
     return "one line on a terminal, taken away at the end; nothing in a log"
