@@ -3,8 +3,8 @@
 -- status 0.
 use Rattle.std.proofs.Common.{◌≡◌, ◌≢◌, ◌<◌, ◌≤◌, ◌∙◌, sym, ap, subst, refl, ℕ, ◌⊎◌, inl, inr, List, None, Result, Ok, Err, IfOk, IfErr, OnOk, MatchResult, IsErrAnd, arith, length, map, vec_len, Vec}
 use Rattle.std.proofs.lemmas.List.{length-map}
-use Rattle.serve_loop.specs.declared.stop.Stop.{Stop}
-use Rattle.serve_loop.specs.declared.stop.Stop.TheVariants as stops
+use Rattle.serve_core.specs.declared.stop.Stop.{Stop}
+use Rattle.serve_core.specs.declared.stop.Stop.TheVariants as stops
 use Rattle.command_line.specs.declared.options.Line.{Line}
 use Rattle.command_line.specs.declared.options.Verb.{Verb}
 use Rattle.command_line.specs.CommandLine.{IsLineOf}

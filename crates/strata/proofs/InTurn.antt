@@ -12,10 +12,12 @@ use Rattle.devices.specs.declared.counts.Pushes.{Pushes}
 use Rattle.devices.specs.Counting.{up, accepted}
 use Rattle.stack_table.specs.Stacked.{Stacked}
 use Rattle.reply_model.specs.declared.session.Session.{Session}
-use Rattle.serve_loop.specs.declared.stop.Stop.{Stop}
-use Rattle.serve_loop.specs.declared.stop.Stop.TheVariants.{Read, Write}
+use Rattle.serve_core.specs.declared.stop.Stop.{Stop}
+use Rattle.serve_core.specs.declared.stop.Stop.TheVariants.{Read, Write}
 use Rattle.serve_loop.specs.declared.done.Done.{Done}
-use Rattle.serve_loop.specs.Serving.{Trace}
+use Rattle.devices.specs.declared.limits.TheConstants.{MAX_TURNS}
+use Rattle.serve_loop.specs.Serving.{IsCounted, Trace}
+use Rattle.serve_core.proofs.Stops.{ended_well, read_told, write_told}
 use Rattle.strata.specs.declared.faults.Fault.{Fault}
 use Rattle.strata.specs.declared.faults.Fault.TheVariants.{Accept, InSession}
 use Rattle.strata.specs.Faults.{status_of}
@@ -281,18 +283,24 @@ module _ {A : Type 0} {first : Session} {stack : Stacked} where
 
   -- a session that was served to its end met it once, and neither side of it failed
   pub met_its_end : (t : Trace) (done : Done A) → IsSession first stack t (Ok done) → HasMetItsEnd t
-  met_its_end t done s = record {
-    ends = s.run.counted.ends ∙ ap (λ (p : Pulls). p.ends + 1) s.first_pull;
-    reads = s.run.counted.read ∙ ap (λ (p : Pulls). p.failures + 0) s.first_pull;
-    writes = s.run.counted.write ∙ ap (λ (p : Pushes). p.failures + 0) s.first_push;
-  }
+  met_its_end t done s =
+      let counted = subst (IsCounted MAX_TURNS t) (ended_well done s.run.ended s.run.result_is) s.run.run.counted in
+      record {
+        ends = counted.ends ∙ ap (λ (p : Pulls). p.ends + 1) s.first_pull;
+        reads = counted.read ∙ ap (λ (p : Pulls). p.failures + 0) s.first_pull;
+        writes = counted.write ∙ ap (λ (p : Pushes). p.failures + 0) s.first_push;
+      }
 
   -- one that a failed read or write ended counts that one failure
   pub failed_to_read : (t : Trace) → IsSession {A = A} first stack t (Err Read) → t.source.failures ≡ 1
-  failed_to_read t s = s.run.counted.read ∙ ap (λ (p : Pulls). p.failures + 1) s.first_pull
+  failed_to_read t s =
+      let counted = subst (IsCounted MAX_TURNS t) (read_told s.run.ended s.run.result_is) s.run.run.counted in
+      counted.read ∙ ap (λ (p : Pulls). p.failures + 1) s.first_pull
 
   pub failed_to_write : (t : Trace) → IsSession {A = A} first stack t (Err Write) → t.sink.failures ≡ 1
-  failed_to_write t s = s.run.counted.write ∙ ap (λ (p : Pushes). p.failures + 1) s.first_push
+  failed_to_write t s =
+      let counted = subst (IsCounted MAX_TURNS t) (write_told s.run.ended s.run.result_is) s.run.run.counted in
+      counted.write ∙ ap (λ (p : Pushes). p.failures + 1) s.first_push
 
 -- what the status of sessions tells, whatever they end with
 pub sessions_tell : (A : Type 0) (first : Session) (stack : Stacked) (count status : ℕ) (clients : Accepting)

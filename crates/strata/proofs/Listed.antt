@@ -4,8 +4,8 @@ use Rattle.std.proofs.Common.{◌≡◌, inl, inr, ℕ, List, Result, Ok, Err, I
 use Rattle.devices.specs.States.{SinkState}
 use Rattle.romfs_format.specs.declared.rule.Profile.{Profile}
 use Rattle.stack_table.specs.Stacked.{Stacked}
-use Rattle.serve_loop.specs.declared.stop.Stop.TheVariants as stops
-use Rattle.serve_core.specs.Preparing.{AreStacked}
+use Rattle.stack_prepare.specs.declared.refusal.Refusal.TheVariants as refusals
+use Rattle.stack_prepare.specs.Preparing.{AreStacked}
 use Rattle.path_list.specs.declared.walk.ListFault.{ListFault}
 use Rattle.path_list.specs.declared.walk.ListFault.TheVariants.{Write, Memory}
 use Rattle.path_list.specs.Faults.{IsBrokenOff}
@@ -21,6 +21,6 @@ pub list_stopped : {profile : Profile} {images : List (List ℕ)} {stack : Stack
 list_stopped old new (Ok u) fault s b e = absurd e
 list_stopped {stack = stack} old new (Err told) Write s b e = inr (record { told = e; stack = stack; stacked = s; broken = b })
 list_stopped old new (Err told) Memory s b e = inl (
-  record { stop = stops.Memory; told = e; refused = s.layers.few },
+  record { refusal = refusals.Memory; told = e; refused = s.layers.few },
   b,
 )

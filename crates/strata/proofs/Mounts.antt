@@ -10,7 +10,7 @@ use Rattle.fuse_device.specs.declared.source.MessageTap.{MessageTap}
 use Rattle.fuse_device.specs.Ends.{MountEnds, ends}
 use Rattle.fuse_device.specs.Spouts.{spout_gone}
 use Rattle.fuse_device.specs.Taps.{tap_gone}
-use Rattle.serve_loop.specs.declared.stop.Stop.TheVariants as stops
+use Rattle.serve_core.specs.declared.stop.Stop.TheVariants as stops
 use Rattle.strata.specs.declared.faults.Fault.{Fault}
 use Rattle.strata.specs.declared.faults.Fault.TheVariants.{Usage, ImageFile, RequestsFile, RepliesFile, BalancesFile, Bind, Accept, Broken, InSession, Stopped}
 use Rattle.strata.specs.Faults.{status_of, out_of_memory}

@@ -6,16 +6,16 @@ use Rattle.romfs_format.specs.declared.rule.Profile.TheVariants.{Usual, Strict}
 use Rattle.devices.specs.Counting.{no_pulls, no_pushes, no_accepts}
 use Rattle.devices.specs.Pushing.{HasFlushed, GainsFront}
 use Rattle.devices.specs.States.{SourceState, SinkState, Devices}
-use Rattle.fuse_wire.specs.declared.limits.TheConstants.{MAX_TURNS}
 use Rattle.stack_table.specs.Stacked.{Stacked}
-use Rattle.serve_loop.specs.declared.stop.Stop.{Stop}
+use Rattle.serve_core.specs.declared.stop.Stop.{Stop}
 use Rattle.serve_loop.specs.declared.done.Done.{Done}
-use Rattle.layer_check.specs.Layers.{AreRefused}
-use Rattle.serve_core.specs.Preparing.{AreStacked}
+use Rattle.stack_prepare.specs.declared.refusal.Refusal.{Refusal}
+use Rattle.stack_prepare.specs.Layers.{AreRefused}
+use Rattle.stack_prepare.specs.Preparing.{AreStacked}
 use Rattle.serve_loop.specs.Serving.{Trace}
 use Rattle.reply_model.specs.declared.session.Session.{Session}
 use Rattle.reply_model.specs.declared.session.Session.TheVariants.{Fresh, LastingFresh}
-use Rattle.serve_core.specs.Headline.{Serves}
+use Rattle.serve_core.specs.Stops.{stop_of_refusal}
 use Rattle.path_list.specs.declared.walk.ListFault.TheVariants.{Write}
 use Rattle.path_list.specs.Faults.{Lists, IsBrokenOff}
 use Rattle.command_line.specs.declared.options.Line.{Line}
@@ -27,7 +27,7 @@ use Rattle.strata.specs.declared.faults.Fault.{Fault}
 use Rattle.strata.specs.declared.faults.Fault.TheVariants.{ImageFile, RequestsFile, RepliesFile, BalancesFile, Bind, Accept, InSession, Stopped}
 use Rattle.strata.specs.Faults.{AreSizes, IsFirstFault, line_told_of, status_of, out_of_memory, write_failed}
 use Rattle.strata.specs.Texts.{size_lines}
-use Rattle.strata.specs.Sessions.{Accepting, AreServed, status_at}
+use Rattle.strata.specs.Sessions.{Accepting, AreServed, status_at, IsSession}
 
 -- the rules that a line holds images to
 abbrev pub profile_of : Line → Profile
@@ -98,9 +98,9 @@ pub record IsStackListed (profile : Profile) (images : List (List ℕ))
 -- why images are not stacked: one of them is to blame, or their number, or memory ran out
 pub record AreNotStacked (profile : Profile) (images : List (List ℕ))
     (fault : Fault) : Type 0 where
-  pub stop : Stop
-  pub told : fault ≡ Stopped stop
-  pub refused : AreRefused profile images stop
+  pub refusal : Refusal
+  pub told : fault ≡ Stopped (stop_of_refusal refusal)
+  pub refused : AreRefused profile images refusal
 
 -- the images are good, but the output failed as it took the lines of their paths
 pub record IsListLost (profile : Profile) (images : List (List ℕ)) (fault : Fault)
@@ -142,27 +142,22 @@ pub record GetsReplies {F : Type 0} (file : Option F) (t : Trace)
   pub took : file ≡ None → Took t old new
   pub kept : is_some file ≡ true → new ≡ old
 
--- a stream was served over the images, or refused for them, between devices that were new
-pub record IsServingBy {A : Type 0} (line : Line) (images : List (List ℕ)) (t : Trace)
-    (result : Result (Done A) Stop) : Type 0 where
-  pub serves : Serves (profile_of line) (first_of line) images MAX_TURNS t result
-  pub first_pull : t.source_before ≡ no_pulls
-  pub first_push : t.sink_before ≡ no_pushes
-
--- it came from the input and its replies went to the output, but where the line names a file in
--- place of one of them
-pub record IsServing {A : Type 0} (line : Line) (images : List (List ℕ)) (t : Trace)
+-- a stream was served over a stack, as a session of its own: it came from the input and its replies
+-- went to the output, but where the line names a file in place of one of them
+pub record IsServing {A : Type 0} (line : Line) (stack : Stacked) (t : Trace)
     (result : Result (Done A) Stop) (old new : Devices) : Type 0 where
-  pub by : IsServingBy line images t result
+  pub by : IsSession (first_of line) stack t result
   pub asks : Asks line.requests t result old.source new.source
   pub gains : GetsReplies line.replies t old.sink new.sink
 
--- it was served to its end
+-- the images are good, and the stream was served over their stack to its end
 pub record IsServedWhole (A : Type 0) (line : Line) (images : List (List ℕ))
     (old new : Devices) : Type 0 where
+  pub stack : Stacked
+  pub stacked : AreStacked (profile_of line) images stack
   pub trace : Trace
   pub done : Done A
-  pub serving : IsServing line images trace (Ok done) old new
+  pub serving : IsServing line stack trace (Ok done) old new
 
 -- a file that the line names could not be opened or created, and no device was touched
 pub record IsFileFault (line : Line) (fault : Fault) (old new : Devices) : Type 0 where
@@ -172,13 +167,16 @@ pub record IsFileFault (line : Line) (fault : Fault) (old new : Devices) : Type 
       ⊎ (((fault ≡ RepliesFile) × (is_some line.replies ≡ true))
       ⊎ ((fault ≡ BalancesFile) × (is_some line.balances ≡ true)))
 
--- serving stopped, and the fault says where
+-- the images are good, and the stream was served over their stack until it stopped; the fault says
+-- for what
 pub record IsServedInPart (A : Type 0) (line : Line) (images : List (List ℕ)) (fault : Fault)
     (old new : Devices) : Type 0 where
+  pub stack : Stacked
+  pub stacked : AreStacked (profile_of line) images stack
   pub trace : Trace
   pub stop : Stop
   pub told : fault ≡ Stopped stop
-  pub serving : IsServing {A = A} line images trace (Err stop) old new
+  pub serving : IsServing {A = A} line stack trace (Err stop) old new
 
 -- the stream was served to its end, but the balances could not be written to their file
 pub record AreBalancesLost (A : Type 0) (line : Line) (images : List (List ℕ)) (fault : Fault)
@@ -187,11 +185,12 @@ pub record AreBalancesLost (A : Type 0) (line : Line) (images : List (List ℕ))
   pub told : (fault ≡ write_failed) ⊎ (fault ≡ out_of_memory)
   pub served : IsServedWhole A line images old new
 
--- serving was not begun or not done, or its balances were not written
+-- serving was not begun, for a file or the images, or not done, or its balances were not written
 abbrev pub IsNotServed : (A : Type 0) → Line → List (List ℕ) → Fault → Devices → Devices → Type 0
 IsNotServed A line images fault old new =
     IsFileFault line fault old new
-    ⊎ (IsServedInPart A line images fault old new ⊎ AreBalancesLost A line images fault old new)
+    ⊎ ((AreNotStacked (profile_of line) images fault × (new ≡ old))
+    ⊎ (IsServedInPart A line images fault old new ⊎ AreBalancesLost A line images fault old new))
 
 -- ---- socket
 

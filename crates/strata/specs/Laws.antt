@@ -6,11 +6,11 @@ use Rattle.romfs_format.specs.Rules.{IsSoundAs}
 use Rattle.stack_table.specs.Stacked.{Stacked}
 use Rattle.reply_model.specs.declared.session.Session.{Session}
 use Rattle.romfs_format.specs.declared.rule.ImageFault.{ImageFault}
-use Rattle.serve_loop.specs.declared.stop.Stop.{Stop}
-use Rattle.serve_loop.specs.declared.stop.Stop.TheVariants.{Layer, Layers, BadLength, CutOff, Read, Write, Turns, Memory}
+use Rattle.serve_core.specs.declared.stop.Stop.{Stop}
+use Rattle.serve_core.specs.declared.stop.Stop.TheVariants.{Layer, Layers, BadLength, CutOff, Read, Write, Turns, Memory}
 use Rattle.serve_loop.specs.declared.done.Done.{Done}
 use Rattle.serve_loop.specs.Serving.{Trace}
-use Rattle.layer_check.specs.Layers.{IsFew}
+use Rattle.stack_prepare.specs.Layers.{IsFew}
 use Rattle.command_line.specs.declared.options.Line.{Line}
 use Rattle.command_line.specs.CommandLine.{IsLineOf}
 use Rattle.strata.specs.declared.faults.Fault.{Fault}

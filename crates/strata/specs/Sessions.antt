@@ -2,10 +2,10 @@
 use Rattle.std.specs.Prelude.{◌≡◌, ◌<◌, ◌+◌, ◌⊎◌, ℕ, List, [], ◌∷◌, length, Option, Some, None, Result, Ok, Err}
 use Rattle.devices.specs.declared.counts.Accepts.{Accepts}
 use Rattle.devices.specs.Counting.{no_pulls, no_pushes}
-use Rattle.fuse_wire.specs.declared.limits.TheConstants.{MAX_TURNS}
+use Rattle.devices.specs.declared.limits.TheConstants.{MAX_TURNS}
 use Rattle.stack_table.specs.Stacked.{Stacked}
 use Rattle.reply_model.specs.declared.session.Session.{Session}
-use Rattle.serve_loop.specs.declared.stop.Stop.{Stop}
+use Rattle.serve_core.specs.declared.stop.Stop.{Stop}
 use Rattle.serve_loop.specs.declared.done.Done.{Done}
 use Rattle.serve_loop.specs.Serving.{Trace}
 use Rattle.serve_core.specs.Headline.{IsRunOver}

@@ -3,7 +3,7 @@
 ghost use Rattle.std.specs.Prelude.{◌≡◌, ◌++◌, ◌∷◌, [], OnOk, IfSome};
 ghost use Rattle.std.specs.Io.KnownBytes.{Appends};
 ghost use Rattle.devices.specs.Pushing.{GainsFront};
-ghost use Rattle.strata.specs.Faults.{status_of, stop_status};
+ghost use Rattle.strata.specs.Faults.{out_of_memory, status_of, stop_status, write_failed};
 ghost use Rattle.strata.specs.Texts.{fault_text, stop_text};
 
 use crate::lines::write_bytes;
@@ -13,6 +13,7 @@ use image_files::FilesFault;
 use path_list::ListFault;
 use romfs_check::ImageFault;
 use serve_core::Stop;
+use stack_prepare::Refusal;
 use std::alloc::{AllocError, AllocFailed};
 use std::fmt::Write as _;
 use std::io::Write;
@@ -48,6 +49,20 @@ pub enum Fault {
 }
 
 impl Fault {
+    /// A write of the program's own lines failed.
+    pub(crate) fn write_failed() -> Fault
+        ensures { result ≡ write_failed }
+    {
+        Fault::Stopped(Stop::Write)
+    }
+
+    /// Memory ran out.
+    pub(crate) fn out_of_memory() -> Fault
+        ensures { result ≡ out_of_memory }
+    {
+        Fault::Stopped(Stop::Memory)
+    }
+
     /// The exit status that it ends the program with.
     pub fn status(&self) -> u8
         ensures { result ≡ status_of self.now }
@@ -228,6 +243,17 @@ impl From<ListFault> for Fault {
             ListFault::Write => Fault::Stopped(Stop::Write),
             ListFault::Memory => Fault::Stopped(Stop::Memory),
         }
+    }
+}
+
+impl From<Refusal> for Fault {
+    ghost use Rattle.serve_core.specs.Stops.{stop_of_refusal};
+    ghost use Rattle.strata.specs.declared.faults.Fault.TheVariants.{Stopped};
+
+    ghost from_gives = { λ refusal fault. fault ≡ Stopped (stop_of_refusal refusal) };
+
+    fn from(refusal: Refusal) -> Fault {
+        Fault::Stopped(Stop::from(refusal))
     }
 }
 

@@ -5,7 +5,7 @@ ghost use Rattle.command_line.specs.CommandLine.{IsTaken, IsMisnumbered, IsCross
 ghost use Rattle.command_line.specs.declared.options.Line.{Line};
 ghost use Rattle.command_line.specs.declared.options.Verb.TheVariants as verbs;
 ghost use Rattle.devices.specs.States.{Devices};
-ghost use Rattle.serve_loop.specs.declared.stop.Stop.TheVariants.{Read, Write};
+ghost use Rattle.serve_core.specs.declared.stop.Stop.TheVariants.{Read, Write};
 ghost use Rattle.strata.specs.Ending.{EndsWith, IsServedWhole, IsFileFault, IsDoneOver, first_of};
 ghost use Rattle.stack_table.specs.Stacked.{Stacked};
 ghost use Rattle.reply_model.specs.declared.session.Session.{Session};

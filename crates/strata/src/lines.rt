@@ -7,7 +7,6 @@ ghost use Rattle.strata.specs.Ending.{ArePut, IsLost};
 
 use crate::faults::Fault;
 use devices::{Sink, hand_on};
-use serve_core::Stop;
 use std::io::{self, Error, ErrorKind, Write};
 
 /// Puts lines to a sink, and flushes it where there are any. Where the sink fails it holds the
@@ -18,7 +17,7 @@ pub fn put_lines<K: Sink>(sink: &mut K, lines: &[u8]) -> Result<(), Fault>
     ensures err { IfErr result (λ fault.
         IsLost fault lines.now (K.state sink.old) (K.state sink.new)) }
 {
-    hand_on(sink, lines).map_err(|_| Fault::Stopped(Stop::Write))
+    hand_on(sink, lines).map_err(|_| Fault::write_failed())
 }
 
 /// Writes bytes, in one write where the writer takes them all. Where a write fails, or takes none,

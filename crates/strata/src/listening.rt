@@ -2,7 +2,7 @@
 
 ghost use Rattle.std.specs.Prelude.{◌≡◌, ◌⊎◌, is_some, true, IfOk, IfErr};
 ghost use Rattle.command_line.specs.CommandLine.{IsInLimits};
-ghost use Rattle.layer_check.specs.Layers.{contents_of};
+ghost use Rattle.stack_prepare.specs.Layers.{contents_of};
 ghost use Rattle.strata.specs.Ending.{profile_of, AreNotStacked, EndsAtSocket, IsNotBound};
 
 use crate::clients::sessions_from;
@@ -10,7 +10,7 @@ use crate::faults::Fault;
 use crate::settings::{first_of, plan_of, profile_of};
 use command_line::Line;
 use devices::Listening;
-use serve_core::{FreePass, prepare_as};
+use stack_prepare::{FreePass, prepare_as};
 use std::alloc::Allocator;
 use std::fs::{self, Files};
 use std::io::Write;

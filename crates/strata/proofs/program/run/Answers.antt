@@ -1,6 +1,6 @@
 use Rattle.std.proofs.Common.{List, ℕ, refl, subst}
 use Rattle.std.proofs.lemmas.Result.{IfOk-from_err}
-use Rattle.layer_check.specs.Layers.{contents_of}
+use Rattle.stack_prepare.specs.Layers.{contents_of}
 use Rattle.strata.specs.Ending.{AreGood, AreNotGood}
 use Rattle.command_line.specs.CommandLine.{IsLineOf}
 use Rattle.strata.proofs.Ended.{all_named, ended, unread}
