@@ -11,6 +11,7 @@ import json
 import os
 import re
 import secrets
+import stat
 
 from layouts import REFERENCE, Layout, has_type, parsed
 from refused import Refused, shown
@@ -105,9 +106,10 @@ class LayoutWriter:
     def has(self, digits, size):
         """Whether there is a blob of this size."""
         try:
-            return os.stat(digits, dir_fd=self.blobs, follow_symlinks=False).st_size == size
+            found = os.stat(digits, dir_fd=self.blobs, follow_symlinks=False)
         except FileNotFoundError:
             return False
+        return stat.S_ISREG(found.st_mode) and found.st_size == size
 
     # --- blobs ---
 

@@ -234,11 +234,19 @@ def find_images(plan):
     plan.images, plan.marks = store_images.mounted_words(plan.images, plan.store, plan.verify)
 
 
+def hold_images(plan):
+    """Looks that no image lies below the folder: strata would wait for itself to open it."""
+    for image in plan.images:
+        if os.path.realpath(image).startswith(os.path.join(os.path.realpath(plan.folder), "")):
+            raise OSError(0, "this image lies in the folder that it would be mounted on", image)
+
+
 def attempt(plan):
     """Mounts by a plan, or says why nothing can be mounted; the status to end with."""
     try:
         hold_folder(plan)
         find_images(plan)
+        hold_images(plan)
         if not shutil.which(plan.program):
             raise OSError(0, "no such program", plan.program)
         plan.folder, plan.program = os.path.realpath(plan.folder), os.path.abspath(shutil.which(plan.program))
@@ -265,8 +273,11 @@ def owner_of(options, program):
     """The words of `--owner`, which a strata must have for them."""
     if options.owner() is None:
         return None
-    told = subprocess.run([program, "serve", "--help"], stdin=subprocess.DEVNULL, stdout=subprocess.PIPE,
-                          stderr=subprocess.STDOUT)
+    try:
+        told = subprocess.run([program, "serve", "--help"], stdin=subprocess.DEVNULL, stdout=subprocess.PIPE,
+                              stderr=subprocess.STDOUT)
+    except OSError as fault:
+        raise Wrong("uid=, gid=: %s: %s" % (fault.filename, fault.strerror)) from None
     if b"--owner" not in told.stdout:
         raise Wrong("uid=, gid=: this strata has no --owner, and all is root's")
     return options.owner()

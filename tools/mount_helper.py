@@ -89,6 +89,7 @@ def looked_at(plan):
     try:
         mount.hold_folder(plan)
         mount.find_images(plan)
+        mount.hold_images(plan)
         for image in plan.images:
             with open(image, "rb"):
                 pass

@@ -52,7 +52,10 @@ def images(root):
     done = root.run("strata-mount", *["/srv/lower.romfs"] * 129, "/mnt")
     hold("129 images", (3, "layers: 129, allowed 1 to 128"), (done.status, done.err.splitlines()[0]))
     hold_in("129 images", "strata-mount: 129 images were named, and 128 can be stacked", done.err)
-    return "missing, a folder, cut off, empty, 129 images; by strata-mount and by mount"
+    done = root.run("strata-mount", "/srv/lower.romfs", "/srv")
+    hold("an image below the folder", (1, "strata-mount: /srv/lower.romfs: this image lies in the folder that it would be mounted "
+                                          "on\n"), (done.status, done.err))
+    return "missing, a folder, cut off, empty, 129 images, one below the folder; by strata-mount and by mount"
 
 
 def not_permitted(root):

@@ -2,8 +2,8 @@
 
 Each check is a function of a root (checks/installed/roots.py) that gives its line back, or raises Failed; what is missing
 here for one is said in its line. Expected values are of the images that went in, of mount(8)'s and fstab's own pages, and of
-the formats' magic numbers. It needs namespaces, an overlay and /dev/fuse; without them a line says that all is left out. The
-status is 0 where no check fails.
+the formats' magic numbers. It needs root, namespaces, an overlay and /dev/fuse; without them a line says that all is left out.
+The status is 0 where no check fails.
 """
 import os
 import sys
@@ -13,16 +13,25 @@ from checks.installed import faults, mounts, packages, pages, programs, traces
 from checks.installed.roots import apart
 
 CHECKS = (
-    programs.named, programs.alone, programs.links, pages.shown, pages.options, pages.shells, pages.words_of_fstab,
-    mounts.typed, mounts.by_fstab, mounts.words, mounts.colons, mounts.faked, mounts.by_user, mounts.dead, mounts.units,
-    traces.debug, traces.stats, traces.progress, faults.images, faults.not_permitted, faults.kinds, faults.rules, faults.dashes,
-    packages.package, packages.same_bytes, packages.archive, packages.uninstalled)
+    programs.named, pages.shown, pages.options, pages.shells, pages.words_of_fstab, packages.same_bytes, packages.uninstalled)
+# those that mount
+MOUNTING = (
+    programs.alone, programs.links, mounts.typed, mounts.by_fstab, mounts.words, mounts.colons, mounts.stored, mounts.faked, mounts.by_user,
+    mounts.dead, mounts.units, traces.debug, traces.stats, traces.progress, faults.images, faults.not_permitted, faults.kinds,
+    faults.rules, faults.dashes, packages.package, packages.archive)
 
 
 def main(program, wanted):
     passed = failed = 0
     with tempfile.TemporaryDirectory(prefix="installed-") as scratch:
-        for check in [it for it in CHECKS if it.__name__ in wanted or not wanted]:
+        no_root = apart(lambda root: "", program, scratch)
+        if no_root:
+            print("installed: %s" % no_root)
+            return not no_root.startswith("FAILED")
+        no_mounts = apart(mounts.tried, program, scratch)
+        if no_mounts:
+            print("installed: all that mounts is %s" % no_mounts)
+        for check in [it for it in CHECKS + MOUNTING * (not no_mounts) if it.__name__ in wanted or not wanted]:
             told = apart(check, program, scratch)
             print("%-14s %s" % (check.__name__, told), flush=True)
             failed += told.startswith("FAILED")

@@ -1,19 +1,31 @@
 """Mounts by mount(8) and by lines of /etc/fstab; dead mounts; units of systemd."""
 import os
 import re
+import shutil
 import signal
 import time
 
 from checks import ROOT
-from checks.installed.roots import LeftOut, hold, hold_in
+from checks.installed.roots import LeftOut, hold, hold_in, mount
 
 STACK = "/srv/lower.romfs:/srv/upper.romfs"
 MOUNTING = os.path.join(ROOT, "docs", "MOUNTING.md")
+DEVICE = "/dev/fuse"
 NOT_MOUNTED, WRONG_WORDS = 32, 1
 OTHER = 65534
 # every word of fstab(5) and mount(8) that says when, by whom, or how a file system of the usual kind is mounted
 FSTAB_WORDS = ("defaults,auto,nouser,nofail,_netdev,nonempty,async,relatime,nodiratime,lazytime,x-systemd.automount,"
                "x-systemd.requires=srv.mount,X-mount.mkdir,comment=of a tree,strict,workers=2,noexec,nosuid,nodev,allow_other")
+
+
+def tried(root):
+    """Nothing where /dev/fuse can be mounted here."""
+    try:
+        device = os.open(DEVICE, os.O_RDWR)
+    except OSError as fault:
+        raise LeftOut("%s: %s" % (DEVICE, fault.strerror)) from None
+    mount("strata", root.top + "/mnt", "fuse", 1, "fd=%d,rootmode=40000,user_id=0,group_id=0" % device)
+    return ""
 
 
 def places(kind="fuse.strata"):
@@ -62,6 +74,7 @@ def typed(root):
         hold("mount -t " + kind, "", root.good("mount", "-t", kind, STACK, "/mnt/tree"))
         hold_stack(root, "/mnt/tree")
         hold("findmnt", "%s fuse.strata\n" % STACK, root.good("findmnt", "-rno", "SOURCE,FSTYPE", "/mnt/tree"))
+        hold("ro", "ro", root.good("findmnt", "-rno", "OPTIONS", "/mnt/tree").split(",")[0])
         hold("a write", 1, root.run("touch", "/mnt/tree/x").status)
         hold("servers", 1, len(servers()))
         hold("umount", "", root.good("umount", "/mnt/tree"))
@@ -146,6 +159,29 @@ def colons(root):
     return "\\: is a colon, \\\\ a backslash, fstab's \\040 a space; names from the working folder"
 
 
+def stored(root):
+    """A container image of the store by fstab; its layers are in use as long as it is mounted."""
+    shutil.copytree(os.path.join(ROOT, "demo", "layout"), root.top + "/srv/layout")
+    root.install()
+    os.mkdir("/srv/tree")
+    hold("pull", 0, root.run("strata-layers", "pull", "oci:/srv/layout", "lantern").status)
+    fstab("image:lantern /srv/tree strata ro 0 0")
+    for _ in range(2):
+        root.good("mount", "-a")
+        hold("mounts", [("/srv/tree", "image:lantern")], places())
+    hold("a file", "beacon\n", root.good("cat", "/srv/tree/etc/hostname"))
+    root.good("strata-layers", "remove", "lantern")
+    hold_in("prune while it is mounted", "3 are in use by a mount", root.good("strata-layers", "prune"))
+    hold("a file", "beacon\n", root.good("cat", "/srv/tree/etc/hostname"))
+    root.good("umount", "/srv/tree")
+    settle("no server is left", [], servers)
+    hold_in("prune", "3 layers taken away", root.good("strata-layers", "prune"))
+    done = root.run("mount", "-a")
+    hold("an image that is gone", NOT_MOUNTED, done.status)
+    hold_in("an image that is gone", "mount.strata: ", done.err)
+    return "image:NAME by fstab; prune leaves its layers while it is mounted"
+
+
 def faked(root):
     """`mount -f` mounts nothing, and says what would not do."""
     root.install()
@@ -217,7 +253,8 @@ def dead(root):
     settle("no server is left", [], servers)
     killed(root, place, *background)
     hold_in("a folder below", "`umount %s` takes it away\n" % place, root.run(*background, "/srv/lower.romfs", place + "/var").err)
-    done = root.run(*background, place + "/image.romfs", "/mnt")
+    os.mkdir("/srv/other")
+    done = root.run(*background, place + "/image.romfs", "/srv/other")
     hold("an image in a dead mount", (1, "image 0: cannot be read\nstrata-mount: image 0 is %s/image.romfs: %s\n" % (place, said)),
          (done.status, done.err))
     root.good("umount", place)

@@ -11,8 +11,6 @@ SHARE = "/usr/local/share/"
 SUBCOMMANDS = ("check", "list", "serve", "socket")
 VERBS = ("convert", "pull", "images", "verify", "remove", "prune", "config")
 OPTION = re.compile(r"(?<![\w-])(--[a-z][a-z-]*|-[A-Za-z])(?![\w-])")
-# a short form that the parser of strata's words may give to --version
-CLAP = {"-V"}
 COMPLETED = {"bash": SHARE + "bash-completion/completions/%s", "zsh": SHARE + "zsh/site-functions/_%s",
              "fish": SHARE + "fish/vendor_completions.d/%s.fish"}
 
@@ -48,7 +46,7 @@ def of_help(text):
         front = re.match(r"\s{2,}(-\S.*?)(?:\s{2,}|$)", line)
         if front or line.startswith("usage:") or line.startswith("       "):
             found |= set(OPTION.findall(front[1] if front else line))
-    return found - CLAP
+    return found
 
 
 def helped(root, *words):

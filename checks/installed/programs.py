@@ -3,7 +3,8 @@ import os
 import re
 
 from checks import ROOT
-from checks.installed.roots import hold, hold_in
+from checks.installed.mounts import OTHER, STACK, hold_stack, places, servers, user
+from checks.installed.roots import LeftOut, hold, hold_in
 
 SOURCE = os.path.join(ROOT, "crates", "command_line", "src", "version.rt")
 LOGIC = "dac8208d650f15bf"
@@ -47,11 +48,29 @@ def alone(root):
     for name in ("/usr/local/bin/strata-mount", "/usr/local/bin/strata-layers", "/usr/local/sbin/mount.strata"):
         hold_in(name, version_of(name), root.good(name, "--version", cwd=folder, env=env))
     os.mkdir("/mnt/alone")
-    words = ("/usr/local/sbin/mount.strata", "/srv/lower.romfs:/srv/upper.romfs", "/mnt/alone")
+    words = ("/usr/local/sbin/mount.strata", STACK, "/mnt/alone")
     hold("the mount helper", "", root.good(*words, cwd=folder, env=env))
-    hold("what is mounted", "beacon\n", root.good("cat", "/mnt/alone/etc/hostname"))
+    hold_stack(root, "/mnt/alone")
+    server, = servers()
+    with open("/proc/%d/environ" % server, "rb") as it:
+        hold("the server's environment", [b"PATH", b""], [part.partition(b"=")[0] for part in it.read().split(b"\0")])
     root.good("umount", "/mnt/alone")
-    return "modules and programs of strangers in the working folder, PYTHONPATH and PATH are not met"
+    return "modules and programs of strangers in the working folder, PYTHONPATH and PATH are not met" + other_alone(root, words, env)
+
+
+def other_alone(root, words, env):
+    """The same for who is not root, for whom the helper starts fusermount3."""
+    try:
+        root.needs("fusermount3", "setpriv")
+        other = user(root)
+    except LeftOut as missing:
+        return "; left out for others than root: %s" % missing
+    os.chown("/mnt/alone", OTHER, OTHER)
+    command = ["/usr/bin/" + other[0], *other[1:], *words]
+    hold("the mount helper, for who is not root", "", root.good(*command, cwd="/tmp/stranger", env=env))
+    hold("mounts", [("/mnt/alone", STACK)], places())
+    root.good(*other, "umount", "/mnt/alone")
+    return ", by root and by others"
 
 
 def version_of(path):

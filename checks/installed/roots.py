@@ -1,6 +1,7 @@
 """A fresh root for each check: the system's own files under a folder in memory, without the repository, and a pid namespace.
 
-What a check writes is in memory and goes with it, as do the processes that it leaves. Who is not root gets a user namespace.
+What a check writes is in memory and goes with it, as do the processes that it leaves. It takes root: the system's files are
+root's, so that in a user namespace nothing could be installed among them.
 """
 import collections
 import ctypes
@@ -13,11 +14,11 @@ import traceback
 
 from checks import ROOT
 
-NEWNS, NEWUSER, NEWPID = 0x20000, 0x10000000, 0x20000000
+NEWNS, NEWPID = 0x20000, 0x20000000
 DEATH_SIGNAL = 1
 BIND, REC, PRIVATE = 0x1000, 0x4000, 0x40000
 # a check, and a command of it, that does not end is ended after so many seconds
-CHECK_SECONDS, SECONDS = 300, 100
+CHECK_SECONDS, SECONDS = 1200, 300
 PATH = "/usr/local/sbin:/usr/local/bin:/usr/sbin:/usr/bin:/sbin:/bin"
 # what dpkg and man write of their own accord
 SYSTEMS_OWN = ("/var/cache/", "/var/lib/dpkg/", "/var/log/", "/var/lib/systemd/", "/etc/ld.so.cache")
@@ -51,16 +52,6 @@ def called(status, what):
 def mount(source, place, kind=None, flags=0, words=None):
     parts = [None if it is None else os.fsencode(it) for it in (source, place, kind)]
     called(libc.mount(*parts, ctypes.c_ulong(flags), None if words is None else words.encode()), "mount of %s" % place)
-
-
-def become_root():
-    """Goes into namespaces of its own; who is not root, into one in which they are."""
-    user, group = os.geteuid(), os.getegid()
-    called(libc.unshare(NEWNS | NEWPID | (NEWUSER if user else 0)), "unshare")
-    if user:
-        for name, text in (("setgroups", "deny"), ("uid_map", "0 %d 1" % user), ("gid_map", "0 %d 1" % group)):
-            with open("/proc/self/" + name, "w", encoding="ascii") as out:
-                out.write(text)
 
 
 class Root:
@@ -165,14 +156,16 @@ def forked(function):
     signal.alarm(CHECK_SECONDS)
     with os.fdopen(source, "rb") as it:
         text = it.read().decode()
-    os.waitpid(child, 0)
+    _, status = os.waitpid(child, 0)
     signal.alarm(0)
-    return text or "FAILED: it was ended, after %d seconds at most" % CHECK_SECONDS
+    if os.waitstatus_to_exitcode(status):
+        return "FAILED: it was ended, after %d seconds at most" % CHECK_SECONDS
+    return text
 
 
 def apart(check, program, scratch):
     """What a check says of itself as the first process of a namespace, with whose end all others end."""
     def inside():
-        become_root()
+        called(libc.unshare(NEWNS | NEWPID), "namespaces")
         return forked(lambda: check(Root(program, tempfile.mkdtemp(dir=scratch))))
     return forked(inside)

@@ -73,6 +73,7 @@ def stats(root):
     hold("what strata-mount says", ("", 0), (process.communicate()[1], process.returncode))
     _, rows = table("/tmp/counts")
     hold("READs, errors of READs", (1, 0), tuple(rows["READ"][:2]))
+    hold("OPENs, which a kernel need not ask, as it is then told", (1, 1), tuple(rows["OPEN"][:2]))
     hold("bytes of a READ's request and of its reply", (80, 16 + 7), tuple(rows["READ"][2:]))
     hold("INITs", 1, rows["INIT"][0])
     hold("the sum", [sum(row[at] for name, row in rows.items() if name != "all") for at in range(4)], rows["all"])
@@ -95,22 +96,40 @@ def progress(root):
     slow, place = "/tmp/slow", "/mnt/slow"
     os.mkdir(place)
     with open(slow, "w", encoding="ascii") as out:
-        out.write("#!/bin/sh\nsleep 3\nexec /usr/local/bin/strata \"$@\"\n")
+        out.write("#!/bin/sh\nuntil [ -e /tmp/go ]; do sleep 0.1; done\nexec /usr/local/bin/strata \"$@\"\n")
     os.chmod(slow, 0o755)
     words = ["strata-mount", "--background", "--strata", slow, "/srv/lower.romfs", place]
-    hold("what a log holds", "", root.good(*words))
-    root.good("umount", place)
     ours, theirs = pty.openpty()
     child = subprocess.Popen(words, stdin=subprocess.DEVNULL, stderr=theirs)
     os.close(theirs)
     text = b""
-    while True:
-        try:
-            text += os.read(ours, 4096)
-        except OSError:
-            break
+    while b"images: 0 of 0 MB" not in text:
+        text += os.read(ours, 4096)
+    go()
+    text += rest_of(ours)
     hold("the status", 0, child.wait())
-    hold_in("the terminal", "images: 0 of 0 MB", text.decode())
-    hold("the line is taken away", "\r\x1b[K", text.decode()[-4:])
+    hold("the line is taken away", b"\r\x1b[K", text[-4:])
+    root.good("umount", place)
+    os.unlink("/tmp/go")
+    child = subprocess.Popen(words, stdin=subprocess.DEVNULL, stderr=subprocess.PIPE)
+    time.sleep(1.5)
+    go()
+    hold("what a log holds", (b"", 0), (child.communicate()[1], child.returncode))
     root.good("umount", place)
     return "one line on a terminal, taken away at the end; nothing in a log"
+
+
+def go():
+    """Lets the slow program begin."""
+    with open("/tmp/go", "wb"):
+        pass
+
+
+def rest_of(terminal):
+    """What is written to a terminal until nobody has it open."""
+    text = b""
+    while True:
+        try:
+            text += os.read(terminal, 4096)
+        except OSError:
+            return text

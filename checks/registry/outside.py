@@ -2,8 +2,10 @@
 import gzip
 import json
 import os
+import random
 import re
 import shlex
+import shutil
 import signal
 import socket
 import subprocess
@@ -13,7 +15,7 @@ import urllib.request
 
 from checks import ROOT
 from checks.registry import made
-from checks.registry.hostile import flip
+from checks.registry.hostile import flip, hold_after_end, large_layers
 from checks.registry.rooms import LAYERS, MOUNT, SECONDS, Failed, LeftOut, hold, needs
 
 HERE = os.path.dirname(os.path.abspath(__file__))
@@ -106,6 +108,12 @@ def push(room, registry, layout, name, *words):
 
 # --- another machine ---
 
+def needs_root():
+    """As root of a user namespace alone skopeo reads root's own files, and may not."""
+    if os.geteuid() != 0:
+        raise LeftOut("another machine is a namespace that root makes")
+
+
 OTHER = """
 set -e
 "$1" -B "$2" pull --store "$4" "$5" app:1 >&2
@@ -118,10 +126,10 @@ umount "$7"
 def on_another_machine(room, source):
     """What is seen of an image that is pulled and mounted in a mount namespace and store of its own."""
     needs("unshare", "umount")
+    needs_root()
     at = room.name()
     os.mkdir(at)
-    user = [] if os.geteuid() == 0 else ["-r"]
-    done = room.run("unshare", *user, "-m", "sh", "-c", OTHER, "sh", sys.executable, LAYERS, MOUNT, room.name(), source,
+    done = room.run("unshare", "-m", "sh", "-c", OTHER, "sh", sys.executable, LAYERS, MOUNT, room.name(), source,
                     room.strata, at, os.path.join(HERE, "tree.py"))
     if done.returncode != 0 and ("unshare" in done.stderr or "/dev/fuse" in done.stderr):
         raise LeftOut("no mounts in a namespace: %s" % done.stderr.strip())
@@ -133,10 +141,10 @@ def on_another_machine(room, source):
 def check_against_umoci(room):
     """Converted, pushed, pulled on another machine and mounted: what umoci unpacks."""
     needs("umoci")
+    needs_root()
     registry, source = Registry(room), made.layout(room.name())
     bundle = room.name()
-    user = [] if os.geteuid() == 0 else ["--rootless"]
-    room.ran("umoci", "unpack", *user, "--image", source.path + ":1", bundle)
+    room.ran("umoci", "unpack", "--image", source.path + ":1", bundle)
     wanted = json.loads(room.ran(sys.executable, "-B", os.path.join(HERE, "tree.py"), os.path.join(bundle, "rootfs")))
     hold("paths of the image", sorted(made.SHOWN), sorted("/" + it.lstrip(".") if it == "." else "/" + it for it in wanted))
     for number, packing in enumerate(([], ["--compress", "gzip"], ["--compress", "zstd"])):
@@ -198,6 +206,28 @@ def check_broken_registry(room):
     hold("left", [], os.listdir(os.path.join(room.store, "new")))
 
 
+def check_killed_while_it_fetches(room):
+    """Pulls from a registry that are killed at random moments: no skopeo goes on, and what stands there is right."""
+    registry, out, draw = Registry(room), room.name(), random.Random(5)
+    room.layers("convert", "--compress", "gzip", made.layout(room.name(), large_layers(4)).path, out, store=room.name())
+    push(room, registry, out + ":1", "app")
+    words = room.words("pull", "docker://%s/app" % registry.host)
+    begin = time.monotonic()
+    room.ran(*words)
+    length = time.monotonic() - begin
+    for number in range(20):
+        if number % 4 == 0:
+            shutil.rmtree(room.store, ignore_errors=True)
+        run = subprocess.Popen(words, stdout=subprocess.DEVNULL, stderr=subprocess.DEVNULL, env=room.environment)
+        time.sleep(draw.random() * length)
+        run.kill()
+        run.wait()
+        hold_after_end(room)
+    hold("pulled", "app:latest: 4 layers", room.ran(*words).partition(",")[0])
+    hold("verified", "", room.layers("verify"))
+    hold("left in the store", [], os.listdir(os.path.join(room.store, "new")))
+
+
 def check_platforms_of_a_registry(room):
     """All platforms are pushed; a machine pulls its own, or the one that it asks for."""
     registry, source, out = Registry(room), made.Layout(room.name()), room.name()
@@ -230,6 +260,7 @@ $b rm $c
 def check_built_by_buildah(room):
     """What buildah builds, converted and pulled on another machine, is what umoci unpacks; its configuration stays."""
     needs("buildah", "umoci")
+    needs_root()
     place = room.name()
     os.mkdir(place)
     done = room.run("sh", "-c", BUILT, "sh", place, os.path.join(HERE, "tree.py"))
@@ -237,7 +268,7 @@ def check_built_by_buildah(room):
         raise LeftOut("buildah doesn't build here: %s" % done.stderr.strip()[-300:])
     for tag in ("1", "2"):
         layout, bundle, out = os.path.join(place, "made:" + tag), room.name(), room.name()
-        room.ran("umoci", "unpack", *["--rootless"] * (os.geteuid() != 0), "--image", layout, bundle)
+        room.ran("umoci", "unpack", "--image", layout, bundle)
         wanted = json.loads(room.ran(sys.executable, "-B", os.path.join(HERE, "tree.py"), os.path.join(bundle, "rootfs")))
         room.layers("convert", layout, out)
         hold("made by buildah", wanted, on_another_machine(room, "oci:" + out))
@@ -306,10 +337,9 @@ GROUPS = "mount -t tmpfs tmpfs /run; umount -R /sys/fs/cgroup 2>/dev/null; mount
 
 
 def on_machine(room, registry, text):
-    user = [] if os.geteuid() == 0 else ["-r"]
     path = installed(room) + ":" + os.environ["PATH"]
     text = MACHINE % text.replace("HOST", registry.host)
-    done = room.run("unshare", *user, "-m", "sh", "-e", "-c", text, env={**room.environment, "PATH": path})
+    done = room.run("unshare", "-m", "sh", "-e", "-c", text, env={**room.environment, "PATH": path})
     if done.returncode == 99 or "unshare" in done.stderr:
         raise LeftOut("no namespace with mounts: %s" % done.stderr.strip())
     return done
@@ -318,6 +348,7 @@ def on_machine(room, registry, text):
 def begun(room):
     """A registry to which the commands of the page have brought an image, and what is printed for each machine."""
     needs("bwrap", "unshare")
+    needs_root()
     registry, (built, each, more) = Registry(room), printed_blocks()
     push(room, registry, shell_image(room.name()).path + ":1", "app:1")
     done = on_machine(room, registry, built)
@@ -353,4 +384,5 @@ def check_written_trees_as_printed(room):
 
 
 CHECKS = [check_against_umoci, check_back_unchanged, check_only_what_is_missing, check_broken_registry,
-          check_platforms_of_a_registry, check_built_by_buildah, check_commands_as_printed, check_written_trees_as_printed]
+          check_platforms_of_a_registry, check_killed_while_it_fetches, check_built_by_buildah,
+          check_commands_as_printed, check_written_trees_as_printed]

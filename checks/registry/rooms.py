@@ -45,7 +45,8 @@ class Room:
         self.strata, self.path, self.count = strata, tempfile.mkdtemp(prefix="registry-"), 0
         self.store, self.home = os.path.join(self.path, "store"), os.path.join(self.path, "home")
         os.mkdir(self.home)
-        self.environment = {**os.environ, "HOME": self.home, "PYTHONDONTWRITEBYTECODE": "1"}
+        self.environment = {**os.environ, "HOME": self.home, "XDG_RUNTIME_DIR": self.home,
+                            "PYTHONDONTWRITEBYTECODE": "1"}
         self.ends = []
 
     def name(self):
