@@ -1,8 +1,9 @@
-"""Sees that what README.md and docs/*.md name is there: python3 checks links
+"""Sees that what README.md and docs/*.md name is there, and that no paragraph is too long: python3 checks links
 
 Looked at are links and the headings that they lead to; paths from the root of the repository, and from the folder of a
 crate; file names alone, which some folder must have; `make TARGET`; and `python3 checks NAME`. In a path `*` stands for
-anything, and so does a word like NAME. It reads files alone. What is not there is a line each, and then the status is 1.
+anything, and so does a word like NAME. Paragraphs are those of paragraphs.py. It reads files alone. What is not there
+and what is too long is a line each, and then the status is 1.
 """
 import fnmatch
 import os
@@ -10,6 +11,7 @@ import re
 import sys
 
 from checks import ROOT, STARTED
+from checks.gate.paragraphs import long_paragraphs
 
 BUILT = (".git", "build", "out", "__pycache__")
 PAGES = ("README.md", *sorted("docs/" + name for name in os.listdir(ROOT + "/docs") if name.endswith(".md")))
@@ -84,13 +86,15 @@ def wrong_names(text, there):
 
 
 def main():
-    there, wrong = There(), []
+    there, wrong, long = There(), [], []
     for page in PAGES:
         text = read(page)
+        long += long_paragraphs(page, text)
         wrong += ["%s: %s" % (page, it) for it in [*wrong_links(page, text), *wrong_names(text, there)]]
     wrong += ["checks/__init__.py: %s" % path for path in STARTED if not there.has("checks/%s.py" % path)]
-    print("".join("%s is not there\n" % line for line in wrong) + "%d pages, %d names not there" % (len(PAGES), len(wrong)))
-    return 1 if wrong else 0
+    print("".join("%s is not there\n" % line for line in wrong) + "".join(line + "\n" for line in long)
+          + "%d pages, %d names not there, %d paragraphs too long" % (len(PAGES), len(wrong), len(long)))
+    return 1 if wrong or long else 0
 
 
 if __name__ == "__main__":
