@@ -1,4 +1,5 @@
 """`convert`: a layout whose layers are images of romfs, made of one whose layers are archives."""
+import hashlib
 import os
 
 from layout_images import PACKED_ROMFS, ROMFS, all_images, image_of
@@ -15,14 +16,16 @@ SOURCE = "vnd.strata.layer.source"
 PIECE = 1 << 18
 
 
-def pieces_of(number):
-    at = 0
-    while True:
-        data = os.pread(number, PIECE, at)
-        if not data:
-            return
+def pieces_of(layer, number, where, heard):
+    """The bytes of an open layer, in pieces; Refused at the end where its digest is wrong."""
+    found, at = hashlib.sha256(), 0
+    for data in iter(lambda: os.pread(number, PIECE, at), b""):
         at += len(data)
+        found.update(data)
+        heard(len(data))
         yield data
+    if found.hexdigest() != layer.digits:
+        raise Refused("%s: the layer sha256:%s has the digest sha256:%s" % (where, layer.digits, found.hexdigest()))
 
 
 class Converter:
@@ -67,15 +70,10 @@ class Converter:
         if found is not None and self.target.has(*found):
             return found
         with Progress("packed", layer.size) as progress:
-            found = self.target.blob(packed_pieces(heard_pieces(number, progress), self.packing))
+            pieces = pieces_of(layer, number, self.store.name, progress.add)
+            found = self.target.blob(packed_pieces(pieces, self.packing))
         self.maker.note_packed(layer, self.packing, found)
         return found
-
-
-def heard_pieces(number, progress):
-    for piece in pieces_of(number):
-        progress.add(len(piece))
-        yield piece
 
 
 def source_of(image, number):

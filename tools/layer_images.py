@@ -13,7 +13,9 @@ MARKER = b".wh."
 def path_of(name):
     """The names of a path: an absolute one begins at the layer's root, and `.` and empty names say
     nothing."""
-    names = tuple(part for part in name.split(b"/") if part not in (b"", b"."))
+    names = tuple(name.split(b"/"))
+    if b"" in names or b"." in names:
+        names = tuple(part for part in names if part not in (b"", b"."))
     if not name or b".." in names:
         raise Refused("%s: no path within a layer" % (shown(name) or "''"))
     return names

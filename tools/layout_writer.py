@@ -1,7 +1,8 @@
 """Writes images into an OCI image layout, which is made where it isn't there.
 
 Blobs are written beside their place and renamed; the index, which names them, comes last. Two runs over
-one layout wait for one another.
+one layout wait for one another. Nothing is waited for until it is on the disk, as in a store: whoever
+copies a layout looks at the digests, and it can be written again.
 """
 import contextlib
 import errno
@@ -94,14 +95,13 @@ class LayoutWriter:
             with contextlib.suppress(FileNotFoundError):
                 os.unlink(name, dir_fd=self.root)
 
-    def keep(self, file, name, folder, new_name):
-        os.fsync(file.fileno())
+    def keep(self, name, folder, new_name):
         os.rename(name, new_name, src_dir_fd=self.root, dst_dir_fd=folder)
 
     def write(self, folder, new_name, data):
         with self.new_file() as (file, name):
             write_all(file, data)
-            self.keep(file, name, folder, new_name)
+            self.keep(name, folder, new_name)
 
     def has(self, digits, size):
         """Whether there is a blob of this size."""
@@ -126,7 +126,7 @@ class LayoutWriter:
         if not self.has(digits, size):
             with self.new_file() as (file, name):
                 copy_file(number, file.fileno())
-                self.keep(file, name, self.blobs, digits)
+                self.keep(name, self.blobs, digits)
 
     def blob(self, pieces):
         """Writes a blob; its digits and its size."""
@@ -136,7 +136,7 @@ class LayoutWriter:
                 found.update(data)
                 size += len(data)
                 write_all(file, data)
-            self.keep(file, name, self.blobs, found.hexdigest())
+            self.keep(name, self.blobs, found.hexdigest())
         return found.hexdigest(), size
 
     # --- the index ---

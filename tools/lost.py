@@ -33,12 +33,17 @@ class Lost:
 
     def note_all(self, layer, entry, shown_mode):
         """Notes an entry that is shown with this mode."""
-        is_lost = {"owners": entry.uid or entry.gid, "times": entry.has_time,
-                   "attributes": entry.has_attributes,
-                   "modes": entry.kind != tars.SYMBOLIC and entry.mode != shown_mode}
-        for kind, lost in is_lost.items():
-            if lost:
-                self.note(kind, layer, entry)
+        if entry.uid or entry.gid:
+            self.note("owners", layer, entry)
+        if entry.has_time:
+            self.note("times", layer, entry)
+        if entry.has_attributes:
+            self.note("attributes", layer, entry)
+        if entry.mode != shown_mode and entry.kind != tars.SYMBOLIC:
+            self.note("modes", layer, entry)
+            self.note_opened(layer, entry, shown_mode)
+
+    def note_opened(self, layer, entry, shown_mode):
         if is_opened(entry, shown_mode):
             self.opened_count += 1
             if len(self.opened) < NAMED_MOST:

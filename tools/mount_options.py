@@ -1,4 +1,5 @@
 """The words of `-o`: those of fstab and mount(8), which say nothing of a mount, those of the kernel, and those of strata."""
+import re
 
 # what is set and cleared among the flags of mount(2); the kernel takes its other words as text
 SETS = {"ro": 1, "nosuid": 2, "nodev": 4, "noexec": 8, "noatime": 1024}
@@ -17,6 +18,9 @@ OWN = ("fd", "rootmode", "user_id", "group_id", "fsname", "subtype", "auto_unmou
 # strata's own words, and whether a number stands behind them
 STRATA = {"strict": False, "workers": True, "uid": True, "gid": True}
 
+# words stand between commas, but for those in quotation marks
+WORD = re.compile(r'(?:[^,"]|"[^"]*"?)+')
+
 
 class Wrong(Exception):
     """What is wrong with a word, as one line."""
@@ -27,7 +31,7 @@ class Options:
 
     def __init__(self, text):
         self.mount, self.strata, self.unknown = [], {}, []
-        for word in filter(None, text.split(",")):
+        for word in WORD.findall(text):
             self.add(word)
 
     def add(self, word):

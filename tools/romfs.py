@@ -55,8 +55,14 @@ def padded_name(name):
     return name + bytes(16 - len(name) % 16)
 
 
+# the words of names, by their length in bytes
+WORDS = {size: struct.Struct(">%dI" % (size // 4)) for size in range(16, NAME_MOST + 17, 16)}
+HEAD = struct.Struct(">4I")
+
+
 def words_sum(data):
-    return sum(struct.unpack(">%dI" % (len(data) // 4), data))
+    words = WORDS.get(len(data)) or struct.Struct(">%dI" % (len(data) // 4))
+    return sum(words.unpack(data))
 
 
 def header(next_, kind, spec, size, name):
@@ -64,7 +70,7 @@ def header(next_, kind, spec, size, name):
     ended = padded_name(name)
     first = next_ | kind
     total = first + spec + size + words_sum(ended)
-    return struct.pack(">4I", first, spec, size, -total & 0xffffffff) + ended
+    return HEAD.pack(first, spec, size, -total & 0xffffffff) + ended
 
 
 def path_text(path):
@@ -81,6 +87,8 @@ class Image:
         self.at = 0
         self.put(b"-rom1fs-" + bytes(8) + padded_name(name))
         self.root = Node(DIRECTORY, True, self.at, spec=self.at)
+        # the directory that something came into last, and whose names were looked at
+        self.last, self.last_path = self.root, ()
         self.put(self.root_headers(0))
 
     # --- bytes ---
@@ -131,6 +139,8 @@ class Image:
 
     def directory_at(self, path):
         """The directory at a path; it is made, with those above it, where nothing is there."""
+        if path == self.last_path:
+            return self.last
         node = self.root
         for depth, name in enumerate(path):
             below = node.members.get(name)
@@ -139,13 +149,21 @@ class Image:
             if not isinstance(below, Node) or below.kind != DIRECTORY:
                 raise Refused("%s: no directory, and something stands below it" % path_text(path[:depth + 1]))
             node = below
+        self.last, self.last_path = node, path
         return node
+
+    def set_member(self, above, name, it):
+        """Puts a node or a link into a directory, in the place of what had this name."""
+        old = above.members.get(name)
+        if isinstance(old, Node) and old.kind == DIRECTORY:
+            self.last, self.last_path = self.root, ()
+        above.members[name] = it
 
     def new_directory(self, above, path, executable):
         at = self.claim(path, 64)
         node = Node(DIRECTORY, executable, at, spec=at + 16 + len(padded_name(path[-1])))
         self.put(self.headers(path[-1], node, 0, above, 0))
-        above.members[path[-1]] = node
+        self.set_member(above, path[-1], node)
         return node
 
     def found(self, path):
@@ -168,13 +186,12 @@ class Image:
                 return True
         return False
 
-    @staticmethod
-    def check(path):
+    def check(self, path):
         if not path:
             raise Refused("the root must be a directory")
         if len(path) > NAMES_MOST:
             raise Refused("%s: a path of %d names, at most %d are held" % (path_text(path), len(path), NAMES_MOST))
-        for name in path:
+        for name in path[-1:] if path[:-1] == self.last_path else path:
             if not name or b"/" in name or b"\0" in name or name in (b".", b".."):
                 raise Refused("%s: no image holds the name '%s'" % (path_text(path), shown(name)))
             if len(name) > NAME_MOST:
@@ -191,7 +208,7 @@ class Image:
         if self.at - begin != node.size:
             raise Refused("%s: %d bytes are there, and %d were said" % (path_text(path), self.at - begin, node.size))
         self.put(padding(node.size))
-        above.members[path[-1]] = node
+        self.set_member(above, path[-1], node)
 
     # --- entries ---
 
@@ -247,7 +264,7 @@ class Image:
         link = Link(self.claim(path, 0), found if found is not None else target)
         spec = found.at if isinstance(found, Node) else 0
         self.put(header(0, HARD, spec, 0, path[-1]))
-        above.members[path[-1]] = link
+        self.set_member(above, path[-1], link)
 
     # --- the end ---
 

@@ -36,34 +36,27 @@ class Maker:
         """The layer of these digits, where it is there with this size."""
         return StoredLayer(digits, size) if self.store.size_of(digits) == size else None
 
-    def known(self, it, archive):
-        """The layer that was made of a blob, where it is there; or None."""
+    def made_of(self, it):
+        """The layer that was made of a blob, where it is there, and the digest of what the blob unpacks to,
+        where that is known; else twice None."""
         if PACKED_ROMFS.get(it.media) == "" and it.algorithm == "sha256":
-            found = self.stored(it.digits, it.size)
-            return found and self.fitting(found, it, "sha256:" + it.digits, archive)
+            return self.stored(it.digits, it.size), "sha256:" + it.digits
         value = self.store.small_json(self.store.records, record_name(it))
         if value is None or value.get("maker") != MAKER:
-            return None
+            return None, None
         where = "%s: %s" % (self.store.name, record_name(it))
-        found = self.stored(digits_of(value.get("layer"), where), value.get("size"))
-        return found and self.fitting(found, it, value.get("archive"), archive)
+        return self.stored(digits_of(value.get("layer"), where), value.get("size")), value.get("archive")
 
     def has_made(self, it):
-        """Whether the layer of a blob is there, whatever an image says of it."""
-        if PACKED_ROMFS.get(it.media) == "" and it.algorithm == "sha256":
-            return self.stored(it.digits, it.size) is not None
-        value = self.store.small_json(self.store.records, record_name(it)) or {}
-        if value.get("maker") != MAKER:
-            return False
-        return self.stored(digits_of(value.get("layer"), record_name(it)), value.get("size")) is not None
+        """Whether the layer of a blob is there."""
+        return self.made_of(it)[0] is not None
 
     @staticmethod
-    def fitting(found, it, unpacked, archive):
-        """The layer, if what the blob unpacks to, where that is known, is what an image says of it."""
+    def hold_unpacked(it, unpacked, archive):
+        """Sees that what a blob unpacks to, where that is known, is what an image says of it."""
         if unpacked not in (None, archive):
             raise Refused("blob %s: unpacked its digest is %s, and the image's configuration says %s"
                           % (digest_of(it), shown(str(unpacked)), shown(archive)))
-        return found
 
     def note(self, name, layer, archive):
         """Notes that a layer was made of the blob that a record is named by."""
@@ -90,8 +83,9 @@ class Maker:
     def layer(self, layout, image, number):
         """A layer of an image; it is brought into the store where it isn't there."""
         it, archive = image.layers[number], image.archives[number]
-        found = self.known(it, archive)
+        found, unpacked = self.made_of(it)
         if found is not None:
+            self.hold_unpacked(it, unpacked, archive)
             layout.heard(it.size)
             return found
         with self.store.new_file() as (file, name):
@@ -101,7 +95,7 @@ class Maker:
                 digits = file_digits(file.fileno())
             else:
                 digits = unpack_layer(layout, number, it, file)
-                self.fitting(True, it, "sha256:" + digits, archive)
+                self.hold_unpacked(it, "sha256:" + digits, archive)
             made = StoredLayer(digits, os.fstat(file.fileno()).st_size)
             if self.stored(*made) is None:
                 self.store.keep_layer(file, name, digits)

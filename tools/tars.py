@@ -29,6 +29,8 @@ DECIMAL = re.compile(rb"-?[0-9]{1,18}(\.[0-9]*)?")
 class Entry:
     """An entry of an archive: its name and link as they stand there, and of a file its data as pieces."""
 
+    __slots__ = ("kind", "name", "link", "mode", "uid", "gid", "size", "major", "minor", "has_time", "has_attributes", "data")
+
     def __init__(self, kind, name, link):
         self.kind, self.name, self.link = kind, name, link
         self.mode = self.uid = self.gid = self.size = self.major = self.minor = 0
@@ -48,7 +50,9 @@ def number(field, what):
     if field[0] & 0x80:
         value = int.from_bytes(field, "big")
         return value - (1 << 8 * len(field)) if field[0] & 0x40 else value - (0x80 << 8 * len(field) - 8)
-    digits = text(field).strip(b" ") or b"0"
+    digits = field.rstrip(b"\0 ")
+    if not digits.isdigit():
+        digits = text(field).strip(b" ") or b"0"
     try:
         if digits.isdigit():
             return int(digits, 8)
@@ -138,11 +142,13 @@ class Tar:
             yield data
 
     def pass_over(self):
-        for _ in self.pieces():
-            pass
+        if self.left:
+            for _ in self.pieces():
+                pass
         # an archive that isn't ended, as umoci insert writes it, may lack the last zeros
-        self.taken(self.zeros)
-        self.zeros = 0
+        if self.zeros:
+            self.taken(self.zeros)
+            self.zeros = 0
 
     def special(self, size):
         """The data of an extended header or of a long name."""

@@ -59,6 +59,10 @@ def check_verify(room):
     hold("lines", (1, 2), (done.returncode, len(lines)))
     hold("wrong", True, lines[0].startswith(first + ": its digest is sha256:") and "needed by a:1" in lines[0])
     hold("missing", "sha256:%s: missing; needed by a:1" % os.path.basename(second), lines[1])
+    other = room.name()
+    shutil.copytree(room.store, other)
+    room.refused("%s: the layer sha256:%s has the digest sha256:.." % (other, os.path.basename(first)),
+                 "convert", "--compress", "gzip", source.path, room.name(), store=other)
     os.unlink(first)
     hold("again", "a:1: 5 layers, 2 of them new\n", room.layers("pull", "oci:" + source.path, "a:1"))
     hold("verified", "", room.layers("verify"))

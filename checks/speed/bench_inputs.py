@@ -238,6 +238,32 @@ def lookups_of_long_names(count=65_000):
             of_requests(lambda unique, it: lookup(unique, 1, b"q" * 249 + b"%06d" % it), wanted))
 
 
+# what the words of a name of 24 bytes are multiplied by before their sum is its hash (`hashed` of name_keys)
+FIRST, MIDDLE, LAST = 0xff51_afd7_ed55_8ccd, 0xc4ce_b9fe_1a85_ec53, 0xd6e8_feb8_6659_fd93
+
+
+def names_of_one_hash(count):
+    """Names of 24 bytes, each with the last word that makes this sum 0."""
+    found, number, undone = [], 0, pow(LAST, -1, 1 << 64)
+    while len(found) < count:
+        word = b"%08d" % number
+        last = -int.from_bytes(word, "little") * (FIRST + MIDDLE) * undone % (1 << 64)
+        name = word * 2 + last.to_bytes(8, "little")
+        if b"\0" not in name and b"/" not in name:
+            found.append(name)
+        number += 1
+    return found
+
+
+def lookups_of_one_hash(count=65_000):
+    """LOOKUPs of names of 24 bytes; of as many that have one hash."""
+    rng = random.Random(1)
+    others, alike = [b"%08d" % number * 3 for number in range(count)], names_of_one_hash(count)
+    wanted = [rng.randrange(count) for _ in range(3 * count)]
+    return (laid_out(chained("regular", others + alike)), of_requests(lambda unique, it: lookup(unique, 1, others[it]), wanted),
+            of_requests(lambda unique, it: lookup(unique, 1, alike[it]), wanted))
+
+
 def reads_at_odd_offsets(count=2000):
     """READs of 1 MiB at multiples of 4,096; at odd offsets."""
     rng = random.Random(1)
@@ -265,7 +291,8 @@ def smallest_messages(count=1_000_000):
 
 
 STREAMS = {it.__name__: it for it in (
-    rows_from_each_offset, lookups_of_long_names, reads_at_odd_offsets, batches_of_forgets, smallest_messages)}
+    rows_from_each_offset, lookups_of_long_names, lookups_of_one_hash, reads_at_odd_offsets, batches_of_forgets,
+    smallest_messages)}
 
 
 # --- files of them ---

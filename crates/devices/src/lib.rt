@@ -4,6 +4,8 @@
 //!   are known, and keep counts of their calls, ends and failures, so that a promise can say of a
 //!   failure that it was the device's.
 //! - [`Tap`] is a source over any reader of std, [`Spout`] a sink over any writer.
+//! - [`Clients`] give one client after another, and count them and their failures; [`Listening`]
+//!   is those of a listener of std.
 //! - [`hand_on`] pushes all of some bytes to a sink, and then flushes it.
 //! - [`limits`] has the most bytes of a pull, and the most pulls.
 //!
@@ -11,6 +13,7 @@
 //! No call takes memory beyond what the reader or writer takes. The crate stands on std alone.
 #![tactic(auto)]
 
+mod clients;
 pub mod counts;
 pub mod examples;
 pub mod failed;
@@ -19,7 +22,8 @@ mod push;
 mod sink;
 mod source;
 
-pub use counts::{LastPull, Pulls, Pushes};
+pub use clients::{Clients, Listening};
+pub use counts::{Accepts, LastPull, Pulls, Pushes};
 pub use failed::Failed;
 pub use push::hand_on;
 pub use sink::{Sink, Spout};

@@ -22,32 +22,6 @@ pub(crate) fn slots_for(keys: usize) -> usize
     keys.saturating_mul(SLOTS_A_KEY).min(MAX_SLOTS)
 }
 
-// Where a key falls among this many slots. Small multiples of 16, as places of headers are, have
-// slots of their own.
-fn slot_of(key: u64, slots: usize) -> usize
-    requires { slots < 2 ^ 32 }
-    ensures { result ≡ slot_of key slots }
-{
-    if key / 16 < slots as u64 {
-        return (key / 16) as usize;
-    }
-    let (upper, lower) = (key / 0x1_0000_0000, key % 0x1_0000_0000);
-    let mixed = (lower * 0x9e37_79b1 + upper * 0x85eb) % 0x1_0000_0000;
-    (mixed * slots as u64 / 0x1_0000_0000) as usize
-}
-
-// A key falls into a slot.
-fn fall<A: Allocator>(some: &mut SlotSet<A>, crowded: &mut SlotSet<A>, slot: usize)
-    requires some { slot < length some.old }
-    requires crowded { slot < length crowded.old }
-    ensures { Falls some.old crowded.old slot some.new crowded.new }
-{
-    if some.contains(slot) {
-        crowded.insert(slot);
-    }
-    some.insert(slot);
-}
-
 /// The slots, of this many, into which more than one of these keys fell.
 pub(crate) fn crowded<A: Allocator + Copy>(
     alloc: A,
@@ -77,4 +51,30 @@ pub(crate) fn is_alone<A: Allocator>(crowded: &SlotSet<A>, slots: usize, key: u6
 {
     let slot = slot_of(key, slots);
     slot < slots && !crowded.contains(slot)
+}
+
+// Where a key falls among this many slots. Small multiples of 16, as places of headers are, have
+// slots of their own.
+fn slot_of(key: u64, slots: usize) -> usize
+    requires { slots < 2 ^ 32 }
+    ensures { result ≡ slot_of key slots }
+{
+    if key / 16 < slots as u64 {
+        return (key / 16) as usize;
+    }
+    let (upper, lower) = (key / 0x1_0000_0000, key % 0x1_0000_0000);
+    let mixed = (lower * 0x9e37_79b1 + upper * 0x85eb) % 0x1_0000_0000;
+    (mixed * slots as u64 / 0x1_0000_0000) as usize
+}
+
+// A key falls into a slot.
+fn fall<A: Allocator>(some: &mut SlotSet<A>, crowded: &mut SlotSet<A>, slot: usize)
+    requires some { slot < length some.old }
+    requires crowded { slot < length crowded.old }
+    ensures { Falls some.old crowded.old slot some.new crowded.new }
+{
+    if some.contains(slot) {
+        crowded.insert(slot);
+    }
+    some.insert(slot);
 }

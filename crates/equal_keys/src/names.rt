@@ -37,6 +37,30 @@ pub fn hash_of(name: &[u8]) -> u64
     }
 }
 
+/// The classes of the numbers below this one by their names, each a number, with one more for none;
+/// None only where no two of them have one name.
+///
+/// A name that one number alone has may be left out, and a number may be given twice: then there
+/// may be classes though all names differ. `AllocError` comes only where memory was refused.
+pub fn classes<'a, A: Allocator + Copy>(
+    alloc: A,
+    named: Vec<NumberedName<'a>, A>,
+    count: usize,
+) -> Result<Option<Vec<u32, A>>, AllocError>
+    requires few { count < 2 ^ 32 }
+    requires named { (name : ℕ → Option (List ℕ)) × HoldTheShared name count named.items }
+    ensures { IfOk result (λ classes. (name : ℕ → Option (List ℕ))
+        → HoldTheShared name count named.entry.items
+        → MatchOption classes (AreNamesApart name count)
+        (λ some. AreClasses name count some.items)) }
+{
+    let named = sorted(named);
+    if !has_alike(&named) {
+        return Ok(None);
+    }
+    Ok(Some(classes_in_order(alloc, &named, count)?))
+}
+
 // Two numbers, mixed to one.
 fn mix(first: u64, last: u64) -> u64
     ensures { result ≡ mixed first last }
@@ -108,28 +132,4 @@ fn classes_in_order<A: Allocator + Copy>(
         }
     }
     Ok(classes)
-}
-
-/// The classes of the numbers below this one by their names, each a number, with one more for none;
-/// None only where no two of them have one name.
-///
-/// A name that one number alone has may be left out, and a number may be given twice: then there
-/// may be classes though all names differ. `AllocError` comes only where memory was refused.
-pub fn classes<'a, A: Allocator + Copy>(
-    alloc: A,
-    named: Vec<NumberedName<'a>, A>,
-    count: usize,
-) -> Result<Option<Vec<u32, A>>, AllocError>
-    requires few { count < 2 ^ 32 }
-    requires named { (name : ℕ → Option (List ℕ)) × HoldTheShared name count named.items }
-    ensures { IfOk result (λ classes. (name : ℕ → Option (List ℕ))
-        → HoldTheShared name count named.entry.items
-        → MatchOption classes (AreNamesApart name count)
-        (λ some. AreClasses name count some.items)) }
-{
-    let named = sorted(named);
-    if !has_alike(&named) {
-        return Ok(None);
-    }
-    Ok(Some(classes_in_order(alloc, &named, count)?))
 }

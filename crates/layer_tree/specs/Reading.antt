@@ -15,6 +15,7 @@ use Rattle.path_tree.specs.Rows.{Subtree, name_cmp, whole, at_path, IsRising}
 use Rattle.shown_tree.specs.declared.place.Entry.{Entry}
 use Rattle.shown_tree.specs.declared.place.Mark.{Mark}
 use Rattle.layer_tree.specs.declared.members.KeyedMember.{KeyedMember}
+use Rattle.layer_tree.specs.declared.reading.Branches.{Branches}
 use Rattle.layer_tree.specs.Members.{NamedMember, members_in, IsRead}
 use Rattle.shown_tree.specs.Marks.{removed_by}
 
@@ -123,13 +124,12 @@ IsMadeOf a layer h n made =
 
 -- what is made of the header h under the name n has come to the end of branches of entries and of
 -- marks
-pub record AddsMade (a : List ℕ) (layer h : ℕ) (n : List ℕ) (es : List (Subtree Entry))
-    (ks : List (Subtree Mark)) (es' : List (Subtree Entry)) (ks' : List (Subtree Mark))
-    : Type 0 where
+pub record AddsMade {A : Type 0} (a : List ℕ) (layer h : ℕ) (n : List ℕ)
+    (old new : Branches A) : Type 0 where
   pub made : Subtree Entry × Option (Subtree Mark)
   pub is : IsMadeOf a layer h n made
-  pub entries : es' ≡ es ++ made.0 ∷ []
-  pub marks : ks' ≡ ks ++ option_to_list made.1
+  pub entries : new.entries.items ≡ old.entries.items ++ made.0 ∷ []
+  pub marks : new.marks.items ≡ old.marks.items ++ option_to_list made.1
 
 -- the mark cuts nothing, and has nothing below
 pub record IsBlank (k : Subtree Mark) : Type 0 where

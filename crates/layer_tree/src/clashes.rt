@@ -15,23 +15,9 @@ use path_tree::{Branch, Name};
 use shown_tree::{Cuts, Mark};
 use std::alloc::{AllocError, Allocator};
 
-/// The marks of all paths at which a tree has a file, and another one a directory or something
-/// below. Both roots are directories.
-fn clashes<T: Cuts, A: Allocator + Copy>(
-    alloc: A,
-    files: &Branch<T, A>,
-    others: &Branch<T, A>,
-) -> Result<Branch<Mark, A>, AllocError>
-    requires { (T.removed files.now.value).cut ≡ false }
-    ensures { IfOk result (λ mark. AreRootClashes T.removed files.now others.now mark) }
-{
-    let marks = clashes_below(alloc, files.children(), others.children())?;
-    let name = Name::of(alloc, files.name())?;
-    Ok(Branch::new(name, UNCUT, marks))
-}
-
-/// The same both ways: of the files of the upper tree, and of those of the lower one. Both roots
-/// are directories.
+/// The marks of all paths at which one of two trees has a file, and the other one a directory or
+/// something below: of the files of the upper tree, and of those of the lower one. Both roots are
+/// directories.
 pub(crate) fn clashes_both_ways<T: Cuts, A: Allocator + Copy>(
     alloc: A,
     low: &Branch<T, A>,
@@ -52,6 +38,13 @@ pub(crate) fn clashes_both_ways<T: Cuts, A: Allocator + Copy>(
     Ok((hidden, replaced))
 }
 
+/// Whether a branch is no directory and has nothing below it.
+pub(crate) fn is_bare<T: Cuts, A: Allocator>(branch: &Branch<T, A>) -> bool
+    ensures { IsTrue result → IsBare T.removed branch.now }
+{
+    branch.value().mark().cut && branch.children().is_empty()
+}
+
 /// A root of marks that cuts nothing, with none below.
 fn no_marks<A: Allocator + Copy>(alloc: A) -> Result<Branch<Mark, A>, AllocError>
     ensures { IfOk result (λ root. root ≡ record {
@@ -62,6 +55,21 @@ fn no_marks<A: Allocator + Copy>(alloc: A) -> Result<Branch<Mark, A>, AllocError
 {
     let name = Name::of(alloc, &[])?;
     Ok(leaf(alloc, name, UNCUT))
+}
+
+/// The marks of all paths at which a tree has a file, and another one a directory or something
+/// below. Both roots are directories.
+fn clashes<T: Cuts, A: Allocator + Copy>(
+    alloc: A,
+    files: &Branch<T, A>,
+    others: &Branch<T, A>,
+) -> Result<Branch<Mark, A>, AllocError>
+    requires { (T.removed files.now.value).cut ≡ false }
+    ensures { IfOk result (λ mark. AreRootClashes T.removed files.now others.now mark) }
+{
+    let marks = clashes_below(alloc, files.children(), others.children())?;
+    let name = Name::of(alloc, files.name())?;
+    Ok(Branch::new(name, UNCUT, marks))
 }
 
 /// The marks of such paths below two directories, by the branches of both.
@@ -125,11 +133,4 @@ fn file_clash<T: Cuts, A: Allocator + Copy>(
     }
     let name = Name::of(alloc, file.name())?;
     Ok(Some(leaf(alloc, name, CUT)))
-}
-
-/// Whether a branch is no directory and has nothing below it.
-pub(crate) fn is_bare<T: Cuts, A: Allocator>(branch: &Branch<T, A>) -> bool
-    ensures { IsTrue result → IsBare T.removed branch.now }
-{
-    branch.value().mark().cut && branch.children().is_empty()
 }

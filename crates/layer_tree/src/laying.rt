@@ -24,6 +24,22 @@ use tree_merge::{cover, drop_first, pass_first, pass_with, take_children};
 /// How many marks at most are looked for one by one.
 const FEW: usize = 8;
 
+/// Lays the tree of a run of layers on that of the run just below it: the tree of both together.
+///
+/// Directories that both have are merged child by child; what one alone has is moved and not looked
+/// into. `AllocError` comes only where memory was refused; both trees are then lost.
+pub fn lay<A: Allocator + Copy>(
+    alloc: A,
+    low: Tree<A>,
+    high: Tree<A>,
+) -> Result<Tree<A>, AllocError>
+    ensures { (first : ℕ) (ls hs : List (List ℕ)) →
+        IsTreeOf first ls low → IsTreeOf (first + length ls) hs high →
+        IfOk result (λ tree. IsTreeOf first (ls ++ hs) tree) }
+{
+    laid(alloc, low, high)
+}
+
 /// What is left of branches from a name on, and the first of it if it has the name.
 #[inline(never)]
 pub(crate) fn seek<'a, T: Copy + Drop, A: Allocator>(
@@ -43,6 +59,102 @@ pub(crate) fn seek<'a, T: Copy + Drop, A: Allocator>(
         }
     }
     (rest, None)
+}
+
+/// One tree laid on another, as `lay` has it, but said of trees alone: what that says of runs of
+/// layers follows from this.
+fn laid<A: Allocator + Copy>(alloc: A, low: Tree<A>, high: Tree<A>) -> Result<Tree<A>, AllocError>
+    ensures { IfOk result (λ tree. Lays low high tree) }
+{
+    let (entries, replaced) = entries_laid(alloc, low.entries, high.entries, &high.marks)?;
+    let marks = marks_laid(alloc, low.marks, replaced, high.marks)?;
+    Ok(Tree { entries, marks })
+}
+
+/// The entries of a tree laid on those of another one, and marks where the lower tree has a file
+/// and the upper one a directory or something below. `marks` are those of the upper tree.
+fn entries_laid<A: Allocator + Copy>(
+    alloc: A,
+    low: Child<A>,
+    high: Child<A>,
+    marks: &Branch<Mark, A>,
+) -> Result<(Child<A>, Branch<Mark, A>), AllocError>
+    requires low { (mark_of low.value).cut ≡ false }
+    requires high { (mark_of high.value).cut ≡ false }
+    requires marks { marks.now.value.cut ≡ false }
+    ensures { IfOk result (λ laid. AreEntriesLaid low high marks.now laid.0 laid.1) }
+{
+    let (hidden, replaced) = clashes_both_ways(alloc, &low, &high)?;
+    let entries = entries_covered(alloc, low, high, marks, &hidden)?;
+    Ok((entries, replaced))
+}
+
+/// What two marks leave of the lower entries, covered by the upper ones.
+fn entries_covered<A: Allocator + Copy>(
+    alloc: A,
+    low: Child<A>,
+    high: Child<A>,
+    marks: &Branch<Mark, A>,
+    hidden: &Branch<Mark, A>,
+) -> Result<Child<A>, AllocError>
+    requires marks { marks.now.value.cut ≡ false }
+    requires hidden { hidden.now.value.cut ≡ false }
+    ensures { IfOk result (CoverTheKept low high marks.now hidden.now) }
+{
+    let unmarked = kept_inside(alloc, low, marks)?;
+    let kept = kept_inside(alloc, unmarked, hidden)?;
+    // named for the proof, as in `children_left`
+    let entries = cover(alloc, kept, high)?;
+    Ok(entries)
+}
+
+/// What a mark that does not cut a branch itself, and those below it, leave of the branch.
+fn kept_inside<T: Copy + Drop, A: Allocator + Copy>(
+    alloc: A,
+    low: Branch<T, A>,
+    mark: &Branch<Mark, A>,
+) -> Result<Branch<T, A>, AllocError>
+    requires { mark.now.value.cut ≡ false }
+    ensures { IfOk result (λ kept. IsKept low mark.now kept) }
+{
+    let (name, entry, children) = low.into_parts();
+    let left = children_left(alloc, children, mark)?;
+    Ok(Branch::new(name, entry, left))
+}
+
+/// The marks of both trees, and those of what was replaced.
+fn marks_laid<A: Allocator + Copy>(
+    alloc: A,
+    low: Branch<Mark, A>,
+    replaced: Branch<Mark, A>,
+    high: Branch<Mark, A>,
+) -> Result<Branch<Mark, A>, AllocError>
+    ensures { IfOk result (AreUnited low replaced high) }
+{
+    let above = cover(alloc, replaced, high)?;
+    // named for the proof, as in `children_left`
+    let marks = cover(alloc, low, above)?;
+    Ok(marks)
+}
+
+/// What a mark that does not cut a branch itself, and those below it, leave of the branch's
+/// children.
+#[cycle(keeping)]
+fn children_left<T: Copy + Drop, A: Allocator + Copy>(
+    alloc: A,
+    children: Vec<Branch<T, A>, A>,
+    mark: &Branch<Mark, A>,
+) -> Result<Vec<Branch<T, A>, A>, AllocError>
+    requires children { IsForest children.items }
+    requires uncut { mark.now.value.cut ≡ false }
+    ensures { IfOk result (λ left. AreChildrenLeft mark.now children.items left.items) }
+{
+    if mark.value().opaque {
+        return Ok(Vec::new(alloc));
+    }
+    // named, so that the proof speaks of what is left, and not of a result that may be an error
+    let left = kept_below(alloc, children, mark.children())?;
+    Ok(left)
 }
 
 /// What marks leave of the branches of a directory. Few marks are looked for one by one, and with
@@ -153,116 +265,4 @@ fn keep_first<T: Copy + Drop, A: Allocator + Copy>(
     let left = children_left(alloc, children, mark)?;
     pass_with(lows, left, kept)?;
     Ok(())
-}
-
-/// What a mark that does not cut a branch itself, and those below it, leave of the branch's
-/// children.
-#[cycle(keeping)]
-fn children_left<T: Copy + Drop, A: Allocator + Copy>(
-    alloc: A,
-    children: Vec<Branch<T, A>, A>,
-    mark: &Branch<Mark, A>,
-) -> Result<Vec<Branch<T, A>, A>, AllocError>
-    requires children { IsForest children.items }
-    requires uncut { mark.now.value.cut ≡ false }
-    ensures { IfOk result (λ left. AreChildrenLeft mark.now children.items left.items) }
-{
-    if mark.value().opaque {
-        return Ok(Vec::new(alloc));
-    }
-    // named, so that the proof speaks of what is left, and not of a result that may be an error
-    let left = kept_below(alloc, children, mark.children())?;
-    Ok(left)
-}
-
-/// What a mark that does not cut a branch itself, and those below it, leave of the branch.
-fn kept_inside<T: Copy + Drop, A: Allocator + Copy>(
-    alloc: A,
-    low: Branch<T, A>,
-    mark: &Branch<Mark, A>,
-) -> Result<Branch<T, A>, AllocError>
-    requires { mark.now.value.cut ≡ false }
-    ensures { IfOk result (λ kept. IsKept low mark.now kept) }
-{
-    let (name, entry, children) = low.into_parts();
-    let left = children_left(alloc, children, mark)?;
-    Ok(Branch::new(name, entry, left))
-}
-
-/// What two marks leave of the lower entries, covered by the upper ones.
-fn entries_covered<A: Allocator + Copy>(
-    alloc: A,
-    low: Child<A>,
-    high: Child<A>,
-    marks: &Branch<Mark, A>,
-    hidden: &Branch<Mark, A>,
-) -> Result<Child<A>, AllocError>
-    requires marks { marks.now.value.cut ≡ false }
-    requires hidden { hidden.now.value.cut ≡ false }
-    ensures { IfOk result (CoverTheKept low high marks.now hidden.now) }
-{
-    let unmarked = kept_inside(alloc, low, marks)?;
-    let kept = kept_inside(alloc, unmarked, hidden)?;
-    // named for the proof, as in `children_left`
-    let entries = cover(alloc, kept, high)?;
-    Ok(entries)
-}
-
-/// The entries of a tree laid on those of another one, and marks where the lower tree has a file
-/// and the upper one a directory or something below. `marks` are those of the upper tree.
-fn entries_laid<A: Allocator + Copy>(
-    alloc: A,
-    low: Child<A>,
-    high: Child<A>,
-    marks: &Branch<Mark, A>,
-) -> Result<(Child<A>, Branch<Mark, A>), AllocError>
-    requires low { (mark_of low.value).cut ≡ false }
-    requires high { (mark_of high.value).cut ≡ false }
-    requires marks { marks.now.value.cut ≡ false }
-    ensures { IfOk result (λ laid. AreEntriesLaid low high marks.now laid.0 laid.1) }
-{
-    let (hidden, replaced) = clashes_both_ways(alloc, &low, &high)?;
-    let entries = entries_covered(alloc, low, high, marks, &hidden)?;
-    Ok((entries, replaced))
-}
-
-/// The marks of both trees, and those of what was replaced.
-fn marks_laid<A: Allocator + Copy>(
-    alloc: A,
-    low: Branch<Mark, A>,
-    replaced: Branch<Mark, A>,
-    high: Branch<Mark, A>,
-) -> Result<Branch<Mark, A>, AllocError>
-    ensures { IfOk result (AreUnited low replaced high) }
-{
-    let above = cover(alloc, replaced, high)?;
-    // the same
-    let marks = cover(alloc, low, above)?;
-    Ok(marks)
-}
-
-/// One tree laid on another, as `lay` has it, but said of trees alone: what that says of runs of
-/// layers follows from this.
-fn laid<A: Allocator + Copy>(alloc: A, low: Tree<A>, high: Tree<A>) -> Result<Tree<A>, AllocError>
-    ensures { IfOk result (λ tree. Lays low high tree) }
-{
-    let (entries, replaced) = entries_laid(alloc, low.entries, high.entries, &high.marks)?;
-    let marks = marks_laid(alloc, low.marks, replaced, high.marks)?;
-    Ok(Tree { entries, marks })
-}
-
-/// Lays the tree of a run of layers on that of the run just below it: the tree of both together.
-///
-/// Directories that both have are merged child by child; what one alone has is moved and not looked
-/// into. `AllocError` comes only where memory was refused; both trees are then lost.
-pub fn lay<A: Allocator + Copy>(
-    alloc: A,
-    low: Tree<A>,
-    high: Tree<A>,
-) -> Result<Tree<A>, AllocError>
-    ensures { (first : ℕ) (ls hs : List (List ℕ)) →
-        IsTreeOf first ls low → IsTreeOf (first + length ls) hs high →
-        IfOk result (λ tree. IsTreeOf first (ls ++ hs) tree) }
-{
-    laid(alloc, low, high)
 }

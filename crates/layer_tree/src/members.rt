@@ -55,6 +55,17 @@ pub(crate) fn sorted_members<A: Allocator + Copy>(
     Ok(members)
 }
 
+/// What the name of a marker says after `.wh.`; none where the name is no marker's.
+pub(crate) fn whiteout_of(name: &[u8]) -> Option<&[u8]>
+    ensures { MatchOption result (¬ IsMarker name.now) (λ rest. name.now ≡ marker ++ rest.now) }
+{
+    if is_marker(name) {
+        Some(&name[4..])
+    } else {
+        None
+    }
+}
+
 /// Members, each with the key of its whole name, and how many bytes all their names share at the
 /// front.
 fn keyed_members<A: Allocator + Copy>(
@@ -81,6 +92,14 @@ fn keyed_members<A: Allocator + Copy>(
         })?;
     }
     Ok((keyed, front.len()))
+}
+
+/// The key of a name: its first eight bytes as a number.
+fn key_of(name: &[u8]) -> u64
+    ensures value { result ≡ key 8 name.now }
+    ensures bytes { AreBytes name.now }
+{
+    name_keys::key_of(name)
 }
 
 /// What names begin with that all begin with this front, and this name, too; with no name before
@@ -146,24 +165,5 @@ fn order<A: Allocator>(image: &Image<A>, x: &KeyedMember, y: &KeyedMember) -> Or
             .name_bytes(x.offset, x.name_len)
             .cmp(image.name_bytes(y.offset, y.name_len)),
         other => other,
-    }
-}
-
-/// The key of a name: its first eight bytes as a number.
-fn key_of(name: &[u8]) -> u64
-    ensures value { result ≡ key 8 name.now }
-    ensures bytes { AreBytes name.now }
-{
-    name_keys::key_of(name)
-}
-
-/// What the name of a marker says after `.wh.`; none where the name is no marker's.
-pub(crate) fn whiteout_of(name: &[u8]) -> Option<&[u8]>
-    ensures { MatchOption result (¬ IsMarker name.now) (λ rest. name.now ≡ marker ++ rest.now) }
-{
-    if is_marker(name) {
-        Some(&name[4..])
-    } else {
-        None
     }
 }

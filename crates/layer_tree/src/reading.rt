@@ -39,22 +39,6 @@ pub(crate) const UNCUT: Mark = Mark {
     opaque: false,
 };
 
-/// A layer that is read, and where memory for its tree comes from.
-#[derive(Drop)]
-struct Layer<'a, A: Allocator> {
-    alloc: A,
-    image: &'a Image<A>,
-    /// Its number among the layers.
-    number: u16,
-}
-
-/// The branches of a directory's members.
-#[derive(Drop)]
-struct Branches<A: Allocator> {
-    entries: Vec<Child<A>, A>,
-    marks: Vec<Branch<Mark, A>, A>,
-}
-
 /// What is made of one layer.
 pub trait OfLayer: Sized {
     /// Where memory comes from.
@@ -91,34 +75,27 @@ impl<A: Allocator + Copy> OfLayer for Tree<A> {
     }
 }
 
-/// Adds what stands at a header and below it, under a name, and what is cut there, if anything is.
-/// A path to the header has `left` names less than [`MAX_NAMES`].
-///
-/// `AllocError` comes only where memory was refused; nothing is promised of `to` then.
-#[cycle(reading)]
-fn add_branches<A: Allocator + Copy>(
-    layer: &Layer<'_, A>,
-    ends: &mut Ends<'_, A>,
-    name: &[u8],
-    head: &Head,
-    left: u16,
-    to: &mut Branches<A>,
-) -> Result<(), AllocError>
-    requires read { IsReadable layer.now.image.now ends.old head.now }
-    requires depth { IsAtDepth layer.now.image.now head.now.offset left }
-    ensures made { OnOk result (AddsMade layer.now.image.now layer.now.number
-        head.now.offset name.now to.old.entries.items to.old.marks.items
-        to.new.entries.items to.new.marks.items) }
-    ensures ends { ends.new ≡ layer.now.image.now }
+/// A branch with nothing below.
+pub(crate) fn leaf<T: Copy + Drop, A: Allocator>(alloc: A, name: Name<A>, value: T) -> Branch<T, A>
+    ensures { result ≡ record { name = name; value = value; below = [] } }
 {
-    match head.kind {
-        Kind::Directory => {
-            let members = sorted_members(layer.alloc, layer.image, head)?;
-            let below = branches_below(layer, ends, &members, left)?;
-            add_folder(layer, name, head, &members, below, to)
-        }
-        _ => add_file(layer, ends, name, head, to),
-    }
+    Branch::new(name, value, Vec::new(alloc))
+}
+
+/// A layer that is read, and where memory for its tree comes from.
+#[derive(Drop)]
+struct Layer<'a, A: Allocator> {
+    alloc: A,
+    image: &'a Image<A>,
+    /// Its number among the layers.
+    number: u16,
+}
+
+/// The branches of a directory's members.
+#[derive(Drop)]
+struct Branches<A: Allocator> {
+    entries: Vec<Child<A>, A>,
+    marks: Vec<Branch<Mark, A>, A>,
 }
 
 /// A directory and its mark.
@@ -139,20 +116,6 @@ fn directory<A: Allocator + Copy>(
     let members = sorted_members(layer.alloc, layer.image, head)?;
     let below = branches_below(layer, ends, &members, left)?;
     folder(layer, name, head, &members, below)
-}
-
-/// The mark, if it or one below it cuts anything, and none else.
-fn needed<A: Allocator>(mark: Branch<Mark, A>) -> Option<Branch<Mark, A>>
-    ensures { MatchOption result (IsBlank mark) (λ same. (same ≡ mark) × ¬ IsBlank mark) }
-{
-    if is_blank(&mark) { None } else { Some(mark) }
-}
-
-/// Whether neither the mark nor one below it cuts anything.
-fn is_blank<A: Allocator>(mark: &Branch<Mark, A>) -> bool
-    ensures { IsTrue result ↔ IsBlank mark.now }
-{
-    !mark.value().cut && !mark.value().opaque && mark.children().is_empty()
 }
 
 /// The branches of members that are no markers, in the same order.
@@ -189,19 +152,32 @@ fn branches_below<A: Allocator + Copy>(
     Ok(made)
 }
 
-/// The entry of a header whose hard links end at `end`: the kind and the place of that.
-fn entry_at(layer: u16, end: &Head) -> Entry
-    ensures layer { result.place.layer ≡ layer }
-    ensures header { result.place.header ≡ end.now.offset }
-    ensures kind { result.kind ≡ end.now.kind }
+/// Adds what stands at a header and below it, under a name, and what is cut there, if anything is.
+/// A path to the header has `left` names less than [`MAX_NAMES`].
+///
+/// `AllocError` comes only where memory was refused; nothing is promised of `to` then.
+#[cycle(reading)]
+fn add_branches<A: Allocator + Copy>(
+    layer: &Layer<'_, A>,
+    ends: &mut Ends<'_, A>,
+    name: &[u8],
+    head: &Head,
+    left: u16,
+    to: &mut Branches<A>,
+) -> Result<(), AllocError>
+    requires read { IsReadable layer.now.image.now ends.old head.now }
+    requires depth { IsAtDepth layer.now.image.now head.now.offset left }
+    ensures made { OnOk result (AddsMade layer.now.image.now layer.now.number
+        head.now.offset name.now to.old to.new) }
+    ensures ends { ends.new ≡ layer.now.image.now }
 {
-    let place = Place {
-        layer,
-        header: end.offset,
-    };
-    Entry {
-        kind: end.kind,
-        place,
+    match head.kind {
+        Kind::Directory => {
+            let members = sorted_members(layer.alloc, layer.image, head)?;
+            let below = branches_below(layer, ends, &members, left)?;
+            add_folder(layer, name, head, &members, below, to)
+        }
+        _ => add_file(layer, ends, name, head, to),
     }
 }
 
@@ -219,8 +195,7 @@ fn add_file<A: Allocator + Copy>(
     requires read { IsReadable layer.now.image.now ends.old head.now }
     requires other { head.now.kind ≢ Kind.Directory }
     ensures made { OnOk result (AddsMade layer.now.image.now layer.now.number
-        head.now.offset name.now to.old.entries.items to.old.marks.items
-        to.new.entries.items to.new.marks.items) }
+        head.now.offset name.now to.old to.new) }
     ensures ends { ends.new ≡ layer.now.image.now }
 {
     let end = ends.target(head)?;
@@ -269,8 +244,7 @@ fn add_folder<A: Allocator + Copy>(
     requires { IsFolder layer.now.image.now layer.now.number head.now members.now
         below.entries.items below.marks.items }
     ensures { OnOk result (AddsMade layer.now.image.now layer.now.number
-        head.now.offset name.now to.old.entries.items to.old.marks.items
-        to.new.entries.items to.new.marks.items) }
+        head.now.offset name.now to.old to.new) }
 {
     if is_plain(members, &below) {
         let own_entry = entry_at(layer.number, head);
@@ -295,6 +269,20 @@ fn is_plain<A: Allocator>(members: &[KeyedMember], below: &Branches<A>) -> bool
     below.entries.len() == members.len() && below.marks.is_empty()
 }
 
+/// The mark, if it or one below it cuts anything, and none else.
+fn needed<A: Allocator>(mark: Branch<Mark, A>) -> Option<Branch<Mark, A>>
+    ensures { MatchOption result (IsBlank mark) (λ same. (same ≡ mark) × ¬ IsBlank mark) }
+{
+    if is_blank(&mark) { None } else { Some(mark) }
+}
+
+/// Whether neither the mark nor one below it cuts anything.
+fn is_blank<A: Allocator>(mark: &Branch<Mark, A>) -> bool
+    ensures { IsTrue result ↔ IsBlank mark.now }
+{
+    !mark.value().cut && !mark.value().opaque && mark.children().is_empty()
+}
+
 /// Adds a mark to a list, which gets room for one at first: most have no more.
 ///
 /// `AllocError` comes only where memory was refused; nothing is promised of `to` then.
@@ -311,12 +299,20 @@ fn add_mark<A: Allocator>(
     Ok(())
 }
 
-/// Whether one of the markers is that of the whole directory.
-fn has_opaque<A: Allocator>(whiteouts: &[Branch<Mark, A>]) -> bool
-    requires { NamesRise whiteouts.now }
-    ensures { result ≡ is_some (named rest_of_opaque whiteouts.now) }
+/// The entry of a header whose hard links end at `end`: the kind and the place of that.
+fn entry_at(layer: u16, end: &Head) -> Entry
+    ensures layer { result.place.layer ≡ layer }
+    ensures header { result.place.header ≡ end.now.offset }
+    ensures kind { result.kind ≡ end.now.kind }
 {
-    child(whiteouts, WHOLE).is_some()
+    let place = Place {
+        layer,
+        header: end.offset,
+    };
+    Entry {
+        kind: end.kind,
+        place,
+    }
 }
 
 /// The marks of a directory's markers. Where each member has a branch none is a marker, and no name
@@ -361,9 +357,10 @@ fn whiteouts_of<A: Allocator + Copy>(
     Ok(marks)
 }
 
-/// A branch with nothing below.
-pub(crate) fn leaf<T: Copy + Drop, A: Allocator>(alloc: A, name: Name<A>, value: T) -> Branch<T, A>
-    ensures { result ≡ record { name = name; value = value; below = [] } }
+/// Whether one of the markers is that of the whole directory.
+fn has_opaque<A: Allocator>(whiteouts: &[Branch<Mark, A>]) -> bool
+    requires { NamesRise whiteouts.now }
+    ensures { result ≡ is_some (named rest_of_opaque whiteouts.now) }
 {
-    Branch::new(name, value, Vec::new(alloc))
+    child(whiteouts, WHOLE).is_some()
 }

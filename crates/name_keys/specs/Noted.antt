@@ -12,6 +12,7 @@ pub record IsNoted (bits : List Bool) (directory key : ℕ) : Type 0 where
   pub is_set : bit_of (length bits) directory key < length bits
       → get_or bits (bit_of (length bits) directory key) false ≡ true
 
--- what was noted stays so
+-- what was noted stays so, among as many bits
 pub record Keeps (old new : List Bool) : Type 0 where
+  pub level : length new ≡ length old
   pub each : (directory key : ℕ) → IsNoted old directory key → IsNoted new directory key

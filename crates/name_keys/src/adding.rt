@@ -28,6 +28,20 @@ pub fn add_keys<T: HasName, A: Allocator>(
     Ok(shared)
 }
 
+/// How many bytes two names have alike at their fronts.
+pub fn shared(a: &[u8], b: &[u8]) -> usize
+    ensures bound_a { result ≤ length a.now }
+    ensures bound_b { result ≤ length b.now }
+    ensures same { take result a.now ≡ take result b.now }
+    ensures most { IsMost result a.now b.now }
+{
+    let mut len = 0;
+    while len < a.len() && len < b.len() && a[len] == b[len] {
+        len += 1;
+    }
+    len
+}
+
 /// The key of a name past the bytes that all share.
 fn key_past(name: &[u8], shared: usize) -> u64
     requires { shared ≤ length name.now }
@@ -47,18 +61,4 @@ fn shared_by_all<T: HasName>(rows: &[T]) -> usize
         (Some(first), Some(last)) => shared(first.name(), last.name()),
         _ => 0,
     }
-}
-
-/// How many bytes two names have alike at their fronts.
-pub fn shared(a: &[u8], b: &[u8]) -> usize
-    ensures bound_a { result ≤ length a.now }
-    ensures bound_b { result ≤ length b.now }
-    ensures same { take result a.now ≡ take result b.now }
-    ensures most { IsMost result a.now b.now }
-{
-    let mut len = 0;
-    while len < a.len() && len < b.len() && a[len] == b[len] {
-        len += 1;
-    }
-    len
 }

@@ -5,7 +5,7 @@
 //! each key of a row sets a bit, one of eight for each row, and a name whose key has none is no
 //! row's: of eight names that are not there about one is searched all the same.
 
-ghost use Rattle.std.specs.Prelude.{◌≡◌, ◌≤◌, ◌<◌, ◌^◌, ◌↔◌, length, All, IsTrue};
+ghost use Rattle.std.specs.Prelude.{◌≡◌, ◌≤◌, ◌<◌, ◌^◌, ◌*◌, ◌↔◌, length, All, IsTrue, IfOk};
 ghost use Rattle.name_keys.specs.Noted.{bit_of, IsNoted, Keeps};
 
 use slot_sets::SlotSet;
@@ -38,7 +38,9 @@ impl<A: Allocator> Model for KeyFilter<A> {
 impl<A: Allocator> KeyFilter<A> {
     /// No keys yet, with room for this many rows: a byte a row. `AllocError` comes only where
     /// memory was refused.
-    pub fn for_rows(alloc: A, rows: usize) -> Result<Self, AllocError> {
+    pub fn for_rows(alloc: A, rows: usize) -> Result<Self, AllocError>
+        ensures { IfOk result (λ bits. length bits ≤ 8 * rows) }
+    {
         let count = rows.saturating_mul(BITS_A_ROW).min(MAX_BITS);
         let bits = SlotSet::new(alloc, count)?;
         Ok(KeyFilter { bits, count })
@@ -54,6 +56,14 @@ impl<A: Allocator> KeyFilter<A> {
         }
     }
 
+    /// Whether a key may be that of a row of a directory. It is no row's where this is false.
+    pub fn may_have(&self, directory: u64, key: u64) -> bool
+        ensures { IsNoted self.now directory key ↔ IsTrue result }
+    {
+        let bit = bit_of(self.count, directory, key);
+        self.count <= bit || self.bits.contains(bit)
+    }
+
     // Notes a key of a directory's rows.
     fn note(&mut self, directory: u64, key: u64)
         ensures noted { IsNoted self.new directory key }
@@ -63,14 +73,6 @@ impl<A: Allocator> KeyFilter<A> {
         if bit < self.count {
             self.bits.insert(bit);
         }
-    }
-
-    /// Whether a key may be that of a row of a directory. It is no row's where this is false.
-    pub fn may_have(&self, directory: u64, key: u64) -> bool
-        ensures { IsNoted self.now directory key ↔ IsTrue result }
-    {
-        let bit = bit_of(self.count, directory, key);
-        self.count <= bit || self.bits.contains(bit)
     }
 }
 

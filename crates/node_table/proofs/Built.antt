@@ -1,6 +1,6 @@
 -- The rows of children and the node of a branch. Rowing is the loop over children: it starts with
 -- none, a child is a directory or another (follows tells where it stands), and it ends with
--- AddsRows. made has the node of a branch, from what its kind adds.
+-- AddsRows. read_of has what the node of a branch says.
 use Rattle.std.proofs.Common.{◌≡◌, ◌∙◌, sym, ap, subst, ℕ, zero, suc, ◌+◌, ◌-◌, ◌<◌, ◌≤◌, List, [], ◌∷◌, ◌++◌, length, map, take, drop, get_or, refl, arith, append_assoc, length-append, Bool, true, false}
 use Rattle.std.specs.List.{AllByRecursion}
 use Rattle.std.specs.declared.cmp.Ordering.TheVariants.{Less}
@@ -20,15 +20,16 @@ use Rattle.shown_tree.specs.declared.place.Place.{Place}
 use Rattle.shown_tree.specs.declared.place.Entry.{Entry}
 use Rattle.name_keys.specs.Names.{Rise}
 use Rattle.stack_table.specs.Rows.{Line, names}
-use Rattle.node_table.specs.Building.{line_in, directories, HasNumberAndSize, AreFollowing, AddsRows, AddsLinked, AddsNothing, AddsByKind, IsReadFrom, AddsNode}
+use Rattle.stack_table.specs.Directories.{HeldDirectories}
+use Rattle.node_table.specs.declared.building.First.{First}
+use Rattle.node_table.specs.Building.{line_in, count_directories, HasNumberAndSize, AreFollowing, AddsRows, AddsLinked, AddsNothing, AddsByKind, IsReadFrom, IsReadOf}
 use Rattle.shown_tree.proofs.NoDirectory.{not_directory}
 use Rattle.node_table.proofs.Lists.{take_one_more}
-use Rattle.node_table.proofs.Folders.{Folders}
 
 -- how far the rows of children have come
 pub record Rowing (tell : Place → ℕ) (cs : List (Subtree Entry)) (old new : List Line) (n i : ℕ) : Type 0 where
   pub rows : new ≡ old ++ map (line_in tell) (take i cs)
-  pub count : n ≡ directories (take i cs)
+  pub count : n ≡ count_directories (take i cs)
   pub few : n ≤ i
 
 -- the row of the next child is added
@@ -97,7 +98,7 @@ pub rows_ended : (tell : Place → ℕ) (cs : List (Subtree Entry)) (old new : L
     → AddsRows tell cs old new n
 rows_ended tell cs old new n i le r = record {
   rows_are = r.rows ∙ ap (λ x. old ++ map (line_in tell) x) (take_all i cs le);
-  count_is = r.count ∙ ap directories (take_all i cs le);
+  count_is = r.count ∙ ap count_directories (take_all i cs le);
 }
 
 -- rows of branches come in the order of their names
@@ -154,37 +155,33 @@ module _ {layers : List (List ℕ)} {branch : Subtree Entry} (reads : ReadsBranc
     directory = at;
   }
 
-  read : IsReadFrom reads.image reads.entry.place.header node
-  read = record {
+  read_from : IsReadFrom reads.image reads.entry.place.header node
+  read_from = record {
     data_is = subst (λ (x : Head). IsDataPart reads.image x.offset reads.part) reads.head_is reads.data_is;
     exec_is = ap (λ (x : Head). x.exec) reads.head_is;
     spec_is = ap (λ (x : Head). x.spec) reads.head_is;
   }
 
-  -- what a header says, with what the branch's kind adds, is the node of the branch
-  pub made : {tell : Place → ℕ} {above paths : ℕ} (old new : Folders) → at ≡ length old.all
-      → AddsByKind tell branch above paths (is_directory reads.entry.kind) nlink old.all new.all old.rows new.rows old.keys new.keys
-      → AddsNode layers tell branch above paths old.all new.all old.rows new.rows old.keys new.keys node
-  made old new stands adds = record {
+  -- it is what the branch and its header say
+  pub read_of : IsReadOf layers branch node
+  read_of = record {
     kind_is = ap (λ (e : Entry). e.kind) reads.entry_is;
     place_is = ap (λ (e : Entry). e.place) reads.entry_is;
     read = λ image at. subst (λ x. IsReadFrom x reads.entry.place.header node)
-        (reads.image_is ∙ get_or_from_slice_get layers reads.entry.place.layer image reads.image at) read;
-    directory_is = stands;
-    adds = adds;
+        (reads.image_is ∙ get_or_from_slice_get layers reads.entry.place.layer image reads.image at) read_from;
   }
 
 -- what a directory adds, and what any other branch does
-module _ (tell : Place → ℕ) (branch : Subtree Entry) (above paths : ℕ) (kind : Kind) (nlink : ℕ) (old new : Folders) where
+module _ {A : Type 0} (tell : Place → ℕ) (first : First A) (nlink : ℕ) (old new : HeldDirectories) where
   -- where the kind is a directory, a linked directory is what is to be added
-  pub added_directory : kind ≡ Directory → AddsLinked tell branch above nlink old.all new.all old.rows new.rows old.keys new.keys
-      → AddsByKind tell branch above paths (is_directory kind) nlink old.all new.all old.rows new.rows old.keys new.keys
+  pub added_directory : first.branch.now.value.kind ≡ Directory → AddsLinked tell first nlink old new
+      → AddsByKind tell first nlink old new
   added_directory is_one linked = rw (ap is_directory is_one) linked
 
   -- where it is none, nothing is to be added
-  pub added_other : (kind ≡ Directory → ⊥) → AddsNothing paths nlink old.all new.all old.rows new.rows old.keys new.keys
-      → AddsByKind tell branch above paths (is_directory kind) nlink old.all new.all old.rows new.rows old.keys new.keys
-  added_other is_none nothing = rw (not_directory kind is_none) nothing
+  pub added_other : (first.branch.now.value.kind ≡ Directory → ⊥) → AddsNothing first.paths nlink old new
+      → AddsByKind tell first nlink old new
+  added_other is_none nothing = rw (not_directory first.branch.now.value.kind is_none) nothing
 
 -- the rows from where the old ones end, as the code cuts them
 pub fresh_lines : (old new more seen : List Line) (start : ℕ) → new ≡ old ++ more → start ≡ length old → seen ≡ new

@@ -16,8 +16,9 @@ use Rattle.path_tree.specs.Rows.{Subtree, Rows, prefixed, spread, whole, NamesRi
 use Rattle.shown_tree.specs.declared.place.Entry.{Entry}
 use Rattle.shown_tree.specs.Trees.{TreeRows, IsTreeOf, listed}
 use Rattle.shown_tree.proofs.Listed.{is_listing}
+use Rattle.stack_model.specs.Listing.{Stacked}
 use Rattle.stack_table.specs.Readers.{placed}
-use Rattle.node_table.specs.Walks.{Visit, under, IsLocated, visit_size, StandsAt, IsBelow, AreWalked, AddsWalk}
+use Rattle.node_table.specs.Walks.{Visit, Walk, no_walk, under, IsLocated, visit_size, StandsAt, IsBelow, AreWalked, AddsWalk}
 use Rattle.node_table.specs.Numbering.{visit_place, bare, seen, paths_of, number_among, IsFirstVisit, IsNumbered}
 use Rattle.node_table.specs.Building.{line_in, HasNumberAndSize, AreFollowing, number_above, StandAtStarts}
 use Rattle.node_table.specs.Agreement.{shown_line, AgreeBelow, AgreesAtPlace, AgreeWithSomeListing}
@@ -88,6 +89,9 @@ module _ (layers : List (List ℕ)) (t : TreeRows) (root : Subtree Entry) (visit
   abbrev entries : List Listed
   entries = map listed t.entries
 
+  abbrev stack : Stacked
+  stack = record { layers = layers; entries = map listed t.entries }
+
   places_are : map place (map listed t.entries) ≡ map place (seen visits (length visits))
   places_are = places_same t.entries visits places level at
       ∙ sym (ap (λ x. map place (map bare x)) (take_all (length visits) visits (omega arith)) ∙ bare_places visits)
@@ -129,7 +133,7 @@ module _ (layers : List (List ℕ)) (t : TreeRows) (root : Subtree Entry) (visit
       )
 
   children_agree : (visit : Visit Entry) (j : ℕ) (f : IsFirstVisit visits visit j) (cs : List (Subtree Entry)) → visit.now.below ≡ spread cs
-      → IsForest cs → AgreeBelow layers (map listed t.entries) (number_among visits) (visit_place visit) cs
+      → IsForest cs → AgreeBelow stack (number_among visits) (visit_place visit) cs
   children_agree visit j f cs below forest =
       let c = by_listing.children_are t.entries visits places level at visit j f cs below forest in
       let p = children_placed j visit f.is cs below in
@@ -170,7 +174,7 @@ module _ (layers : List (List ℕ)) (t : TreeRows) (root : Subtree Entry) (visit
       ∙ ap (number (map listed t.entries)) (sym (by_listing.parent_is t.entries visits places level at visit j f))
 
   agrees : (k : ℕ) (visit : Visit Entry) → slice_get held.first k ≡ Some visit
-      → AgreesAtPlace layers (map listed t.entries) (number_among visits) (number_above held.numbers places (slice_index held.starts k))
+      → AgreesAtPlace stack (number_among visits) (number_above held.numbers places (slice_index held.starts k))
       (slice_index held.paths k) visit
   agrees k visit e =
       let j = slice_index held.starts k in
@@ -257,7 +261,7 @@ module _ (layers : List (List ℕ)) (t : TreeRows) (root : Subtree Entry) (visit
             omega arith
 
     -- they stand where starts say, with the numbers of their parents and children at hand
-    pub firsts_stand : StandAtStarts (number_among visits) visits held.numbers places sizes held.first held.starts
+    pub firsts_stand : StandAtStarts (record { visits = visits; above = places; sizes = sizes }) held.numbers held.first held.starts
     firsts_stand = record {
       level = walk.numbered.starts_level;
       there = λ k visit e. (walk.numbered.each k visit e).is;
@@ -283,13 +287,13 @@ module _ (layers : List (List ℕ)) (t : TreeRows) (root : Subtree Entry) (visit
     }
 
 -- a walk that began with nothing
-pub walked_all : (root : Subtree Entry) (old out : List (Visit Entry)) (places places' sizes sizes' : List ℕ) → old ≡ []
-    → places ≡ [] → sizes ≡ [] → AddsWalk root 0 old out places places' sizes sizes'
-    → StandsAt out 0 root.value × AreWalked root 0 out out places' × (sizes' ≡ map visit_size out)
-walked_all root old out places places' sizes sizes' none no_places no_sizes a =
-    let is : out ≡ a.visits = a.is ∙ ap (λ x. x ++ a.visits) none in (
-      subst (λ n. StandsAt out n root.value) (ap length none) a.first,
-      subst (λ (x : List (Visit Entry)). AreWalked root 0 out x places') (sym is)
-          (subst (AreWalked root 0 out a.visits) (sym (a.places_are ∙ ap (λ x. x ++ a.more) no_places)) a.walked),
-      a.sizes_are ∙ ap (λ x. x ++ map visit_size a.visits) no_sizes ∙ ap (map visit_size) (sym is),
+pub walked_all : (root : Subtree Entry) (old new : Walk Entry) → old ≡ no_walk → AddsWalk root 0 old new
+    → StandsAt new.visits 0 root.value × AreWalked root 0 new.visits new.visits new.above × (new.sizes ≡ map visit_size new.visits)
+walked_all root old new none a =
+    let out = new.visits in
+    let is : out ≡ a.visits = a.is ∙ ap (λ (w : Walk Entry). w.visits ++ a.visits) none in (
+      subst (λ n. StandsAt out n root.value) (ap (λ (w : Walk Entry). length w.visits) none) a.first,
+      subst (λ (x : List (Visit Entry)). AreWalked root 0 out x new.above) (sym is)
+          (subst (AreWalked root 0 out a.visits) (sym (a.above_are ∙ ap (λ (w : Walk Entry). w.above ++ a.more) none)) a.walked),
+      a.sizes_are ∙ ap (λ (w : Walk Entry). w.sizes ++ map visit_size a.visits) none ∙ ap (map visit_size) (sym is),
     )

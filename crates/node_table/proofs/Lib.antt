@@ -3,7 +3,7 @@ pub mod Paths
 pub mod Walking
 pub mod PlacesByKey
 pub mod Counting
-pub mod Folders
+pub mod Keeping
 pub mod Built
 pub mod ListedPlaces
 pub mod Sizes

@@ -7,15 +7,9 @@ use Rattle.std.specs.Prelude.{slice_get, slice_index, slice_set, map}
 use Rattle.std.proofs.lemmas.List.{get_or_append_left, get_or-append-add, length-map, map-append, set_at, take_all}
 use Rattle.std.proofs.lemmas.Option.{slice_get_within}
 use Rattle.path_tree.specs.Rows.{Subtree, Rows, prefixed, spread, NamesRise, IsForest, length_prefixed}
-use Rattle.node_table.specs.Walks.{Visit, visit_size, StandsAt, IsBelow, AddsWalk}
+use Rattle.node_table.specs.Walks.{Visit, visit_size, StandsAt, IsBelow, Walk, AddsWalk}
 use Rattle.node_table.proofs.Lists.{get_front, get_end, get_append, take_one_more}
 use Rattle.node_table.proofs.Paths.{spread_append, child_located}
-
--- visits, where the branch above each one stands, and their sizes
-pub record Visited (T : Type 0) : Type 0 where
-  pub visits : List (Visit T)
-  pub above : List ℕ
-  pub sizes : List ℕ
 
 module _ {T : Type 0} where
   -- a list is what stands before a child, the child, and what stands after it
@@ -64,7 +58,7 @@ module _ {T : Type 0} where
 
   -- how far a walk has come: the branch, whose size is still to be written, and the children below
   -- the place i with all below them
-  pub record Walking (branch : Subtree T) (place : ℕ) (cs : List (Subtree T)) (old now : Visited T) (i : ℕ) : Type 0 where
+  pub record Walking (branch : Subtree T) (place : ℕ) (cs : List (Subtree T)) (old now : Walk T) (i : ℕ) : Type 0 where
     pub first : Visit T
     pub first_is : first.now ≡ branch
     pub rest : List (Visit T)
@@ -72,7 +66,7 @@ module _ {T : Type 0} where
     pub level : length rest ≡ length (spread (take i cs))
     pub above : place ≤ length old.visits
     pub more : List ℕ
-    pub places_are : now.above ≡ old.above ++ more
+    pub above_are : now.above ≡ old.above ++ more
     pub placed : length more ≡ suc (length rest)
     pub each : (rows : Rows T) (j : ℕ) → IsBelow rows j branch now.visits place → (k : ℕ) (visit : Visit T) → slice_get (first ∷ rest) k
         ≡ Some visit → IsBelow rows (j + k) visit.now now.visits (slice_index more k)
@@ -80,10 +74,10 @@ module _ {T : Type 0} where
     pub sizes_level : length old.sizes ≡ length old.visits
 
   -- with the branch put down, and a size of 0 for it, no child is walked over
-  pub walk_begun : (branch : Visit T) (place : ℕ) (cs : List (Subtree T)) (old now : Visited T) → place ≤ length old.visits
+  pub walk_begun : (branch : Visit T) (place : ℕ) (cs : List (Subtree T)) (old now : Walk T) → place ≤ length old.visits
       → length old.sizes ≡ length old.visits → now.visits ≡ old.visits ++ branch ∷ [] → now.above ≡ old.above ++ place ∷ []
       → now.sizes ≡ old.sizes ++ 0 ∷ [] → Walking branch.now place cs old now 0
-  walk_begun branch place cs old now above level visits_are places_are sizes_are = record {
+  walk_begun branch place cs old now above level visits_are above_are sizes_are = record {
     first = branch;
     first_is = refl;
     rest = [];
@@ -91,7 +85,7 @@ module _ {T : Type 0} where
     level = omega arith;
     above = above;
     more = place ∷ [];
-    places_are = places_are;
+    above_are = above_are;
     placed = refl;
     each = one;
     sizes_are = sizes_are;
@@ -107,7 +101,7 @@ module _ {T : Type 0} where
       one rows j b (suc k) visit f = absurd (cc)
 
   -- the branch stands where it was put
-  pub stands : (branch : Subtree T) (place : ℕ) (cs : List (Subtree T)) (old now : Visited T) (i : ℕ) → Walking branch place cs old now i
+  pub stands : (branch : Subtree T) (place : ℕ) (cs : List (Subtree T)) (old now : Walk T) (i : ℕ) → Walking branch place cs old now i
       → StandsAt now.visits (length old.visits) branch.value
   stands branch place cs old now i w = record {
     visit = w.first;
@@ -116,7 +110,7 @@ module _ {T : Type 0} where
   }
 
   -- there is a size for each visit, and more visits than there were
-  pub levels : (branch : Subtree T) (place : ℕ) (cs : List (Subtree T)) (old now : Visited T) (i : ℕ) → Walking branch place cs old now i
+  pub levels : (branch : Subtree T) (place : ℕ) (cs : List (Subtree T)) (old now : Walk T) (i : ℕ) → Walking branch place cs old now i
       → (length now.sizes ≡ length now.visits) × (length old.visits < length now.visits)
   levels branch place cs old now i w =
       let a = ap length w.sizes_are in
@@ -127,10 +121,10 @@ module _ {T : Type 0} where
       (omega (arith, length-append old.sizes (0 ∷ map visit_size w.rest)), omega arith)
 
   -- a walk over the next child is one child more
-  pub child_walked : (branch : Subtree T) (place : ℕ) (cs : List (Subtree T)) (old now later : Visited T) (i at : ℕ) (c : Subtree T)
+  pub child_walked : (branch : Subtree T) (place : ℕ) (cs : List (Subtree T)) (old now later : Walk T) (i at : ℕ) (c : Subtree T)
       → branch.below ≡ spread cs → IsForest cs → i < length cs → c ≡ get_or cs i c → at ≡ length old.visits
       → Walking branch place cs old now i
-      → AddsWalk c at now.visits later.visits now.above later.above now.sizes later.sizes
+      → AddsWalk c at now later
       → Walking branch place cs old later (i + 1)
   child_walked branch place cs old now later i at c below forest lt here at_is w adds = record {
     first = w.first;
@@ -140,7 +134,7 @@ module _ {T : Type 0} where
     level = longer_now;
     above = w.above;
     more = w.more ++ adds.more;
-    places_are = adds.places_are ∙ ap (λ x. x ++ adds.more) w.places_are ∙ append_assoc old.above w.more adds.more;
+    above_are = adds.above_are ∙ ap (λ x. x ++ adds.more) w.above_are ∙ append_assoc old.above w.more adds.more;
     placed = (let a = w.placed in let b = adds.walked.placed in
         omega (arith, length-append w.more adds.more, length-append w.rest adds.visits));
     each = λ rows j b k visit f. elim (get_append (w.first ∷ w.rest) adds.visits k visit f) [
@@ -194,16 +188,16 @@ module _ {T : Type 0} where
           omega arith
 
   -- past the last child, and with its size written, all of the branch is walked over
-  pub walk_ended : (branch : Subtree T) (place : ℕ) (cs : List (Subtree T)) (old now : Visited T) (sizes : List ℕ) (i at size : ℕ)
+  pub walk_ended : (branch : Subtree T) (place : ℕ) (cs : List (Subtree T)) (old now : Walk T) (sizes : List ℕ) (i at size : ℕ)
       → branch.below ≡ spread cs → length cs ≤ i → at ≡ length old.visits → size ≡ length now.visits - at
       → sizes ≡ slice_set now.sizes at size → Walking branch place cs old now i
-      → AddsWalk branch place old.visits now.visits old.above now.above old.sizes sizes
+      → AddsWalk branch place old (record { visits = now.visits; above = now.above; sizes = sizes })
   walk_ended branch place cs old now sizes i at size below le at_is size_is set w = record {
     visits = w.first ∷ w.rest;
     is = w.is;
     first = stands branch place cs old now i w;
     more = w.more;
-    places_are = w.places_are;
+    above_are = w.above_are;
     walked = record { level = level; placed = w.placed; each = w.each };
     sizes_are =
         set ∙ ap (λ x. slice_set x at size) w.sizes_are

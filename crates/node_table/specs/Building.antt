@@ -1,5 +1,6 @@
 -- Nodes and rows made from branches with numbers.
-use Rattle.std.specs.Prelude.{◌≡◌, ℕ, ◌+◌, ◌-◌, ◌^◌, ◌<◌, ◌≤◌, List, [], ◌∷◌, ◌++◌, length, map, min, count_by, slice_get, slice_index, Some, Bool, true, false, ⊤}
+use Rattle.std.specs.Prelude.{◌≡◌, ℕ, ◌+◌, ◌-◌, ◌^◌, ◌<◌, ◌≤◌, List, [], ◌∷◌, ◌++◌, length, map, min, count_by, slice_get, slice_index, Some, ⊤}
+use Rattle.std.specs.Bool.{MatchBool}
 use Rattle.romfs_format.specs.Fields.{exec, spec}
 use Rattle.romfs_format.specs.Heads.{head_of}
 use Rattle.romfs_reader.specs.Readers.{IsGiven, IsDataPart}
@@ -11,21 +12,24 @@ use Rattle.stack_table.specs.declared.node.Node.{Node}
 use Rattle.stack_table.specs.declared.directory.Directory.{Directory}
 use Rattle.name_keys.specs.Keyed.{AddsKeys}
 use Rattle.stack_table.specs.Rows.{Line, names}
-use Rattle.node_table.specs.Walks.{Visit}
+use Rattle.stack_table.specs.Directories.{HeldDirectories}
+use Rattle.node_table.specs.declared.building.First.{First}
+use Rattle.node_table.specs.Walks.{Visit, Walk}
+use Rattle.node_table.specs.Numbering.{number_among}
 
 -- the row of a child
 abbrev pub line_in : (Place → ℕ) → Subtree Entry → Line
 line_in tell c = record { number = tell c.value.place; name = c.name }
 
 -- how many of these branches are directories
-abbrev pub directories : List (Subtree Entry) → ℕ
-directories cs = count_by (λ c. is_directory c.value.kind) cs
+abbrev pub count_directories : List (Subtree Entry) → ℕ
+count_directories cs = count_by (λ c. is_directory c.value.kind) cs
 
 -- the rows of children are added at the end, and the directories among these counted
 pub record AddsRows (tell : Place → ℕ) (cs : List (Subtree Entry)) (old new : List Line)
     (n : ℕ) : Type 0 where
   pub rows_are : new ≡ old ++ map (line_in tell) cs
-  pub count_is : n ≡ directories cs
+  pub count_is : n ≡ count_directories cs
 
 -- a branch's number and size stand at this place
 pub record HasNumberAndSize (tell : Place → ℕ) (numbers sizes : List ℕ) (at : ℕ)
@@ -52,23 +56,24 @@ pub record HasChildrenAfter (tell : Place → ℕ) (numbers sizes : List ℕ) (a
 
 -- the number of the branch above the one at this place
 abbrev pub number_above : List ℕ → List ℕ → ℕ → ℕ
-number_above numbers places at = slice_index numbers (slice_index places at)
+number_above numbers above at = slice_index numbers (slice_index above at)
 
 -- there is such a number
-pub record HasAbove (numbers places : List ℕ) (at : ℕ) : Type 0 where
-  pub placed : at < length places
-  pub within : slice_index places at < length numbers
+pub record HasAbove (numbers above : List ℕ) (at : ℕ) : Type 0 where
+  pub placed : at < length above
+  pub within : slice_index above at < length numbers
 
 -- the first branches stand where starts say, with numbers of their parents and children at hand
-pub record StandAtStarts (tell : Place → ℕ) (visits : List (Visit Entry))
-    (numbers places sizes : List ℕ) (first : List (Visit Entry)) (starts : List ℕ) : Type 0 where
+pub record StandAtStarts (walk : Walk Entry) (numbers : List ℕ) (first : List (Visit Entry))
+    (starts : List ℕ) : Type 0 where
   pub level : length starts ≡ length first
   pub there : (k : ℕ) (visit : Visit Entry) → slice_get first k ≡ Some visit
-      → slice_get visits (slice_index starts k) ≡ Some visit
+      → slice_get walk.visits (slice_index starts k) ≡ Some visit
   pub above : (k : ℕ) (visit : Visit Entry) → slice_get first k ≡ Some visit
-      → HasAbove numbers places (slice_index starts k)
+      → HasAbove numbers walk.above (slice_index starts k)
   pub children : (k : ℕ) (visit : Visit Entry) → slice_get first k ≡ Some visit
-      → HasChildrenAfter tell numbers sizes (slice_index starts k) visit.now
+      → HasChildrenAfter (number_among walk.visits) numbers walk.sizes (slice_index starts k)
+      visit.now
 
 -- the header at a branch's place is one that the place's image gives
 pub record HasGivenHeader (layers : List (List ℕ)) (branch : Subtree Entry) : Type 0 where
@@ -82,60 +87,58 @@ pub record IsReadFrom (image : List ℕ) (header : ℕ) (node : Node) : Type 0 w
   pub exec_is : node.exec ≡ exec image header
   pub spec_is : node.rdev ≡ spec image header
 
--- the directory that a branch with these children is: its rows are added at the end, and their keys
-pub record IsMade (tell : Place → ℕ) (above : ℕ) (cs : List (Subtree Entry)) (old new : List Line)
-    (keys keys' : List ℕ) (directory : Directory) : Type 0 where
-  pub parent_is : directory.parent ≡ above
-  pub start_is : directory.rows_start ≡ length old
-  pub end_is : directory.rows_end ≡ length new
-  pub rows_are : new ≡ old ++ map (line_in tell) cs
-  pub keys_are : AddsKeys directory.shared (names (map (line_in tell) cs)) keys keys'
-
--- a branch's directory is added, and the directories in it are counted
-pub record AddsDirectory (tell : Place → ℕ) (branch : Subtree Entry) (above : ℕ)
-    (held held' : List Directory) (old new : List Line) (keys keys' : List ℕ) (n : ℕ) : Type 0 where
-  pub children : List (Subtree Entry)
-  pub below : branch.below ≡ spread children
-  pub forest : IsForest children
-  pub directory : Directory
-  pub is : held' ≡ held ++ directory ∷ []
-  pub made : IsMade tell above children old new keys keys' directory
-  pub count_is : n ≡ directories children
-
--- a directory is added, which is linked by its name, its own dot and the directories in it
-pub record AddsLinked (tell : Place → ℕ) (branch : Subtree Entry) (above nlink : ℕ)
-    (held held' : List Directory) (old new : List Line) (keys keys' : List ℕ) : Type 0 where
-  pub count : ℕ
-  pub added : AddsDirectory tell branch above held held' old new keys keys' count
-  pub nlink_is : nlink ≡ min (2 + count) (2 ^ 32 - 1)
-
--- nothing is added, and the node is linked by its paths
-pub record AddsNothing (paths nlink : ℕ) (held held' : List Directory) (old new : List Line)
-    (keys keys' : List ℕ) : Type 0 where
-  pub held_are : held' ≡ held
-  pub rows_are : new ≡ old
-  pub keys_are : keys' ≡ keys
-  pub nlink_is : nlink ≡ paths
-
--- what is added for a node that is a directory, or is none
-abbrev pub AddsByKind : (Place → ℕ) → Subtree Entry → ℕ → ℕ → Bool → ℕ → List Directory
-    → List Directory → List Line → List Line → List ℕ → List ℕ → Type 0
-AddsByKind tell branch above paths true nlink held held' old new keys keys' =
-    AddsLinked tell branch above nlink held held' old new keys keys'
-AddsByKind tell branch above paths false nlink held held' old new keys keys' =
-    AddsNothing paths nlink held held' old new keys keys'
-
--- the node of a branch, before it is completed
-pub record AddsNode (layers : List (List ℕ)) (tell : Place → ℕ) (branch : Subtree Entry)
-    (above paths : ℕ) (held held' : List Directory) (old new : List Line) (keys keys' : List ℕ)
-    (node : Node) : Type 0 where
+-- the node is the branch's, and holds what the header at the branch's place says
+pub record IsReadOf (layers : List (List ℕ)) (branch : Subtree Entry) (node : Node) : Type 0 where
   pub kind_is : node.kind ≡ branch.value.kind
   pub place_is : node.place ≡ branch.value.place
   pub read : (image : List ℕ) → slice_get layers node.place.layer ≡ Some image
       → IsReadFrom image node.place.header node
-  pub directory_is : node.directory ≡ length held
-  pub adds : AddsByKind tell branch above paths
-      (is_directory node.kind) node.nlink held held' old new keys keys'
+
+-- the directory that a branch with these children is: its rows are added at the end, and their keys
+pub record IsMade (tell : Place → ℕ) (above : ℕ) (cs : List (Subtree Entry))
+    (old new : HeldDirectories) (directory : Directory) : Type 0 where
+  pub parent_is : directory.parent ≡ above
+  pub start_is : directory.rows_start ≡ length old.rows
+  pub end_is : directory.rows_end ≡ length new.rows
+  pub rows_are : new.rows ≡ old.rows ++ map (line_in tell) cs
+  pub keys_are : AddsKeys directory.shared (names (map (line_in tell) cs)) old.keys new.keys
+
+-- a branch's directory is added, and the directories in it are counted
+pub record AddsDirectory {A : Type 0} (tell : Place → ℕ) (first : First A)
+    (old new : HeldDirectories) (n : ℕ) : Type 0 where
+  pub children : List (Subtree Entry)
+  pub below : first.branch.now.below ≡ spread children
+  pub forest : IsForest children
+  pub directory : Directory
+  pub is : new.all ≡ old.all ++ directory ∷ []
+  pub made : IsMade tell first.parent children old new directory
+  pub count_is : n ≡ count_directories children
+
+-- a directory is added, which is linked by its name, its own dot and the directories in it
+pub record AddsLinked {A : Type 0} (tell : Place → ℕ) (first : First A) (nlink : ℕ)
+    (old new : HeldDirectories) : Type 0 where
+  pub count : ℕ
+  pub added : AddsDirectory tell first old new count
+  pub nlink_is : nlink ≡ min (2 + count) (2 ^ 32 - 1)
+
+-- nothing is added, and the node is linked by its paths
+pub record AddsNothing (paths nlink : ℕ) (old new : HeldDirectories) : Type 0 where
+  pub same : new ≡ old
+  pub nlink_is : nlink ≡ paths
+
+-- what is added for a first branch that is a directory, or is none
+abbrev pub AddsByKind : {A : Type 0} → (Place → ℕ) → First A → ℕ → HeldDirectories
+    → HeldDirectories → Type 0
+AddsByKind tell first nlink old new =
+    MatchBool (is_directory first.branch.now.value.kind) (AddsLinked tell first nlink old new)
+    (AddsNothing first.paths nlink old new)
+
+-- the node of a first branch, before it is completed
+pub record AddsNode {A : Type 0} (layers : List (List ℕ)) (tell : Place → ℕ) (first : First A)
+    (old new : HeldDirectories) (node : Node) : Type 0 where
+  pub read : IsReadOf layers first.branch.now node
+  pub directory_is : node.directory ≡ length old.all
+  pub adds : AddsByKind tell first node.nlink old new
 
 -- the node with what its kind makes of that
 abbrev pub completed : Node → Node

@@ -6,6 +6,7 @@ use Rattle.std.specs.Option.{option_map}
 use Rattle.stack_model.specs.Stack.{Path}
 use Rattle.stack_model.specs.Numbers.{same_name, same_path}
 use Rattle.path_tree.specs.Rows.{Subtree, Rows, whole}
+use Rattle.node_table.specs.declared.walk.Walked.{Walked}
 
 -- a branch, as it is lent
 abbrev pub Visit : Type 0 → Type 0
@@ -59,19 +60,38 @@ pub record IsBelow {T : Type 0} (rows : Rows T) (j : ℕ) (branch : Subtree T)
 -- the visits are the branch and all below it, in the order of their rows, and the branch above each
 -- one stands at its place among all
 pub record AreWalked {T : Type 0} (branch : Subtree T) (place : ℕ) (all visits : List (Visit T))
-    (places : List ℕ) : Type 0 where
+    (above : List ℕ) : Type 0 where
   pub level : length visits ≡ length (whole branch)
-  pub placed : length places ≡ length visits
+  pub placed : length above ≡ length visits
   pub each : (rows : Rows T) (j : ℕ) → IsBelow rows j branch all place → (k : ℕ) (visit : Visit T)
-      → slice_get visits k ≡ Some visit → IsBelow rows (j + k) visit.now all (slice_index places k)
+      → slice_get visits k ≡ Some visit → IsBelow rows (j + k) visit.now all (slice_index above k)
 
--- these are added at the end, the branch first, with the places of those above them and their sizes
-pub record AddsWalk {T : Type 0} (branch : Subtree T) (place : ℕ) (old new : List (Visit T))
-    (places places' sizes sizes' : List ℕ) : Type 0 where
+-- branches in the order of their paths, where the one above each stands, and how many branches each
+-- is with all below it
+pub record Walk (T : Type 0) : Type 0 where
   pub visits : List (Visit T)
-  pub is : new ≡ old ++ visits
-  pub first : StandsAt new (length old) branch.value
+  pub above : List ℕ
+  pub sizes : List ℕ
+
+-- those that the code holds
+abbrev pub walk_of : {T A : Type 0} → Walked T A → Walk T
+walk_of walked = record {
+  visits = walked.visits.items;
+  above = walked.above.items;
+  sizes = walked.sizes.items;
+}
+
+-- none
+abbrev pub no_walk : {T : Type 0} → Walk T
+no_walk = record { visits = []; above = []; sizes = [] }
+
+-- a branch and all below it are added at the end
+pub record AddsWalk {T : Type 0} (branch : Subtree T) (place : ℕ) (old new : Walk T)
+    : Type 0 where
+  pub visits : List (Visit T)
+  pub is : new.visits ≡ old.visits ++ visits
+  pub first : StandsAt new.visits (length old.visits) branch.value
   pub more : List ℕ
-  pub places_are : places' ≡ places ++ more
-  pub walked : AreWalked branch place new visits more
-  pub sizes_are : sizes' ≡ sizes ++ map visit_size visits
+  pub above_are : new.above ≡ old.above ++ more
+  pub walked : AreWalked branch place new.visits visits more
+  pub sizes_are : new.sizes ≡ old.sizes ++ map visit_size visits

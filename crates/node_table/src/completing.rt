@@ -16,6 +16,36 @@ use std::thread::Threads;
 /// Fewer nodes than this are completed by the caller alone, since a thread costs more.
 const MANY: usize = 0x2_0000;
 
+// Completes all nodes, in several threads where there are many.
+pub(crate) fn complete_all<R: Threads + Sync>(rt: &R, nodes: &mut [Node])
+    ensures { nodes.new ≡ map completed nodes.old }
+{
+    if nodes.len() < MANY {
+        complete_each(nodes);
+        return;
+    }
+    par_for_each_mut(
+        rt,
+        nodes,
+        |_at: usize, node: &mut Node|
+            ensures { node.new ≡ completed node.old }
+        { complete(node) },
+    );
+}
+
+// The full sizes of images in blocks of 512 bytes, each rounded up, then summed.
+pub(crate) fn blocks_of<A: Allocator>(images: &[Image<A>]) -> u64
+    requires { length images.now ≤ MAX_LAYERS }
+    ensures blocks { result ≡ blocks_all images.now }
+    ensures sound { AllByRecursion IsImage images.now }
+{
+    let mut blocks = 0;
+    for image in images {
+        blocks += (u64::from(image.full()) + 511) / 512;
+    }
+    blocks
+}
+
 // Type and permissions.
 fn mode_of(kind: Kind, exec: bool) -> u32
     ensures { result ≡ mode_of kind exec }
@@ -54,23 +84,6 @@ fn complete(node: &mut Node)
     node.rdev = rdev_of(node.kind, node.rdev);
 }
 
-// Completes all nodes, in several threads where there are many.
-pub(crate) fn complete_all<R: Threads + Sync>(rt: &R, nodes: &mut [Node])
-    ensures { nodes.new ≡ map completed nodes.old }
-{
-    if nodes.len() < MANY {
-        complete_each(nodes);
-        return;
-    }
-    par_for_each_mut(
-        rt,
-        nodes,
-        |_at: usize, node: &mut Node|
-            ensures { node.new ≡ completed node.old }
-        { complete(node) },
-    );
-}
-
 // The same, one after another.
 fn complete_each(nodes: &mut [Node])
     ensures { nodes.new ≡ map completed nodes.old }
@@ -78,17 +91,4 @@ fn complete_each(nodes: &mut [Node])
     for node in nodes.iter_mut() {
         complete(node);
     }
-}
-
-// The full sizes of images in blocks of 512 bytes, each rounded up, then summed.
-pub(crate) fn blocks_of<A: Allocator>(images: &[Image<A>]) -> u64
-    requires { length images.now ≤ MAX_LAYERS }
-    ensures blocks { result ≡ blocks_all images.now }
-    ensures sound { AllByRecursion IsImage images.now }
-{
-    let mut blocks = 0;
-    for image in images {
-        blocks += (u64::from(image.full()) + 511) / 512;
-    }
-    blocks
 }

@@ -8,6 +8,26 @@ ghost use Rattle.node_table.specs.Firsts.{ArePlacesByKey, AreFirsts, AreThemselv
 use equal_keys::seen_once;
 use std::alloc::{AllocError, Allocator};
 
+// For each place of a list the first place with the same key. It takes n log n steps.
+pub(crate) fn firsts_of<A: Allocator + Copy>(
+    alloc: A,
+    keys: &[u64],
+) -> Result<Vec<usize, A>, AllocError>
+    ensures { IfOk result (λ firsts. AreFirsts keys.now firsts.items) }
+{
+    let by_key = places_by_key(alloc, keys)?;
+    let mut firsts = themselves(alloc, keys.len())?;
+    // the key that was met last, with its first place
+    let mut group = (0, 0);
+    for (i, keyed) in by_key.iter().enumerate() {
+        if i == 0 || keyed.0 != group.0 {
+            group = *keyed;
+        }
+        firsts[keyed.1] = group.1;
+    }
+    Ok(firsts)
+}
+
 // Keys with their places, in the order of keys, and of places where keys are equal. Some keys that
 // stand once are left out.
 fn places_by_key<A: Allocator + Copy>(
@@ -37,24 +57,4 @@ fn themselves<A: Allocator + Copy>(alloc: A, len: usize) -> Result<Vec<usize, A>
         places.push(at)?;
     }
     Ok(places)
-}
-
-// For each place of a list the first place with the same key. It takes n log n steps.
-pub(crate) fn firsts_of<A: Allocator + Copy>(
-    alloc: A,
-    keys: &[u64],
-) -> Result<Vec<usize, A>, AllocError>
-    ensures { IfOk result (λ firsts. AreFirsts keys.now firsts.items) }
-{
-    let by_key = places_by_key(alloc, keys)?;
-    let mut firsts = themselves(alloc, keys.len())?;
-    // the key that was met last, with its first place
-    let mut group = (0, 0);
-    for (i, keyed) in by_key.iter().enumerate() {
-        if i == 0 || keyed.0 != group.0 {
-            group = *keyed;
-        }
-        firsts[keyed.1] = group.1;
-    }
-    Ok(firsts)
 }

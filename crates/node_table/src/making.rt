@@ -93,8 +93,7 @@ fn parts_of<A: Allocator + Copy>(
 ) -> Result<TableParts<A>, AllocError>
     requires tree { IsTreeOf 0 images.now tree.now }
     requires sound { AllByRecursion IsImage images.now }
-    ensures { IfOk result (λ made. AreMade images.now made.nodes.items
-        made.directories.all.items made.directories.rows.items made.directories.keys.items) }
+    ensures { IfOk result (λ made. AreMade images.now made.nodes.items made.directories) }
 {
     let root = tree.root();
     let mut all = Walked::with_room(alloc, count_branches(root))?;

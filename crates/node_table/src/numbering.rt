@@ -19,38 +19,6 @@ pub(crate) struct Numbered<A: Allocator> {
     pub(crate) numbers: Vec<u64, A>,
 }
 
-// A place as one number.
-fn place_key(place: Place) -> u64
-    ensures value { result ≡ place_key place }
-    ensures small { place.header < 2 ^ 32 }
-{
-    u64::from(place.layer) * 0x1_0000_0000 + u64::from(place.header)
-}
-
-// The places of branches, each as one number.
-fn keys_of<A: Allocator + Copy>(
-    alloc: A,
-    visits: &[&Branch<Entry, A>],
-) -> Result<Vec<u64, A>, AllocError>
-    ensures { IfOk result (λ keys. AreKeys visits.now keys.items) }
-{
-    let mut keys = Vec::with_capacity(alloc, visits.len())?;
-    for visit in visits {
-        keys.push(place_key(visit.value().place))?;
-    }
-    Ok(keys)
-}
-
-// One path more at a place.
-fn count_one<A: Allocator>(paths: &mut Vec<u32, A>, at: usize)
-    requires { at < length paths.old.items }
-    ensures { paths.new.items
-        ≡ slice_set paths.old.items at (one_more (slice_index paths.old.items at)) }
-{
-    let count = paths[at];
-    paths[at] = count.saturating_add(1);
-}
-
 // Numbers the places of these branches. It takes n log n steps.
 pub(crate) fn number_places<A: Allocator + Copy>(
     alloc: A,
@@ -83,4 +51,36 @@ pub(crate) fn number_places<A: Allocator + Copy>(
         paths,
         numbers,
     })
+}
+
+// A place as one number.
+fn place_key(place: Place) -> u64
+    ensures value { result ≡ place_key place }
+    ensures small { place.header < 2 ^ 32 }
+{
+    u64::from(place.layer) * 0x1_0000_0000 + u64::from(place.header)
+}
+
+// The places of branches, each as one number.
+fn keys_of<A: Allocator + Copy>(
+    alloc: A,
+    visits: &[&Branch<Entry, A>],
+) -> Result<Vec<u64, A>, AllocError>
+    ensures { IfOk result (λ keys. AreKeys visits.now keys.items) }
+{
+    let mut keys = Vec::with_capacity(alloc, visits.len())?;
+    for visit in visits {
+        keys.push(place_key(visit.value().place))?;
+    }
+    Ok(keys)
+}
+
+// One path more at a place.
+fn count_one<A: Allocator>(paths: &mut Vec<u32, A>, at: usize)
+    requires { at < length paths.old.items }
+    ensures { paths.new.items
+        ≡ slice_set paths.old.items at (one_more (slice_index paths.old.items at)) }
+{
+    let count = paths[at];
+    paths[at] = count.saturating_add(1);
 }

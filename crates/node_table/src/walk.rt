@@ -1,7 +1,7 @@
 //! The branches of a tree in the order of their paths.
 
-ghost use Rattle.std.specs.Prelude.{◌≡◌, ◌≤◌, [], length, IfOk, OnOk};
-ghost use Rattle.node_table.specs.Walks.{AddsWalk};
+ghost use Rattle.std.specs.Prelude.{◌≡◌, ◌≤◌, length, IfOk, OnOk};
+ghost use Rattle.node_table.specs.Walks.{walk_of, no_walk, AddsWalk};
 
 use path_tree::Branch;
 use std::alloc::{AllocError, Allocator};
@@ -19,8 +19,7 @@ pub(crate) struct Walked<'t, T: Copy + Drop, A: Allocator> {
 impl<'t, T: Copy + Drop, A: Allocator + Copy> Walked<'t, T, A> {
     // No branch yet, with room for this many.
     pub(crate) fn with_room(alloc: A, room: usize) -> Result<Self, AllocError>
-        ensures { IfOk result
-            (λ w. (w.visits.items ≡ []) × (w.above.items ≡ []) × (w.sizes.items ≡ [])) }
+        ensures { IfOk result (λ walked. walk_of walked ≡ no_walk) }
     {
         Ok(Walked {
             visits: Vec::with_capacity(alloc, room)?,
@@ -48,8 +47,7 @@ pub(crate) fn walk<'t, T: Copy + Drop, A: Allocator>(
 ) -> Result<(), AllocError>
     requires level { length out.old.sizes.items ≡ length out.old.visits.items }
     requires above { place ≤ length out.old.visits.items }
-    ensures { OnOk result (AddsWalk branch.now place out.old.visits.items out.new.visits.items
-        out.old.above.items out.new.above.items out.old.sizes.items out.new.sizes.items) }
+    ensures { OnOk result (AddsWalk branch.now place (walk_of out.old) (walk_of out.new)) }
 {
     let at = out.visits.len();
     out.visits.push(branch)?;

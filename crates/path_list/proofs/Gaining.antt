@@ -8,21 +8,22 @@ use Rattle.std.proofs.KnownBytes.{Appends-nil, Appends-trans}
 use Rattle.std.proofs.lemmas.List.Concat.{flat_map-append}
 use Rattle.stack_model.specs.Stack.{Path}
 use Rattle.path_list.specs.Lines.{escaped, name_text, names_text}
-use Rattle.devices.specs.States.{SinkState}
-use Rattle.path_list.specs.Walks.{Gains, Puts}
+use Rattle.path_list.specs.Walks.{Passage, Gains, Puts}
 
 -- where nothing was put, nothing is gained
-pub puts_none : {X E : Type 0} (x : X) (w : SinkState) (r : List ℕ) → Puts {E = E} (Ok x) w r w r []
-puts_none x w r = record { gained = record { gained = Appends-nil (append_known w.held r) }; counted = (refl, omega arith) }
+pub puts_none : {X E : Type 0} (x : X) (w : Passage) → Puts {E = E} (Ok x) w w []
+puts_none x w = record { gained = record { gained = Appends-nil (append_known w.sink.held w.waiting) }; counted = (refl, omega arith) }
 
 -- what is gained twice is gained together
-pub gains_more : {u v w : SinkState} {r s t xs ys : List ℕ} → Gains u r v s xs → Gains v s w t ys → Gains u r w t (xs ++ ys)
-gains_more {u} {v} {w} {r} {s} {t} {xs} {ys} x y =
-    record { gained = Appends-trans (append_known u.held r) (append_known v.held s) (append_known w.held t) xs ys x.gained y.gained }
+pub gains_more : {u v w : Passage} {xs ys : List ℕ} → Gains u v xs → Gains v w ys → Gains u w (xs ++ ys)
+gains_more {u} {v} {w} {xs} {ys} x y = record {
+  gained = Appends-trans (append_known u.sink.held u.waiting) (append_known v.sink.held v.waiting) (append_known w.sink.held w.waiting)
+      xs ys x.gained y.gained;
+}
 
 -- what is put by two calls is what the one put and then what the other did
-pub puts_more : {X Y E F : Type 0} {x : X} {q : Result Y F} {u v w : SinkState} {r s t xs ys : List ℕ}
-    → Puts {E = E} (Ok x) u r v s xs → Puts q v s w t ys → Puts q u r w t (xs ++ ys)
+pub puts_more : {X Y E F : Type 0} {x : X} {q : Result Y F} {u v w : Passage} {xs ys : List ℕ} → Puts {E = E} (Ok x) u v xs
+    → Puts q v w ys → Puts q u w (xs ++ ys)
 puts_more {q = Ok y} f g = record {
   gained = gains_more f.gained g.gained;
   counted = (g.counted.0 ∙ f.counted.0, (let some = f.counted.1 in let more = g.counted.1 in omega arith));
@@ -30,11 +31,11 @@ puts_more {q = Ok y} f g = record {
 puts_more {q = Err e} f g = record { gained = tt; counted = g.counted ∙ ap (λ n. n + 1) f.counted.0 }
 
 -- what is gained may be told by any equal text
-pub gains_same : {u w : SinkState} {r t xs ys : List ℕ} → xs ≡ ys → Gains u r w t xs → Gains u r w t ys
+pub gains_same : {u w : Passage} {xs ys : List ℕ} → xs ≡ ys → Gains u w xs → Gains u w ys
 gains_same e x = rw (sym e) x
 
 -- what is put may be told by any equal text
-pub puts_same : {Y F : Type 0} {q : Result Y F} {u w : SinkState} {r t xs ys : List ℕ} → xs ≡ ys → Puts q u r w t xs → Puts q u r w t ys
+pub puts_same : {Y F : Type 0} {q : Result Y F} {u w : Passage} {xs ys : List ℕ} → xs ≡ ys → Puts q u w xs → Puts q u w ys
 puts_same e x = rw (sym e) x
 
 -- the texts of one element more are those before it, and its own

@@ -5,14 +5,14 @@ use Rattle.std.proofs.Common.{◌≡◌, ◌∙◌, sym, ap, ℕ, ◌+◌, ◌<�
 use Rattle.std.proofs.lemmas.List.{take-append-le}
 use Rattle.std.specs.Prelude.{flat_map, Result}
 use Rattle.devices.specs.declared.failed.Failed.{Failed}
-use Rattle.devices.specs.States.{SinkState}
+use Rattle.devices.specs.Pushing.{Settles}
 use Rattle.stack_model.specs.Stack.{Path}
 use Rattle.stack_model.specs.Listing.{Stacked}
 use Rattle.stack_table.specs.Rows.{Line}
 use Rattle.stack_table.specs.Readers.{rows_at}
 use Rattle.path_list.specs.declared.path_text.TheConstants.{LONGEST}
 use Rattle.path_list.specs.Lines.{name_text, printed}
-use Rattle.path_list.specs.Walks.{Puts, PutsAt, IsVisited, IsOnWay, line_as, lines_below, piece_at}
+use Rattle.path_list.specs.Walks.{Passage, Gains, Puts, PutsBelow, IsVisited, IsOnWay, line_as, lines_below, piece_at}
 use Rattle.path_list.proofs.Gaining.{puts_none, gains_more, gains_same, one_more}
 use Rattle.path_list.proofs.Visits.{IsTurn, fits, goes_on, walked}
 
@@ -20,9 +20,10 @@ use Rattle.path_list.proofs.Visits.{IsTurn, fits, goes_on, walked}
 abbrev pub pieces : Stacked → List Line → Path → List ℕ
 pieces stack rows path = flat_map (piece_at stack path) rows
 
--- the calls so far put what this is of the path, and none failed
-abbrev pub PutsSoFar : Stacked → ℕ → List ℕ → SinkState → List ℕ → SinkState → List ℕ → (Path → List ℕ) → Type 0
-PutsSoFar stack n text u r w t bytes = PutsAt {X = Unit {0}} {E = Failed} stack n text (Ok tt) u r w t bytes
+-- the calls so far put what this is of the path that is visited at this number and this text, and none failed
+pub record PutsSoFar (stack : Stacked) (n : ℕ) (text : List ℕ) (old new : Passage) (bytes : Path → List ℕ) : Type 0 where
+  pub gained : (path : Path) → IsVisited stack n text path → Gains old new (bytes path)
+  pub counted : Settles {X = Unit {0}} {E = Failed} (Ok tt) old.sink new.sink
 
 -- a text that went on and is cut back is as it was
 pub cut_back : (text more : List ℕ) {n : ℕ} {long : List ℕ} → long ≡ text ++ more → n ≡ length text → take n long ≡ text
@@ -31,9 +32,9 @@ cut_back text more {n} {long} e f = ap (λ q. take n q) e ∙ ap (λ k. take k (
 
 module _ (stack : Stacked) (n : ℕ) (text : List ℕ) where
   -- before the first turn nothing is put
-  pub no_turn : (rows : List Line) (w : SinkState) (r : List ℕ) → PutsSoFar stack n text w r w r (pieces stack (take 0 rows))
-  no_turn rows w r =
-      let p = puts_none {X = Unit {0}} {E = Failed} tt w r in
+  pub no_turn : (rows : List Line) (w : Passage) → PutsSoFar stack n text w w (pieces stack (take 0 rows))
+  no_turn rows w =
+      let p = puts_none {X = Unit {0}} {E = Failed} tt w in
       record { gained = λ path v. p.gained; counted = p.counted }
 
   -- the name of the row whose turn it is has room behind the text
@@ -50,11 +51,11 @@ module _ (stack : Stacked) (n : ℕ) (text : List ℕ) where
   on_way v t = (_, goes_on stack n text v.0 v.1 t)
 
   -- a turn puts a row's line and the lines below it
-  pub turn_more : {u v w x : SinkState} {r s t y : List ℕ} {rows : List Line} {i m : ℕ} {name : List ℕ} → IsTurn stack n rows i m name
-      → PutsSoFar stack n text u r v s (pieces stack (take i rows))
-      → Puts {X = Unit {0}} {E = Failed} (Ok tt) v s w t (line_as stack m (printed (text ++ 47 ∷ name_text name)))
-      → PutsSoFar stack m (text ++ 47 ∷ name_text name) w t x y (lines_below stack)
-      → PutsSoFar stack n text u r x y (pieces stack (take (i + 1) rows))
+  pub turn_more : {u v w x : Passage} {rows : List Line} {i m : ℕ} {name : List ℕ} → IsTurn stack n rows i m name
+      → PutsSoFar stack n text u v (pieces stack (take i rows))
+      → Puts {X = Unit {0}} {E = Failed} (Ok tt) v w (line_as stack m (printed (text ++ 47 ∷ name_text name)))
+      → PutsBelow {X = Unit {0}} {E = Failed} stack m (text ++ 47 ∷ name_text name) (Ok tt) w x
+      → PutsSoFar stack n text u x (pieces stack (take (i + 1) rows))
   turn_more {rows = rows} {i = i} {m = m} {name = name} turn before line below = record {
     gained = λ path v.
         let on = goes_on stack n text path v turn in
@@ -76,14 +77,14 @@ module _ (stack : Stacked) (n : ℕ) (text : List ℕ) where
   }
 
   -- all turns put the lines below the directory
-  pub all_turns : {u w : SinkState} {r t : List ℕ} (rows : List Line) (i : ℕ) → rows ≡ rows_at stack n → length rows ≤ i
-      → PutsSoFar stack n text u r w t (pieces stack (take i rows)) → PutsSoFar stack n text u r w t (lines_below stack)
+  pub all_turns : {u w : Passage} (rows : List Line) (i : ℕ) → rows ≡ rows_at stack n → length rows ≤ i
+      → PutsSoFar stack n text u w (pieces stack (take i rows)) → PutsBelow {X = Unit {0}} {E = Failed} stack n text (Ok tt) u w
   all_turns rows i e l p = record {
     gained = λ path v. gains_same (walked stack n text path v rows i e l) (p.gained path v);
     counted = p.counted;
   }
 
--- what is put at a path that is visited is put
-pub puts_at : {X E : Type 0} {q : Result X E} {stack : Stacked} {n : ℕ} {text : List ℕ} {u w : SinkState} {r t : List ℕ}
-    {bytes : Path → List ℕ} (path : Path) → IsVisited stack n text path → PutsAt stack n text q u r w t bytes → Puts q u r w t (bytes path)
+-- what is put below a path that is visited is put
+pub puts_at : {X E : Type 0} {q : Result X E} {stack : Stacked} {n : ℕ} {text : List ℕ} {u w : Passage} (path : Path)
+    → IsVisited stack n text path → PutsBelow stack n text q u w → Puts q u w (lines_below stack path)
 puts_at path v p = record { gained = p.gained path v; counted = p.counted }

@@ -12,17 +12,26 @@ use Rattle.stack_table.specs.Rows.{Line}
 use Rattle.path_list.specs.Lines.{names_text, path_text, line_with, line}
 use Rattle.path_list.specs.Below.{below, AreTree, AreShort}
 
--- what a sink holds together with the bytes on their way to it grew by these bytes
-pub record Gains (old : SinkState) (old_room : List ℕ) (new : SinkState) (new_room : List ℕ)
-    (bytes : List ℕ) : Type 0 where
-  pub gained : Appends (append_known old.held old_room) (append_known new.held new_room) bytes
+-- what a sink holds, and the bytes on their way to it
+pub record Passage : Type 0 where
+  pub sink : SinkState
+  pub waiting : List ℕ
+
+-- the same, made of both
+abbrev pub passage : SinkState → List ℕ → Passage
+passage sink waiting = record { sink = sink; waiting = waiting }
+
+-- all that a sink holds and that is on its way to it grew by these bytes
+pub record Gains (old new : Passage) (bytes : List ℕ) : Type 0 where
+  pub gained : Appends (append_known old.sink.held old.waiting)
+      (append_known new.sink.held new.waiting) bytes
 
 -- a call put these bytes behind those on their way, or the sink failed once more; where it succeeds
 -- no byte more waits for a flush
-pub record Puts {X E : Type 0} (result : Result X E) (old : SinkState) (old_room : List ℕ)
-    (new : SinkState) (new_room : List ℕ) (bytes : List ℕ) : Type 0 where
-  pub gained : OnOk result (Gains old old_room new new_room bytes)
-  pub counted : Settles result old new
+pub record Puts {X E : Type 0} (result : Result X E) (old new : Passage) (bytes : List ℕ)
+    : Type 0 where
+  pub gained : OnOk result (Gains old new bytes)
+  pub counted : Settles result old.sink new.sink
 
 -- the line of a number with this text of a path
 abbrev pub line_as : Stacked → ℕ → List ℕ → List ℕ
@@ -56,11 +65,10 @@ pub record IsVisited (stack : Stacked) (n : ℕ) (text : List ℕ) (path : Path)
 abbrev pub IsOnWay : Stacked → ℕ → List ℕ → Type 0
 IsOnWay stack n text = (path : Path) × IsVisited stack n text path
 
--- a call put what this is of the path that is visited at this number and this text, or the sink
--- failed once more
-pub record PutsAt {X E : Type 0} (stack : Stacked) (n : ℕ) (text : List ℕ) (result : Result X E)
-    (old : SinkState) (old_room : List ℕ) (new : SinkState) (new_room : List ℕ)
-    (bytes : Path → List ℕ) : Type 0 where
+-- a call put the lines of all paths below the one that is visited at this number and this text, or
+-- the sink failed once more
+pub record PutsBelow {X E : Type 0} (stack : Stacked) (n : ℕ) (text : List ℕ) (result : Result X E)
+    (old new : Passage) : Type 0 where
   pub gained : (path : Path) → IsVisited stack n text path
-      → OnOk result (Gains old old_room new new_room (bytes path))
-  pub counted : Settles result old new
+      → OnOk result (Gains old new (lines_below stack path))
+  pub counted : Settles result old.sink new.sink

@@ -12,6 +12,20 @@ use node_attr::Attr;
 /// and a mode.
 pub(crate) const FIELDS_SIZE: usize = 4 * 21 + 7;
 
+/// Writes the fields of a node in a layer to the end of some bytes, and returns where they start.
+pub(crate) fn write_fields(attr: &Attr, layer: u16, bytes: &mut [u8]) -> usize
+    requires { length bytes.old ≡ FIELDS_SIZE }
+    ensures start { result ≤ FIELDS_SIZE }
+    ensures written { drop result bytes.new
+        ≡ fields_text attr.now.ino attr.now.mode attr.now.nlink attr.now.size layer }
+{
+    let at = write_number(u64::from(layer), bytes, FIELDS_SIZE);
+    let at = write_number(attr.size, bytes, at);
+    let at = write_number(u64::from(attr.nlink), bytes, at);
+    let at = write_mode(attr.mode, bytes, at);
+    write_number(attr.ino, bytes, at)
+}
+
 // Writes a byte that ends at `end`, and returns where it starts.
 fn write_byte(byte: u8, bytes: &mut [u8], end: usize) -> usize
     requires some { 0 < end }
@@ -56,18 +70,4 @@ fn write_mode(mode: u32, bytes: &mut [u8], end: usize) -> usize
     let at = write_byte(octal_digit(mode / 512), bytes, at);
     let at = write_byte(octal_digit(mode / 4_096), bytes, at);
     write_byte(octal_digit(mode / 32_768), bytes, at)
-}
-
-/// Writes the fields of a node in a layer to the end of some bytes, and returns where they start.
-pub(crate) fn write_fields(attr: &Attr, layer: u16, bytes: &mut [u8]) -> usize
-    requires { length bytes.old ≡ FIELDS_SIZE }
-    ensures start { result ≤ FIELDS_SIZE }
-    ensures written { drop result bytes.new
-        ≡ fields_text attr.now.ino attr.now.mode attr.now.nlink attr.now.size layer }
-{
-    let at = write_number(u64::from(layer), bytes, FIELDS_SIZE);
-    let at = write_number(attr.size, bytes, at);
-    let at = write_number(u64::from(attr.nlink), bytes, at);
-    let at = write_mode(attr.mode, bytes, at);
-    write_number(attr.ino, bytes, at)
 }

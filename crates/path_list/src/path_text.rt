@@ -30,33 +30,6 @@ impl<A: Allocator> Model for PathText<A> {
     ghost invariant = { λ path. LONGEST ≤ vec_capacity path.text };
 }
 
-fn hex_digit(n: u8) -> u8
-    requires { n < 16 }
-    ensures { result ≡ hex_digit n }
-{
-    if n < 10 { 48 + n } else { 87 + n }
-}
-
-// Whether a byte of a name is printed as itself.
-fn is_unescaped(byte: u8) -> bool
-    ensures { result ≡ is_unescaped byte }
-{
-    0x21 <= byte && byte <= 0x7e && byte != b'\\'
-}
-
-// How many bytes at the front of a name are printed as themselves.
-fn count_unescaped(name: &[u8]) -> usize
-    ensures bound { result ≤ length name.now }
-    ensures same { name_text (take result name.now) ≡ take result name.now }
-{
-    for (at, byte) in name.iter().enumerate() {
-        if !is_unescaped(*byte) {
-            return at;
-        }
-    }
-    name.len()
-}
-
 impl<A: Allocator> PathText<A> {
     /// The text of the root, which has no names.
     pub(crate) fn new(alloc: A) -> Result<PathText<A>, AllocError>
@@ -85,6 +58,26 @@ impl<A: Allocator> PathText<A> {
         }
     }
 
+    /// Goes down to a name: up to its first byte that is escaped it is copied.
+    pub(crate) fn go_down(&mut self, name: &[u8])
+        requires { length self.old + length (name_text name.now) < LONGEST }
+        ensures { self.new ≡ self.old ++ 47 ∷ name_text name.now }
+    {
+        self.append(b"/");
+        let (run, others) = name.split_at(count_unescaped(name));
+        self.append(run);
+        for byte in others {
+            self.append_escaped(*byte);
+        }
+    }
+
+    /// Goes back up to where the names took so many bytes.
+    pub(crate) fn go_up(&mut self, len: usize)
+        ensures { self.new ≡ take len self.old }
+    {
+        self.text.truncate(len);
+    }
+
     // Appends bytes.
     fn append(&mut self, bytes: &[u8])
         requires { length self.old + length bytes.now ≤ LONGEST }
@@ -106,24 +99,31 @@ impl<A: Allocator> PathText<A> {
             self.append(&[b'\\', hex_digit(byte / 16), hex_digit(byte % 16)]);
         }
     }
+}
 
-    /// Goes down to a name: up to its first byte that is escaped it is copied.
-    pub(crate) fn go_down(&mut self, name: &[u8])
-        requires { length self.old + length (name_text name.now) < LONGEST }
-        ensures { self.new ≡ self.old ++ 47 ∷ name_text name.now }
-    {
-        self.append(b"/");
-        let (run, others) = name.split_at(count_unescaped(name));
-        self.append(run);
-        for byte in others {
-            self.append_escaped(*byte);
+fn hex_digit(n: u8) -> u8
+    requires { n < 16 }
+    ensures { result ≡ hex_digit n }
+{
+    if n < 10 { 48 + n } else { 87 + n }
+}
+
+// Whether a byte of a name is printed as itself.
+fn is_unescaped(byte: u8) -> bool
+    ensures { result ≡ is_unescaped byte }
+{
+    0x21 <= byte && byte <= 0x7e && byte != b'\\'
+}
+
+// How many bytes at the front of a name are printed as themselves.
+fn count_unescaped(name: &[u8]) -> usize
+    ensures bound { result ≤ length name.now }
+    ensures same { name_text (take result name.now) ≡ take result name.now }
+{
+    for (at, byte) in name.iter().enumerate() {
+        if !is_unescaped(*byte) {
+            return at;
         }
     }
-
-    /// Goes back up to where the names took so many bytes.
-    pub(crate) fn go_up(&mut self, len: usize)
-        ensures { self.new ≡ take len self.old }
-    {
-        self.text.truncate(len);
-    }
+    name.len()
 }

@@ -3,7 +3,7 @@
 ghost use Rattle.std.specs.Prelude.{◌≡◌, ◌≤◌, ◌<◌, ◌+◌, ◌^◌, [], ◌∷◌, ◌++◌, length, IfOk, OnOk, vec_len, vec_capacity};
 ghost use Rattle.std.specs.Io.KnownBytes.{Appends};
 ghost use Rattle.devices.specs.Pushing.{Settles};
-ghost use Rattle.path_list.specs.Walks.{Puts};
+ghost use Rattle.path_list.specs.Walks.{passage, Puts};
 
 use devices::{Failed, Sink, hand_on};
 use std::alloc::{AllocError, Allocator};
@@ -24,26 +24,6 @@ impl<A: Allocator> Room<A> {
         })
     }
 
-    // Appends bytes for which there is room, so that no growth can fail.
-    fn append(&mut self, bytes: &[u8])
-        requires { vec_len self.old.waiting + length bytes.now ≤ vec_capacity self.old.waiting }
-        ensures { self.new.waiting.items ≡ self.old.waiting.items ++ bytes.now }
-    {
-        let Ok(()) = self.waiting.extend_from_slice(bytes) else {
-            unreachable!()
-        };
-    }
-
-    // The same of one byte.
-    fn append_byte(&mut self, byte: u8)
-        requires { vec_len self.old.waiting < vec_capacity self.old.waiting }
-        ensures { self.new.waiting.items ≡ self.old.waiting.items ++ byte ∷ [] }
-    {
-        let Ok(()) = self.waiting.push(byte) else {
-            unreachable!()
-        };
-    }
-
     /// Hands on all bytes that wait.
     pub(crate) fn drain<K: Sink>(&mut self, sink: &mut K) -> Result<(), Failed>
         requires { (K.state sink.old).counts.failures < 2 ^ 63 }
@@ -62,8 +42,8 @@ impl<A: Allocator> Room<A> {
     /// no memory.
     pub(crate) fn put<K: Sink>(&mut self, sink: &mut K, bytes: &[u8]) -> Result<(), Failed>
         requires { (K.state sink.old).counts.failures < 2 ^ 63 }
-        ensures { Puts result (K.state sink.old) self.old.waiting.items
-            (K.state sink.new) self.new.waiting.items bytes.now }
+        ensures { Puts result (passage (K.state sink.old) self.old.waiting.items)
+            (passage (K.state sink.new) self.new.waiting.items) bytes.now }
     {
         if bytes.len() <= self.waiting.capacity() - self.waiting.len() {
             self.append(bytes);
@@ -80,13 +60,33 @@ impl<A: Allocator> Room<A> {
     /// Puts a byte.
     pub(crate) fn put_byte<K: Sink>(&mut self, sink: &mut K, byte: u8) -> Result<(), Failed>
         requires { (K.state sink.old).counts.failures < 2 ^ 63 }
-        ensures { Puts result (K.state sink.old) self.old.waiting.items
-            (K.state sink.new) self.new.waiting.items (byte ∷ []) }
+        ensures { Puts result (passage (K.state sink.old) self.old.waiting.items)
+            (passage (K.state sink.new) self.new.waiting.items) (byte ∷ []) }
     {
         if self.waiting.len() < self.waiting.capacity() {
             self.append_byte(byte);
             return Ok(());
         }
         self.put(sink, &[byte])
+    }
+
+    // Appends bytes for which there is room, so that no growth can fail.
+    fn append(&mut self, bytes: &[u8])
+        requires { vec_len self.old.waiting + length bytes.now ≤ vec_capacity self.old.waiting }
+        ensures { self.new.waiting.items ≡ self.old.waiting.items ++ bytes.now }
+    {
+        let Ok(()) = self.waiting.extend_from_slice(bytes) else {
+            unreachable!()
+        };
+    }
+
+    // The same of one byte.
+    fn append_byte(&mut self, byte: u8)
+        requires { vec_len self.old.waiting < vec_capacity self.old.waiting }
+        ensures { self.new.waiting.items ≡ self.old.waiting.items ++ byte ∷ [] }
+    {
+        let Ok(()) = self.waiting.push(byte) else {
+            unreachable!()
+        };
     }
 }

@@ -4,7 +4,7 @@ ghost use Rattle.std.specs.Prelude.{◌≡◌, ◌<◌, ◌≤◌, ◌^◌, [], 
 ghost use Rattle.path_list.specs.Below.{AreImages};
 ghost use Rattle.path_list.specs.Lines.{lines};
 ghost use Rattle.path_list.specs.Faults.{Lists, IsBrokenOff};
-ghost use Rattle.path_list.specs.Walks.{Puts, PutsAt, IsOnWay, line_as, lines_below};
+ghost use Rattle.path_list.specs.Walks.{passage, Puts, PutsBelow, IsOnWay, line_as};
 
 use crate::fields::{FIELDS_SIZE, write_fields};
 use crate::path_text::PathText;
@@ -46,14 +46,31 @@ impl From<Failed> for ListFault {
     }
 }
 
-// Tells that each image keeps all rules, and does nothing else: what a call on an image promises
-// says so of that image.
-fn are_images<A: Allocator>(images: &[Image<A>])
-    ensures { AreImages images.now }
+/// Puts a line for each shown path of the table's layers to a sink, in the order of the paths.
+///
+/// A line is `<number> <mode> <nlink> <size> <layer> <path>`: the mode in six octal digits, the
+/// layer that of the node's place, and the path after `/`, which alone is the root. A byte of a
+/// name outside 0x21 to 0x7e, and that of `\`, is printed as `\` and two lower hexadecimal digits.
+///
+/// The lines go out in pieces of about 64 KiB, each of which is flushed. Memory is taken first, 64
+/// KiB for a piece and 383 KiB for the longest path that there can be: at `Memory` the sink is as
+/// before. `Write` comes only where the sink failed in this call, once; nothing is said of what it
+/// then holds. Besides, it takes as much of the stack as the deepest path has names, and a time
+/// that grows with the length of the lines.
+pub fn write_list<A: Allocator + Copy, B: Allocator, K: Sink>(
+    alloc: A,
+    table: &Table<B>,
+    sink: &mut K,
+) -> Result<(), ListFault>
+    requires { (K.state sink.old).counts.failures < 2 ^ 63 }
+    ensures ok { OnOk result (Lists table.now (K.state sink.old) (K.state sink.new)) }
+    ensures err { IfErr result (IsBrokenOff table.now (K.state sink.old) (K.state sink.new)) }
 {
-    for image in images {
-        let _full = image.full();
-    }
+    let mut room = Room::new(alloc, PIECE)?;
+    let mut path = PathText::new(alloc)?;
+    room.put_all(sink, table, &mut path)?;
+    room.drain(sink)?;
+    Ok(())
 }
 
 impl<A: Allocator> Room<A> {
@@ -66,8 +83,9 @@ impl<A: Allocator> Room<A> {
         path: &[u8],
     ) -> Result<(), Failed>
         requires { (K.state sink.old).counts.failures < 2 ^ 63 }
-        ensures { Puts result (K.state sink.old) self.old.waiting.items
-            (K.state sink.new) self.new.waiting.items (line_as table.now number path.now) }
+        ensures { Puts result (passage (K.state sink.old) self.old.waiting.items)
+            (passage (K.state sink.new) self.new.waiting.items)
+            (line_as table.now number path.now) }
     {
         let Some(node) = table.node(number) else {
             return Ok(());
@@ -92,9 +110,9 @@ impl<A: Allocator> Room<A> {
     ) -> Result<(), Failed>
         requires on { IsOnWay table.now number path.old }
         requires counts { (K.state sink.old).counts.failures < 2 ^ 63 }
-        ensures put { PutsAt table.now number path.old result (K.state sink.old)
-            self.old.waiting.items (K.state sink.new) self.new.waiting.items
-            (lines_below table.now) }
+        ensures put { PutsBelow table.now number path.old result
+            (passage (K.state sink.old) self.old.waiting.items)
+            (passage (K.state sink.new) self.new.waiting.items) }
         ensures back { OnOk result (path.new ≡ path.old) }
     {
         let above = path.len();
@@ -116,8 +134,9 @@ impl<A: Allocator> Room<A> {
     ) -> Result<(), Failed>
         requires root { path.old ≡ [] }
         requires counts { (K.state sink.old).counts.failures < 2 ^ 63 }
-        ensures { Puts result (K.state sink.old) self.old.waiting.items
-            (K.state sink.new) self.new.waiting.items (lines table.now.layers table.now.entries) }
+        ensures { Puts result (passage (K.state sink.old) self.old.waiting.items)
+            (passage (K.state sink.new) self.new.waiting.items)
+            (lines table.now.layers table.now.entries) }
     {
         are_images(table.images());
         if table.len() == 0 {
@@ -128,29 +147,12 @@ impl<A: Allocator> Room<A> {
     }
 }
 
-/// Puts a line for each shown path of the table's layers to a sink, in the order of the paths.
-///
-/// A line is `<number> <mode> <nlink> <size> <layer> <path>`: the mode in six octal digits, the
-/// layer that of the node's place, and the path after `/`, which alone is the root. A byte of a
-/// name outside 0x21 to 0x7e, and that of `\`, is printed as `\` and two lower hexadecimal digits.
-///
-/// The lines go out in pieces of about 64 KiB, each of which is flushed. Memory is taken first, 64
-/// KiB for a piece and 383 KiB for the longest path that there can be: at `Memory` the sink is as
-/// before. `Write` comes only where the sink failed in this call, once; nothing is said of what it
-/// then holds. Besides, it takes as much of the stack as the deepest path has names, and a time
-/// that grows with the length of the lines.
-pub fn write_list<A: Allocator + Copy, B: Allocator, K: Sink>(
-    alloc: A,
-    table: &Table<B>,
-    sink: &mut K,
-) -> Result<(), ListFault>
-    requires { (K.state sink.old).counts.failures < 2 ^ 63 }
-    ensures ok { OnOk result (Lists table.now (K.state sink.old) (K.state sink.new)) }
-    ensures err { IfErr result (IsBrokenOff (K.state sink.old) (K.state sink.new)) }
+// Tells that each image keeps all rules, and does nothing else: what a call on an image promises
+// says so of that image.
+fn are_images<A: Allocator>(images: &[Image<A>])
+    ensures { AreImages images.now }
 {
-    let mut room = Room::new(alloc, PIECE)?;
-    let mut path = PathText::new(alloc)?;
-    room.put_all(sink, table, &mut path)?;
-    room.drain(sink)?;
-    Ok(())
+    for image in images {
+        let _full = image.full();
+    }
 }

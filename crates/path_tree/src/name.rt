@@ -9,66 +9,6 @@ use std::marker::Model;
 /// How many bytes stand in the value itself.
 const MOST: usize = 22;
 
-/// A name of at most 22 bytes, with zeros behind it.
-#[derive(Drop)]
-struct Short {
-    len: u8,
-    bytes: [u8; 22],
-}
-
-impl Model for Short {
-    ghost use Rattle.std.specs.Prelude.{◌≤◌, List, ℕ, take};
-    ghost use Rattle.path_tree.specs.Padded.{IsPadded};
-
-    ghost Value = { List ℕ };
-
-    ghost view = { λ s. take s.len s.bytes };
-
-    ghost invariant = { λ s. (s.len ≤ 22) × IsPadded (take s.len s.bytes) s.bytes };
-}
-
-impl Short {
-    #[tactic(auto, using(crate::proofs::Padded::zeros_left))]
-    fn of(name: &[u8]) -> Short
-        requires { length name.now ≤ 22 }
-        ensures { result ≡ name.now }
-    {
-        let mut bytes = [0; 22];
-        bytes[..name.len()].copy_from_slice(name);
-        Short {
-            len: name.len() as u8,
-            bytes,
-        }
-    }
-
-    fn as_slice(&self) -> &[u8]
-        ensures { result.now ≡ self.now }
-    {
-        &self.bytes[..self.len as usize]
-    }
-
-    fn padded(&self) -> &[u8; 22]
-        ensures { IsPadded self.now result.now }
-    {
-        &self.bytes
-    }
-
-    fn copied(&self) -> Short
-        ensures { result ≡ self.now }
-    {
-        Short {
-            len: self.len,
-            bytes: self.bytes,
-        }
-    }
-}
-
-#[derive(Drop)]
-enum Bytes<A: Allocator> {
-    Here(Short),
-    There(Box<Vec<u8, A>, A>),
-}
-
 /// A name of any length. It takes 24 bytes, and allocations only where it has more than 22. A
 /// clause sees its bytes.
 #[derive(Drop)]
@@ -135,6 +75,66 @@ impl<A: Allocator> Name<A> {
         match &self.bytes {
             Bytes::Here(short) => Some(short.padded()),
             Bytes::There(_) => None,
+        }
+    }
+}
+
+#[derive(Drop)]
+enum Bytes<A: Allocator> {
+    Here(Short),
+    There(Box<Vec<u8, A>, A>),
+}
+
+/// A name of at most 22 bytes, with zeros behind it.
+#[derive(Drop)]
+struct Short {
+    len: u8,
+    bytes: [u8; 22],
+}
+
+impl Model for Short {
+    ghost use Rattle.std.specs.Prelude.{◌≤◌, List, ℕ, take};
+    ghost use Rattle.path_tree.specs.Padded.{IsPadded};
+
+    ghost Value = { List ℕ };
+
+    ghost view = { λ s. take s.len s.bytes };
+
+    ghost invariant = { λ s. (s.len ≤ 22) × IsPadded (take s.len s.bytes) s.bytes };
+}
+
+impl Short {
+    #[tactic(auto, using(crate::proofs::Padded::zeros_left))]
+    fn of(name: &[u8]) -> Short
+        requires { length name.now ≤ 22 }
+        ensures { result ≡ name.now }
+    {
+        let mut bytes = [0; 22];
+        bytes[..name.len()].copy_from_slice(name);
+        Short {
+            len: name.len() as u8,
+            bytes,
+        }
+    }
+
+    fn as_slice(&self) -> &[u8]
+        ensures { result.now ≡ self.now }
+    {
+        &self.bytes[..self.len as usize]
+    }
+
+    fn padded(&self) -> &[u8; 22]
+        ensures { IsPadded self.now result.now }
+    {
+        &self.bytes
+    }
+
+    fn copied(&self) -> Short
+        ensures { result ≡ self.now }
+    {
+        Short {
+            len: self.len,
+            bytes: self.bytes,
         }
     }
 }

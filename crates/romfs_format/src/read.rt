@@ -56,45 +56,6 @@ pub fn kind_of(word: u32) -> Kind
     }
 }
 
-/// Where the first zero byte stands, if there is one. Most names are short, so the first bytes are
-/// looked at alone.
-fn first_zero(field: &[u8]) -> Option<usize>
-    ensures value { option_map (λ end. take end field.now) result ≡ ended field.now }
-    ensures within { IfSome result (λ end. end < length field.now) }
-{
-    if NEAR <= field.len() {
-        let near = memchr(0, &field[..NEAR]);
-        if near.is_some() {
-            return near;
-        }
-    }
-    memchr(0, field)
-}
-
-/// The bytes before the first zero byte, if there is one.
-fn ended(field: &[u8]) -> Option<&[u8]>
-    ensures { option_map (λ text. text.now) result ≡ ended field.now }
-{
-    match first_zero(field) {
-        Some(end) => Some(&field[..end]),
-        None => None,
-    }
-}
-
-/// The bytes among which a name ends.
-#[tactic(auto, unfolding(crate::specs::Fields::name_field))]
-fn name_field(image: &[u8], at: usize) -> &[u8]
-    requires { at ≤ length image.now }
-    ensures { result.now ≡ name_field image.now at }
-{
-    let rest = &image[at..];
-    if rest.len() < NAME_FIELD_SIZE {
-        rest
-    } else {
-        &rest[..NAME_FIELD_SIZE]
-    }
-}
-
 /// The name whose field begins at a place of the accessible bytes; none where it has no end, or its
 /// padding ends beyond them.
 pub fn text_at(image: &[u8], at: usize) -> Option<&[u8]>
@@ -143,18 +104,6 @@ pub fn word_sum(bytes: &[u8]) -> u32
     sum
 }
 
-/// How long the name of the header at a place is; 0 where it has no end.
-fn name_len(image: &[u8], at: u32) -> u32
-    requires inside { at + HEAD_SIZE ≤ length image.now }
-    requires small { length image.now < 2 ^ 32 }
-    ensures { result ≡ length (name_of image.now at) }
-{
-    match text_at(image, at as usize + HEAD_SIZE) {
-        Some(name) => name.len() as u32,
-        None => 0,
-    }
-}
-
 /// The header at a place.
 pub fn head_at(image: &[u8], at: u32) -> Head
     requires inside { at + HEAD_SIZE ≤ length image.now }
@@ -195,5 +144,56 @@ pub fn root_of(image: &[u8]) -> u32
     match text_at(image, HEAD_SIZE) {
         None => 0,
         Some(name) => (HEAD_SIZE + padded(name.len() + 1)) as u32,
+    }
+}
+
+/// The bytes among which a name ends.
+#[tactic(auto, unfolding(crate::specs::Fields::name_field))]
+fn name_field(image: &[u8], at: usize) -> &[u8]
+    requires { at ≤ length image.now }
+    ensures { result.now ≡ name_field image.now at }
+{
+    let rest = &image[at..];
+    if rest.len() < NAME_FIELD_SIZE {
+        rest
+    } else {
+        &rest[..NAME_FIELD_SIZE]
+    }
+}
+
+/// The bytes before the first zero byte, if there is one.
+fn ended(field: &[u8]) -> Option<&[u8]>
+    ensures { option_map (λ text. text.now) result ≡ ended field.now }
+{
+    match first_zero(field) {
+        Some(end) => Some(&field[..end]),
+        None => None,
+    }
+}
+
+/// Where the first zero byte stands, if there is one. Most names are short, so the first bytes are
+/// looked at alone.
+fn first_zero(field: &[u8]) -> Option<usize>
+    ensures value { option_map (λ end. take end field.now) result ≡ ended field.now }
+    ensures within { IfSome result (λ end. end < length field.now) }
+{
+    if NEAR <= field.len() {
+        let near = memchr(0, &field[..NEAR]);
+        if near.is_some() {
+            return near;
+        }
+    }
+    memchr(0, field)
+}
+
+/// How long the name of the header at a place is; 0 where it has no end.
+fn name_len(image: &[u8], at: u32) -> u32
+    requires inside { at + HEAD_SIZE ≤ length image.now }
+    requires small { length image.now < 2 ^ 32 }
+    ensures { result ≡ length (name_of image.now at) }
+{
+    match text_at(image, at as usize + HEAD_SIZE) {
+        Some(name) => name.len() as u32,
+        None => 0,
     }
 }

@@ -17,7 +17,7 @@ use Rattle.romfs_rules.specs.Leads.{IsTheOne, IsFirstBelow, Adds}
 use Rattle.romfs_format.specs.declared.rule.Profile.TheVariants.{Usual}
 use Rattle.romfs_rules.specs.Judge.{KeepsAllHeaderRules}
 use Rattle.romfs_rules.specs.Outside.{IsLeast}
-use Rattle.romfs_rules.specs.Depth.{Notes, waiting, LeadsDown, on, down}
+use Rattle.romfs_rules.specs.Depth.{NotesDeep, waiting, LeadsDown, on, down}
 use Rattle.romfs_rules.proofs.Lists.{none_in, one_in, has_one}
 use Rattle.romfs_rules.proofs.Slots.{cleared_in_chain}
 use Rattle.romfs_rules.proofs.Standing.{opened}
@@ -296,7 +296,7 @@ module _ (a : List ℕ) (keeps : KeepsAllHeaderRules Usual a) where
             | inr x ↦ (let y = d.low w itself in let z = few_names a w v (f.only v x) in omega arith)
           ]
 
-      module _ (now : Option ℕ) (n : Notes a w deep now) where
+      module _ (now : Option ℕ) (n : NotesDeep a w deep now) where
         holds_too : IfSome now (λ h. BreaksHeader Usual a TooDeep h)
         holds_too = elim n [
           | inl x ↦ rw (x.1) (lower_holds (λ h. BreaksHeader Usual a TooDeep h) w.header deep d.holds (is_deep a keeps w stands x.0))

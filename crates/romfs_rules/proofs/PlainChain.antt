@@ -13,7 +13,7 @@ use Rattle.romfs_rules.specs.declared.plain.Folder.{Folder}
 use Rattle.romfs_rules.specs.Leads.{IsTheOne}
 use Rattle.romfs_rules.specs.Marks.{IsMarked}
 use Rattle.romfs_rules.specs.Names.{kept_name, kept_names, AreNameHashes}
-use Rattle.romfs_rules.specs.Plain.{IsPlain, IsPassed, PassesFront, PassesChain, AddsFolder}
+use Rattle.romfs_rules.specs.Plain.{IsPlainHeader, WalkState, IsPassed, PassesFront, PassesChain, AddsFolder}
 use Rattle.romfs_rules.proofs.NameHashes.{one_hash}
 use Rattle.romfs_rules.proofs.SameNaming.{kept}
 use Rattle.successor_graph.proofs.Marks.{unmarked, marks_fall, newly_set, still_set}
@@ -37,16 +37,15 @@ pushed P xs x old this i l = elim (below_or_at i (length xs) (let e = length-app
 ]
 
 -- the headers before the next one were passed
-pub record Chained (a : List ℕ) (w : Folder) (old marks : List Bool) (before todo : List Folder) (heads : List ℕ)
-    (next : Option ℕ) : Type 0 where
-  pub front : PassesFront a w old marks before todo heads
-  pub here : IsTheOne (IsAt a w.header (length heads)) next
+pub record Chained (a : List ℕ) (w : Folder) (old new : WalkState) (next : Option ℕ) : Type 0 where
+  pub front : PassesFront a w old new
+  pub here : IsTheOne (IsAt a w.header (length new.heads)) next
 
-module _ (a : List ℕ) (w : Folder) (old : List Bool) (before : List Folder) where
+module _ (a : List ℕ) (w : Folder) (old : WalkState) where
   -- before the first header none was passed
-  pub begun : (heads : List ℕ) (first : Option ℕ) → heads ≡ [] → IsTheOne (IsFirst a w.header) first
-      → Chained a w old old before before heads first
-  begun heads first e f = rw e (record {
+  pub begun : (heads hashes : List ℕ) (first : Option ℕ) → heads ≡ [] → IsTheOne (IsFirst a w.header) first
+      → Chained a w old (record { marks = old.marks; todo = old.todo; heads = heads; hashes = hashes }) first
+  begun heads hashes first e f = rw e (record {
     front = record {
       sized = refl;
       count = omega arith;
@@ -60,18 +59,17 @@ module _ (a : List ℕ) (w : Folder) (old : List Bool) (before : List Folder) wh
     here = f;
   })
 
-  module _ (marks : List Bool) (todo : List Folder) (heads : List ℕ) (at : ℕ)
-      (c : Chained a w old marks before todo heads (Some at)) where
-    stands : IsAt a w.header (length heads) at
+  module _ (now : WalkState) (at : ℕ) (c : Chained a w old now (Some at)) where
+    stands : IsAt a w.header (length now.heads) at
     stands = (c.here.each at).0 refl
 
     same_some : (x y : ℕ) → ◌≡◌ {A = Option ℕ} (Some x) (Some y) → x ≡ y
     same_some x y e = cc
 
-    only : (h : ℕ) → IsAt a w.header (length heads) h → h ≡ at
+    only : (h : ℕ) → IsAt a w.header (length now.heads) h → h ≡ at
     only h x = sym (same_some at h ((c.here.each h).1 x))
 
-    goes_on : (next : Option ℕ) → IsTheOne (IsNext a at) next → IsTheOne (IsAt a w.header (suc (length heads))) next
+    goes_on : (next : Option ℕ) → IsTheOne (IsNext a at) next → IsTheOne (IsAt a w.header (suc (length now.heads))) next
     goes_on next n = record {
       each = λ g. (
         λ e. (at, stands, (n.each g).0 e),
@@ -79,98 +77,103 @@ module _ (a : List ℕ) (w : Folder) (old : List Bool) (before : List Folder) wh
       );
     }
 
-    module _ (p : IsPlain a w.header w.names at) (fits : at / 16 < length marks) (free : get_or marks (at / 16) false ≡ false)
-        (after : List Folder) (f : AddsFolder a w at todo after) where
+    module _ (p : IsPlainHeader a w at) (fits : at / 16 < length now.marks)
+        (free : get_or now.marks (at / 16) false ≡ false) (after : List Folder) (f : AddsFolder a w at now.todo after)
+        (hashes : List ℕ) where
       abbrev more : List ℕ
-      more = heads ++ at ∷ []
+      more = now.heads ++ at ∷ []
 
       abbrev marked_too : List Bool
-      marked_too = set marks (at / 16) true
+      marked_too = set now.marks (at / 16) true
 
-      one_more : length more ≡ length heads + 1
-      one_more = length-append heads (at ∷ [])
+      -- the walk once that header is passed
+      abbrev later : WalkState
+      later = record { marks = marked_too; todo = after; heads = more; hashes = hashes }
 
-      grown : (i h : ℕ) → IsPassed a w.header w.names old marks todo i h → IsPassed a w.header w.names old marked_too after i h
+      one_more : length more ≡ length now.heads + 1
+      one_more = length-append now.heads (at ∷ [])
+
+      grown : (i h : ℕ) → IsPassed a w old now i h → IsPassed a w old later i h
       grown i h x = record {
         at = x.at;
         plain = x.plain;
         unmarked = x.unmarked;
-        marked = still_set marks (at / 16) (h / 16) fits x.marked;
+        marked = still_set now.marks (at / 16) (h / 16) fits x.marked;
         comes = λ n o. f.waits _ (x.comes n o);
       }
 
-      itself : IsPassed a w.header w.names old marked_too after (length heads) at
+      itself : IsPassed a w old later (length now.heads) at
       itself = record {
         at = stands;
         plain = p;
-        unmarked = not_true (get_or old (at / 16) false) (λ m. true≢false (sym (c.front.kept (at / 16) m) ∙ free));
-        marked = newly_set marks (at / 16) fits;
+        unmarked = not_true (get_or old.marks (at / 16) false) (λ m. true≢false (sym (c.front.kept (at / 16) m) ∙ free));
+        marked = newly_set now.marks (at / 16) fits;
         comes = f.comes;
       }
 
-      was : (i : ℕ) → i < length heads → get_or more i 0 ≡ get_or heads i 0
-      was i l = get_or_append_left heads (at ∷ []) 0 i l
+      was : (i : ℕ) → i < length now.heads → get_or more i 0 ≡ get_or now.heads i 0
+      was i l = get_or_append_left now.heads (at ∷ []) 0 i l
 
-      last : (i : ℕ) → i ≡ length heads → get_or more i 0 ≡ at
-      last i e = get_or_at heads at [] 0 i (sym e)
+      last : (i : ℕ) → i ≡ length now.heads → get_or more i 0 ≡ at
+      last i e = get_or_at now.heads at [] 0 i (sym e)
 
-      new : (i : ℕ) → i < length heads → get_or heads i 0 ≡ at → ⊥
-      new i l e = true≢false (sym (subst (λ y. IsMarked marks y) e (c.front.each i l).marked) ∙ free)
+      new : (i : ℕ) → i < length now.heads → get_or now.heads i 0 ≡ at → ⊥
+      new i l e = true≢false (sym (subst (λ y. IsMarked now.marks y) e (c.front.each i l).marked) ∙ free)
 
       apart : (i j : ℕ) → i < length more → j < length more → get_or more i 0 ≡ get_or more j 0 → i ≡ j
       apart i j l m e =
           let n = one_more in
-          elim (below_or_at i (length heads) (omega arith)) [
-            | inl x ↦ elim (below_or_at j (length heads) (omega arith)) [
+          elim (below_or_at i (length now.heads) (omega arith)) [
+            | inl x ↦ elim (below_or_at j (length now.heads) (omega arith)) [
               | inl y ↦ c.front.apart i j x y (sym (was i x) ∙ e ∙ was j y)
               | inr y ↦ absurd (new i x (sym (was i x) ∙ e ∙ last j y))
             ]
-            | inr x ↦ elim (below_or_at j (length heads) (omega arith)) [
+            | inr x ↦ elim (below_or_at j (length now.heads) (omega arith)) [
               | inl y ↦ absurd (new j y (sym (was j y) ∙ sym e ∙ last i x))
               | inr y ↦ x ∙ sym y
             ]
           ]
 
       -- the next header is passed where it is new and plain
-      pub steps : (next : Option ℕ) → IsTheOne (IsNext a at) next → Chained a w old marked_too before after more next
+      pub steps : (next : Option ℕ) → IsTheOne (IsNext a at) next → Chained a w old later next
       steps next n = record {
         front = record {
-          sized = length-set marks (at / 16) true ∙ c.front.sized;
+          sized = length-set now.marks (at / 16) true ∙ c.front.sized;
           count = (
               let e = one_more in
               let q = c.front.count in
-              let r = marks_fall marks (at / 16) fits free in
-              let s = counted marks in
+              let r = marks_fall now.marks (at / 16) fits free in
+              let s = counted now.marks in
               let t = counted marked_too in
               omega arith);
-          each = pushed (λ i h. IsPassed a w.header w.names old marked_too after i h) heads at
-              (λ i l. grown i (get_or heads i 0) (c.front.each i l)) itself;
+          each = pushed (λ i h. IsPassed a w old later i h) now.heads at
+              (λ i l. grown i (get_or now.heads i 0) (c.front.each i l)) itself;
           apart = apart;
-          kept = λ k m. still_set marks (at / 16) k fits (c.front.kept k m);
+          kept = λ k m. still_set now.marks (at / 16) k fits (c.front.kept k m);
           waits = λ v x. f.waits v (c.front.waits v x);
           inside = λ v x. elim (f.inside v x) [ inl y ↦ c.front.inside v y | inr i ↦ inr i ];
           few = (let e = one_more in let q = c.front.few in let r = f.few in omega arith);
         };
         here = (
-            let e : suc (length heads) ≡ length more = (let q = one_more in omega arith) in
+            let e : suc (length now.heads) ≡ length more = (let q = one_more in omega arith) in
             subst (λ m. IsTheOne (IsAt a w.header m) next) e (goes_on next n));
       }
 
   -- where no header is next, the whole chain was passed
-  pub ended : (marks : List Bool) (todo : List Folder) (heads hashes : List ℕ) → Chained a w old marks before todo heads None
-      → AreNameHashes (kept_names a heads) (length heads) hashes → PassesChain a w old marks before todo heads hashes
-  ended marks todo heads hashes c m = record { front = c.front; hashed = m; whole = short }
+  pub ended : (now : WalkState) → Chained a w old now None
+      → AreNameHashes (kept_names a now.heads) (length now.heads) now.hashes → PassesChain a w old now
+  ended now c m = record { front = c.front; hashed = m; whole = short }
     where
-      none : (h : ℕ) → ¬ IsAt a w.header (length heads) h
+      none : (h : ℕ) → ¬ IsAt a w.header (length now.heads) h
       none h x = let e = (c.here.each h).1 x in cc
 
-      under : (n i h : ℕ) → i ≡ length heads + n → ¬ IsAt a w.header i h
+      under : (n i h : ℕ) → i ≡ length now.heads + n → ¬ IsAt a w.header i h
       under zero i h e x = none h (subst (λ k. IsAt a w.header k h) (let q = e in (omega arith)) x)
       under (suc n) zero h e x = absurd (omega arith)
       under (suc n) (suc i) h e x = under n i x.0 (omega arith) x.1
 
-      short : (i h : ℕ) → IsAt a w.header i h → i < length heads
-      short i h x = elim (cases_lt i (length heads)) [ inl l ↦ l | inr l ↦ absurd (under (i - length heads) i h (omega arith) x) ]
+      short : (i h : ℕ) → IsAt a w.header i h → i < length now.heads
+      short i h x = elim (cases_lt i (length now.heads)) [ inl l ↦ l | inr l ↦ absurd (under (i - length now.heads) i h (omega arith) x) ]
 
 -- before the first header there is no name
 pub none_hashed : (a heads hashes : List ℕ) → heads ≡ [] → hashes ≡ [] → AreNameHashes (kept_names a heads) (length heads) hashes

@@ -11,7 +11,7 @@ use Rattle.romfs_format.specs.Chains.{IsAt, IsInChain}
 use Rattle.romfs_rules.specs.declared.plain.Folder.{Folder}
 use Rattle.romfs_rules.specs.Marks.{IsMarked, Opens}
 use Rattle.romfs_rules.specs.Names.{HaveNamesApart}
-use Rattle.romfs_rules.specs.Plain.{IsPlain, folder, PassesFolder}
+use Rattle.romfs_rules.specs.Plain.{IsPlainHeader, folder, WalkState, PassesFolder}
 use Rattle.romfs_rules.proofs.Lists.{none_in, one_in, has_one}
 use Rattle.romfs_rules.proofs.SameNaming.{one_at}
 use Rattle.romfs_rules.proofs.PlainChain.{counted}
@@ -23,7 +23,7 @@ IsKnown todo done v = Contains todo v ⊎ Contains done v
 
 -- a header of the chain of a directory that was gone along
 pub record IsSeen (a : List ℕ) (marks : List Bool) (todo done : List Folder) (w : Folder) (h : ℕ) : Type 0 where
-  pub plain : IsPlain a w.header w.names h
+  pub plain : IsPlainHeader a w h
   pub marked : IsMarked marks h
   pub comes : h ≢ root a → Opens a h → IsKnown todo done (folder h (w.names + 1))
 
@@ -66,13 +66,13 @@ module _ (a : List ℕ) where
     one = λ v w h c. absurd (none_in v c);
   })
 
-  module _ (todo rest after : List Folder) (w : Folder) (old new : List Bool) (taken : todo ≡ rest ++ w ∷ [])
-      (d : Descends a todo old) (f : PassesFolder a w old new rest after) where
+  module _ (todo : List Folder) (w : Folder) (old new : WalkState) (taken : todo ≡ old.todo ++ w ∷ [])
+      (d : Descends a todo old.marks) (f : PassesFolder a w old new) where
     abbrev gone_too : List Folder
     gone_too = d.done ++ w ∷ []
 
-    waits_or_is : (v : Folder) → Contains todo v → Contains rest v ⊎ (w ≡ v)
-    waits_or_is v c = elim (Contains-append_cases rest (w ∷ []) v (subst (λ x. Contains x v) taken c)) [
+    waits_or_is : (v : Folder) → Contains todo v → Contains old.todo v ⊎ (w ≡ v)
+    waits_or_is v c = elim (Contains-append_cases old.todo (w ∷ []) v (subst (λ x. Contains x v) taken c)) [
       | inl x ↦ inl x
       | inr x ↦ inr (one_in w v x)
     ]
@@ -86,17 +86,17 @@ module _ (a : List ℕ) where
     itself : Contains gone_too w
     itself = Contains-append_right d.done (w ∷ []) w (has_one w)
 
-    known : (v : Folder) → IsKnown todo d.done v → IsKnown after gone_too v
+    known : (v : Folder) → IsKnown todo d.done v → IsKnown new.todo gone_too v
     known v (inr c) = inr (Contains-append_left d.done (w ∷ []) v c)
     known v (inl c) = elim (waits_or_is v c) [
       | inl x ↦ inl (f.chain.front.waits v x)
       | inr e ↦ inr (subst (λ x. Contains gone_too x) e itself)
     ]
 
-    still : (v : Folder) (h : ℕ) → IsSeen a old todo d.done v h → IsSeen a new after gone_too v h
+    still : (v : Folder) (h : ℕ) → IsSeen a old.marks todo d.done v h → IsSeen a new.marks new.todo gone_too v h
     still v h s = record { plain = s.plain; marked = f.chain.front.kept (h / 16) s.marked; comes = λ n o. known _ (s.comes n o) }
 
-    gone_before : (v : Folder) → IsGone a old todo d.done v → IsGone a new after gone_too v
+    gone_before : (v : Folder) → IsGone a old.marks todo d.done v → IsGone a new.marks new.todo gone_too v
     gone_before v g = record {
       heads = g.heads;
       at = g.at;
@@ -105,12 +105,12 @@ module _ (a : List ℕ) where
       names = g.names;
     }
 
-    at_place : (i h : ℕ) → IsAt a w.header i h → (i < length f.heads) × (get_or f.heads i 0 ≡ h)
-    at_place i h x = let l = f.chain.whole i h x in (l, one_at a w.header i (get_or f.heads i 0) h (f.chain.front.each i l).at x)
+    at_place : (i h : ℕ) → IsAt a w.header i h → (i < length new.heads) × (get_or new.heads i 0 ≡ h)
+    at_place i h x = let l = f.chain.whole i h x in (l, one_at a w.header i (get_or new.heads i 0) h (f.chain.front.each i l).at x)
 
-    gone_now : IsGone a new after gone_too w
+    gone_now : IsGone a new.marks new.todo gone_too w
     gone_now = record {
-      heads = f.heads;
+      heads = new.heads;
       at = at_place;
       each = λ i l. (let p = f.chain.front.each i l in
           record { plain = p.plain; marked = p.marked; comes = λ n o. inl (p.comes n o) });
@@ -121,10 +121,10 @@ module _ (a : List ℕ) where
     -- a header of this chain is in no chain that was gone along before
     no_other : (v : Folder) (h : ℕ) → Contains d.done v → IsInChain a v.header h → IsInChain a w.header h → ⊥
     no_other v h k x y =
-        let s = seen_at a old todo d.done v h (d.gone v k) x in
+        let s = seen_at a old.marks todo d.done v h (d.gone v k) x in
         let p = at_place y.0 h y.1 in
-        let u : get_or old (h / 16) false ≡ false =
-        subst (λ z. get_or old (z / 16) false ≡ false) p.1 (f.chain.front.each y.0 p.0).unmarked in
+        let u : get_or old.marks (h / 16) false ≡ false =
+        subst (λ z. get_or old.marks (z / 16) false ≡ false) p.1 (f.chain.front.each y.0 p.0).unmarked in
         true≢false (sym s.marked ∙ u)
 
     one_too : (v u : Folder) (h : ℕ) → Contains gone_too v → Contains gone_too u → IsInChain a v.header h → IsInChain a u.header h → v ≡ u
@@ -140,31 +140,31 @@ module _ (a : List ℕ) where
     ]
 
     -- one more directory was gone along
-    pub steps : Descends a after new
+    pub steps : Descends a new.todo new.marks
     steps = record {
       sized = f.chain.front.sized ∙ d.sized;
       done = gone_too;
       gone = λ v c. elim (done_or_is v c) [
         | inl x ↦ gone_before v (d.gone v x)
-        | inr e ↦ subst (λ x. IsGone a new after gone_too x) e gone_now
+        | inr e ↦ subst (λ x. IsGone a new.marks new.todo gone_too x) e gone_now
       ];
       start = known (folder (root a) 0) d.start;
       inside = λ v c. elim (f.chain.front.inside v c) [
-        | inl x ↦ d.inside v (subst (λ y. Contains y v) (sym taken) (Contains-append_left rest (w ∷ []) v x))
+        | inl x ↦ d.inside v (subst (λ y. Contains y v) (sym taken) (Contains-append_left old.todo (w ∷ []) v x))
         | inr i ↦ i
       ];
       one = one_too;
     }
 
     -- a directory that was gone along leaves less to do
-    pub less : left after new < left todo old
+    pub less : left new.todo new.marks < left todo old.marks
     unfolding left
     less =
-        let l : length todo ≡ length rest + 1 = rw taken (length-append rest (w ∷ [])) in
+        let l : length todo ≡ length old.todo + 1 = rw taken (length-append old.todo (w ∷ [])) in
         let n = f.chain.front.few in
         let c = f.chain.front.count in
-        let x = counted old in
-        let y = counted new in
+        let x = counted old.marks in
+        let y = counted new.marks in
         omega arith
 
   -- a directory to come lies in the image

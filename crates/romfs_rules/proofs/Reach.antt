@@ -8,7 +8,7 @@ use Rattle.romfs_format.specs.Chains.{IsSomeMember}
 use Rattle.romfs_format.specs.Links.{Field, first_of, next_of, IsLink, IsHardLink, destination, IsDestination, here, there, IsTarget, IsReached}
 use Rattle.romfs_rules.specs.Marks.{IsVolumeImage}
 use Rattle.romfs_rules.specs.Leads.{IsTheOne}
-use Rattle.romfs_rules.specs.Outside.{NamesDestination, NamesBySpec, Names, IsLeast, IsBelow, IsPastEnd, lesser, Notes, NotesOnBoth}
+use Rattle.romfs_rules.specs.Outside.{NamesDestination, NamesBySpec, Names, IsLeast, IsBeforeRoot, IsPastEnd, lesser, Notes, NotesOnBoth}
 use Rattle.romfs_rules.specs.declared.outside.Outside.{Outside}
 use Rattle.romfs_rules.proofs.Slots.{cleared_root, cleared_in_chain, inside_opened, cleared_opened, cleared_destination, IsGap}
 use Rattle.romfs_rules.specs.Leads.{IsInSomeChain}
@@ -152,7 +152,7 @@ module _ (a : List ℕ) (at : ℕ) where
   -- where spec.info names a place inside the image, nothing is noted
   pub noted_inside : (found : Outside) → IsInside a (cleared (word a (at + 4))) → NotesOnBoth a (NamesBySpec a at) found found
   noted_inside found i = (
-    stays (IsBelow a) found.below (λ h x q. let l = x.0 in omega arith),
+    stays (IsBeforeRoot a) found.below (λ h x q. let l = x.0 in omega arith),
     stays (IsPastEnd a) found.above (λ h x q. let l = x.1 in let m = q.1 in omega arith),
   )
     where
@@ -167,7 +167,7 @@ module _ (a : List ℕ) (at : ℕ) where
   one_and : (W V : ℕ → Type 0) (word : Option ℕ) (before middle after : Outside) → IsTheOne W word
       → NotesOnBoth a (λ h. word ≡ Some h) before middle → NotesOnBoth a V middle after → NotesOnBoth a (λ h. W h ⊎ V h) before after
   one_and W V word before middle after o m n = (
-    then_of W V (IsBelow a) _ _ _ (of_one W (IsBelow a) _ word _ o m.0) n.0,
+    then_of W V (IsBeforeRoot a) _ _ _ (of_one W (IsBeforeRoot a) _ word _ o m.0) n.0,
     then_of W V (IsPastEnd a) _ _ _ (of_one W (IsPastEnd a) _ word _ o m.1) n.1,
   )
 
@@ -176,7 +176,7 @@ module _ (a : List ℕ) (at : ℕ) where
       → IsTheOne (NamesDestination a at) hard → NotesOnBoth a (λ h. first ≡ Some h) before with_first
       → NotesOnBoth a (λ h. hard ≡ Some h) with_first after → NotesOnBoth a (NamesBySpec a at) before after
   noted_spec {first} {hard} before with_first after y z m n = one_and (IsLink a (first_of at)) (NamesDestination a at) first _ _ _ y m
-      (of_one _ (IsBelow a) _ hard _ z n.0, of_one _ (IsPastEnd a) _ hard _ z n.1)
+      (of_one _ (IsBeforeRoot a) _ hard _ z n.0, of_one _ (IsPastEnd a) _ hard _ z n.1)
 
   -- noting the header after one, and then what its spec.info names, notes all that it names
   pub noted_named : (next : Option ℕ) (before with_next after : Outside) → IsTheOne (IsLink a (next_of at)) next

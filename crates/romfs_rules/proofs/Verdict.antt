@@ -20,7 +20,7 @@ use Rattle.romfs_rules.specs.Headers.{IsAsked}
 use Rattle.slot_sets.proofs.Unions.{over_to}
 use Rattle.romfs_rules.proofs.Slots.{IsGap, clear_gap, root_slot, cleared_root, cleared_in_chain, cleared_destination, slot_inside}
 use Rattle.romfs_format.specs.declared.rule.ImageFault.{ImageFault}
-use Rattle.romfs_rules.specs.Outside.{IsLeast, IsBelow, IsPastEnd}
+use Rattle.romfs_rules.specs.Outside.{IsLeast, IsBeforeRoot, IsPastEnd}
 use Rattle.romfs_rules.specs.Judge.{IsHeaderRule, KeepsBefore, KeepsHeaderRules, IsFirstRule, IsFirstAt, KeepsBelow, IsFirstInside, KeepsAllHeaderRules, IsFirstBreach}
 use Rattle.romfs_rules.proofs.Standing.{reached, member_in_chain}
 use Rattle.romfs_rules.proofs.Judging.{root_elsewhere}
@@ -304,7 +304,7 @@ module _ (profile : Profile) (a : List ℕ) (v : IsVolumeImage a) where
 
 -- the header is reached, and stands before the root's
 abbrev pub IsReachedBelow : List ℕ → ℕ → Type 0
-IsReachedBelow a h = IsReached a h × IsBelow a h
+IsReachedBelow a h = IsReached a h × IsBeforeRoot a h
 
 -- the header is reached, and from the root's on it is not whole in the image
 abbrev pub IsReachedAbove : List ℕ → ℕ → Type 0

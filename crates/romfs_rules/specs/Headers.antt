@@ -1,6 +1,5 @@
 -- A reached header, with what the rules ask of it beside its bytes.
-use Rattle.std.specs.Prelude.{◌≡◌, ℕ, ◌+◌, ◌≤◌, ◌↔◌, List, length, Bool, IsTrue, Option, IfSome, MatchOption}
-use Rattle.std.specs.Borrow.{Bor}
+use Rattle.std.specs.Prelude.{◌≡◌, ℕ, ◌+◌, ◌≤◌, ◌↔◌, List, length, IsTrue, Option, IfSome, MatchOption}
 use Rattle.std.specs.Option.{option_map}
 use Rattle.romfs_format.specs.declared.limits.TheConstants.{HEAD_SIZE}
 use Rattle.romfs_format.specs.declared.head.End.{End}
@@ -11,11 +10,7 @@ use Rattle.romfs_format.specs.Chains.{IsSomeMember}
 use Rattle.romfs_format.specs.Links.{IsHardLink, IsReached, EndsAs}
 use Rattle.romfs_format.specs.Rules.{IsUsed, BreaksHeader}
 use Rattle.romfs_rules.specs.Marks.{HasSlot, HasRootElsewhere}
-
--- a place of an image
-pub record HeaderPlace : Type 0 where
-  pub image : List ℕ
-  pub at : ℕ
+use Rattle.romfs_rules.specs.declared.header.Header.TheInside.{Inside}
 
 -- the header at h is reached, and the root's is in no chain but its own, or stands at h
 pub record IsAsked (a : List ℕ) (h : ℕ) : Type 0 where
@@ -28,15 +23,14 @@ abbrev pub IsEndOfMember : List ℕ → ℕ → Option End → Type 0
 IsEndOfMember a h end = MatchOption end (¬ (IsSomeMember a h × IsHardLink a h))
     (λ e. IsSomeMember a h × IsHardLink a h × EndsAs a h e)
 
--- such a header, of which these are known
-pub record IsHeader (a : List ℕ) (h : ℕ) (name : Option (Bor (List ℕ)))
-    (member used twice same_name : Bool) (end : Option End) : Type 0 where
-  pub asked : IsAsked a h
-  pub is_name : option_map (λ n. n.now) name ≡ text_at a (h + HEAD_SIZE)
-  pub name_within : IfSome name (λ n. text_end (h + HEAD_SIZE) n.now ≤ length a)
-  pub is_member : IsTrue member ↔ IsSomeMember a h
-  pub is_used : IsTrue used ↔ IsUsed a h
-  pub is_twice : IsTrue twice ↔ BreaksHeader Usual a LinkedTwice h
-  pub has_same_name : ¬ BreaksHeader Usual a LinkedTwice h
-      → IsTrue same_name ↔ BreaksHeader Usual a SameName h
-  pub ends : IsEndOfMember a h end
+-- such a header, with what is known of it
+pub record IsHeader (a : List ℕ) (header : Inside) : Type 0 where
+  pub asked : IsAsked a header.at
+  pub is_name : option_map (λ n. n.now) header.name ≡ text_at a (header.at + HEAD_SIZE)
+  pub name_within : IfSome header.name (λ n. text_end (header.at + HEAD_SIZE) n.now ≤ length a)
+  pub is_member : IsTrue header.member ↔ IsSomeMember a header.at
+  pub is_used : IsTrue header.used ↔ IsUsed a header.at
+  pub is_twice : IsTrue header.twice ↔ BreaksHeader Usual a LinkedTwice header.at
+  pub has_same_name : ¬ BreaksHeader Usual a LinkedTwice header.at
+      → IsTrue header.same_name ↔ BreaksHeader Usual a SameName header.at
+  pub ends : IsEndOfMember a header.at header.end

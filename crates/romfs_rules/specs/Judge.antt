@@ -29,8 +29,8 @@ pub record IsFirstRule (profile : Profile) (a : List ℕ) (h : ℕ) (r : Rule) :
   pub before : KeepsBefore profile a h (rule_number r)
 
 -- the first of those with a number below n that h breaks; none where it keeps them all
-abbrev pub IsFirstBelow : Profile → List ℕ → ℕ → ℕ → Option Rule → Type 0
-IsFirstBelow profile a h n rule =
+abbrev pub IsFirstRuleBelow : Profile → List ℕ → ℕ → ℕ → Option Rule → Type 0
+IsFirstRuleBelow profile a h n rule =
     MatchOption rule (KeepsBefore profile a h n) (IsFirstRule profile a h)
 
 -- the fault is at h, and of the first of them that h breaks

@@ -7,6 +7,7 @@ pub mod Twice
 pub mod Depth
 pub mod Ends
 pub mod Judge
+pub mod Places
 pub mod Headers
 pub mod Sets
 pub mod Names

@@ -24,8 +24,8 @@ pub record IsLeast (P : ℕ → Type 0) (least : Option ℕ) : Type 0 where
   pub whole : (h : ℕ) → P h → (g : ℕ) × (least ≡ Some g) × (g ≤ h)
 
 -- before the root's header
-abbrev pub IsBelow : List ℕ → ℕ → Type 0
-IsBelow a h = h < root a
+abbrev pub IsBeforeRoot : List ℕ → ℕ → Type 0
+IsBeforeRoot a h = h < root a
 
 -- from the root's header on, and not whole in the image
 abbrev pub IsPastEnd : List ℕ → ℕ → Type 0
@@ -33,7 +33,7 @@ IsPastEnd a h = (root a ≤ h) × (length a < h + HEAD_SIZE)
 
 -- the number is the least reached header before the root's
 abbrev pub IsLeastBelow : List ℕ → Option ℕ → Type 0
-IsLeastBelow a least = IsLeast (λ h. IsReached a h × IsBelow a h) least
+IsLeastBelow a least = IsLeast (λ h. IsReached a h × IsBeforeRoot a h) least
 
 -- the number is the least reached header from the root's on that is not whole in the image
 abbrev pub IsLeastPastEnd : List ℕ → Option ℕ → Type 0
@@ -53,4 +53,5 @@ pub record Notes (W Q : ℕ → Type 0) (before after : Option ℕ) : Type 0 whe
 -- the same on both sides of the image, of what W holds of
 abbrev pub NotesOnBoth : List ℕ → (ℕ → Type 0) → Outside → Outside → Type 0
 NotesOnBoth a W before after =
-    Notes W (IsBelow a) before.below after.below × Notes W (IsPastEnd a) before.above after.above
+    Notes W (IsBeforeRoot a) before.below after.below
+    × Notes W (IsPastEnd a) before.above after.above

@@ -36,62 +36,64 @@ pub record IsPlainMember (a : List ℕ) (h : ℕ) (text : List ℕ) : Type 0 whe
   pub body : HasPlainBody a h text
   pub ends : kind a h ≡ HardLink → IsPlainEnd a (destination a h)
 
--- h breaks no such rule in the chain of d, to which n names lead
-pub record IsPlain (a : List ℕ) (d n h : ℕ) : Type 0 where
+-- h breaks no such rule in the chain of w
+pub record IsPlainHeader (a : List ℕ) (w : Folder) (h : ℕ) : Type 0 where
   pub inside : IsInside a h
   pub text : List ℕ
   pub is_name : name a h ≡ Some text
-  pub depth : n < MAX_NAMES
-  pub own : h ≡ root a → d ≡ root a
+  pub depth : w.names < MAX_NAMES
+  pub own : h ≡ root a → w.header ≡ root a
   pub member : h ≢ root a → ¬ IsDotted a h → IsPlainMember a h text
 
 -- and its name is mixed to this
-pub record IsHashed (a : List ℕ) (d n h hash : ℕ) : Type 0 where
-  pub plain : IsPlain a d n h
+pub record IsHashed (a : List ℕ) (w : Folder) (h hash : ℕ) : Type 0 where
+  pub plain : IsPlainHeader a w h
   pub mixed : (q : List ℕ) → name a h ≡ Some q → hash ≡ name_hash q
 
 -- the directory h, to which n names lead
 abbrev pub folder : ℕ → ℕ → Folder
 folder h n = record { header = h; names = n }
 
--- h stands at position i of the chain of d, as a walk along it found it: it had no mark before, and
--- is still to come as a directory, if it is one
-pub record IsPassed (a : List ℕ) (d n : ℕ) (old marks : List Bool) (todo : List Folder)
-    (i h : ℕ) : Type 0 where
-  pub at : IsAt a d i h
-  pub plain : IsPlain a d n h
-  pub unmarked : get_or old (h / 16) false ≡ false
-  pub marked : IsMarked marks h
-  pub comes : h ≢ root a → Opens a h → Contains todo (folder h (n + 1))
-
--- the front of the chain of w was passed: these headers of it, from its first on
-pub record PassesFront (a : List ℕ) (w : Folder) (old new : List Bool) (before after : List Folder)
-    (heads : List ℕ) : Type 0 where
-  pub sized : length new ≡ length old
-  pub count : length heads + count_by not new ≡ count_by not old
-  pub each : (i : ℕ) → i < length heads
-      → IsPassed a w.header w.names old new after i (get_or heads i 0)
-  pub apart : (i j : ℕ) → i < length heads → j < length heads
-      → get_or heads i 0 ≡ get_or heads j 0 → i ≡ j
-  pub kept : (k : ℕ) → get_or old k false ≡ true → get_or new k false ≡ true
-  pub waits : (v : Folder) → Contains before v → Contains after v
-  pub inside : (v : Folder) → Contains after v → Contains before v ⊎ IsInside a v.header
-  pub few : length after ≤ length before + length heads
-
--- the whole chain was, and this is what names are mixed to
-pub record PassesChain (a : List ℕ) (w : Folder) (old new : List Bool) (before after : List Folder)
-    (heads hashes : List ℕ) : Type 0 where
-  pub front : PassesFront a w old new before after heads
-  pub hashed : AreNameHashes (kept_names a heads) (length heads) hashes
-  pub whole : (i h : ℕ) → IsAt a w.header i h → i < length heads
-
--- and no two of its members have one name
-pub record PassesFolder (a : List ℕ) (w : Folder) (old new : List Bool)
-    (before after : List Folder) : Type 0 where
+-- how far a walk down from the root has come: the headers that it has come to have a mark, these
+-- directories are still to come, and of the chain that it goes along last it has passed these
+-- headers, whose names are mixed to this
+pub record WalkState : Type 0 where
+  pub marks : List Bool
+  pub todo : List Folder
   pub heads : List ℕ
   pub hashes : List ℕ
-  pub chain : PassesChain a w old new before after heads hashes
-  pub apart : HaveNamesApart a heads
+
+-- h stands at position i of the chain of w, as a walk along it found it: it had no mark before, and
+-- is still to come as a directory, if it is one
+pub record IsPassed (a : List ℕ) (w : Folder) (old new : WalkState) (i h : ℕ) : Type 0 where
+  pub at : IsAt a w.header i h
+  pub plain : IsPlainHeader a w h
+  pub unmarked : get_or old.marks (h / 16) false ≡ false
+  pub marked : IsMarked new.marks h
+  pub comes : h ≢ root a → Opens a h → Contains new.todo (folder h (w.names + 1))
+
+-- the front of the chain of w was passed: the headers of the new state, from its first on
+pub record PassesFront (a : List ℕ) (w : Folder) (old new : WalkState) : Type 0 where
+  pub sized : length new.marks ≡ length old.marks
+  pub count : length new.heads + count_by not new.marks ≡ count_by not old.marks
+  pub each : (i : ℕ) → i < length new.heads → IsPassed a w old new i (get_or new.heads i 0)
+  pub apart : (i j : ℕ) → i < length new.heads → j < length new.heads
+      → get_or new.heads i 0 ≡ get_or new.heads j 0 → i ≡ j
+  pub kept : (k : ℕ) → get_or old.marks k false ≡ true → get_or new.marks k false ≡ true
+  pub waits : (v : Folder) → Contains old.todo v → Contains new.todo v
+  pub inside : (v : Folder) → Contains new.todo v → Contains old.todo v ⊎ IsInside a v.header
+  pub few : length new.todo ≤ length old.todo + length new.heads
+
+-- the whole chain was, and the hashes are what its names are mixed to
+pub record PassesChain (a : List ℕ) (w : Folder) (old new : WalkState) : Type 0 where
+  pub front : PassesFront a w old new
+  pub hashed : AreNameHashes (kept_names a new.heads) (length new.heads) new.hashes
+  pub whole : (i h : ℕ) → IsAt a w.header i h → i < length new.heads
+
+-- and no two of its members have one name
+pub record PassesFolder (a : List ℕ) (w : Folder) (old new : WalkState) : Type 0 where
+  pub chain : PassesChain a w old new
+  pub apart : HaveNamesApart a new.heads
 
 -- a header of the chain of w, which comes to the directories after, if it is one
 pub record AddsFolder (a : List ℕ) (w : Folder) (at : ℕ) (before after : List Folder) : Type 0 where

@@ -28,6 +28,23 @@ pub(crate) struct Chains<A: Allocator> {
     pub(crate) root_elsewhere: bool,
 }
 
+/// Finds the headers in the chains of all opened directories.
+pub(crate) fn find_chains<A: Allocator + Copy>(
+    alloc: A,
+    volume: &Volume,
+) -> Result<Chains<A>, AllocError>
+    ensures { IfOk result (AreChains volume.now.bytes.now) }
+{
+    let root_chain = mark_root_chain(alloc, volume)?;
+    let mut headers = mark_elsewhere(alloc, volume, &root_chain)?;
+    let root_elsewhere = headers.contains(volume.root / 16);
+    headers.add_all(&root_chain);
+    Ok(Chains {
+        headers,
+        root_elsewhere,
+    })
+}
+
 // Marks the headers of the root's chain, up to one that lies outside or comes again.
 fn mark_root_chain<A: Allocator + Copy>(alloc: A, volume: &Volume) -> Result<SlotSet<A>, AllocError>
     ensures { IfOk result (AreInRootChain volume.now.bytes.now) }
@@ -41,14 +58,21 @@ fn mark_root_chain<A: Allocator + Copy>(alloc: A, volume: &Volume) -> Result<Slo
     Ok(marks)
 }
 
-// Adds a word, if there is one.
-fn push_some<A: Allocator>(todo: &mut Vec<u32, A>, word: Option<u32>) -> Result<(), AllocError>
-    ensures { IfOk result (λ _. todo.new.items ≡ todo.old.items ++ option_to_list word) }
+// Marks the headers of the chains of all opened directories but the root.
+fn mark_elsewhere<A: Allocator + Copy>(
+    alloc: A,
+    volume: &Volume,
+    root_chain: &SlotSet<A>,
+) -> Result<SlotSet<A>, AllocError>
+    requires root_chain { AreInRootChain volume.now.bytes.now root_chain.now }
+    ensures { IfOk result (AreElsewhere volume.now.bytes.now) }
 {
-    if let Some(word) = word {
-        todo.push(word)?;
-    }
-    Ok(())
+    let mut walk = ChainWalk {
+        marks: SlotSet::new(alloc, volume.bytes.len() / 16)?,
+        todo: seeds(alloc, volume, root_chain)?,
+    };
+    walk.finish(volume)?;
+    Ok(walk.marks)
 }
 
 // The first headers of the root's own directories.
@@ -69,31 +93,16 @@ fn seeds<A: Allocator + Copy>(
     Ok(todo)
 }
 
-// Adds what a header leads on to.
-fn follow<A: Allocator>(
-    volume: &Volume,
-    at: usize,
-    todo: &mut Vec<u32, A>,
-) -> Result<(), AllocError>
-    requires inside { IsInside volume.now.bytes.now at }
-    ensures { IfOk result
-        (λ _. Adds (LeadsOn volume.now.bytes.now at) todo.old.items todo.new.items) }
-{
-    push_some(todo, next_of(volume, at))?;
-    push_some(todo, first_below(volume, at))?;
-    Ok(())
-}
-
 // A walk over chains.
 #[derive(Drop)]
-struct Walk<A: Allocator> {
+struct ChainWalk<A: Allocator> {
     /// The headers that it has come to.
     marks: SlotSet<A>,
     /// Those that are still to come.
     todo: Vec<u32, A>,
 }
 
-impl<A: Allocator> Walk<A> {
+impl<A: Allocator> ChainWalk<A> {
     // Goes on until no header is to come.
     fn finish(&mut self, volume: &Volume) -> Result<(), AllocError>
         requires starts { AreStarts volume.now.bytes.now self.old.todo.items }
@@ -112,36 +121,27 @@ impl<A: Allocator> Walk<A> {
     }
 }
 
-// Marks the headers of the chains of all opened directories but the root.
-fn mark_elsewhere<A: Allocator + Copy>(
-    alloc: A,
+// Adds what a header leads on to.
+fn follow<A: Allocator>(
     volume: &Volume,
-    root_chain: &SlotSet<A>,
-) -> Result<SlotSet<A>, AllocError>
-    requires root_chain { AreInRootChain volume.now.bytes.now root_chain.now }
-    ensures { IfOk result (AreElsewhere volume.now.bytes.now) }
+    at: usize,
+    todo: &mut Vec<u32, A>,
+) -> Result<(), AllocError>
+    requires inside { IsInside volume.now.bytes.now at }
+    ensures { IfOk result
+        (λ _. Adds (LeadsOn volume.now.bytes.now at) todo.old.items todo.new.items) }
 {
-    let mut walk = Walk {
-        marks: SlotSet::new(alloc, volume.bytes.len() / 16)?,
-        todo: seeds(alloc, volume, root_chain)?,
-    };
-    walk.finish(volume)?;
-    Ok(walk.marks)
+    push_some(todo, next_of(volume, at))?;
+    push_some(todo, first_below(volume, at))?;
+    Ok(())
 }
 
-/// Finds the headers in the chains of all opened directories.
-pub(crate) fn find_chains<A: Allocator + Copy>(
-    alloc: A,
-    volume: &Volume,
-) -> Result<Chains<A>, AllocError>
-    ensures { IfOk result (AreChains volume.now.bytes.now) }
+// Adds a word, if there is one.
+fn push_some<A: Allocator>(todo: &mut Vec<u32, A>, word: Option<u32>) -> Result<(), AllocError>
+    ensures { IfOk result (λ _. todo.new.items ≡ todo.old.items ++ option_to_list word) }
 {
-    let root_chain = mark_root_chain(alloc, volume)?;
-    let mut headers = mark_elsewhere(alloc, volume, &root_chain)?;
-    let root_elsewhere = headers.contains(volume.root / 16);
-    headers.add_all(&root_chain);
-    Ok(Chains {
-        headers,
-        root_elsewhere,
-    })
+    if let Some(word) = word {
+        todo.push(word)?;
+    }
+    Ok(())
 }

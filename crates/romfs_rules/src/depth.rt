@@ -10,7 +10,7 @@ ghost use Rattle.romfs_format.specs.declared.rule.Profile.TheVariants.{Usual};
 ghost use Rattle.romfs_rules.specs.Judge.{KeepsAllHeaderRules};
 ghost use Rattle.romfs_rules.specs.Outside.{IsLeast};
 ghost use Rattle.romfs_rules.specs.Leads.{Adds};
-ghost use Rattle.romfs_rules.specs.Depth.{IsTooDeep, Notes, waiting, LeadsDown};
+ghost use Rattle.romfs_rules.specs.Depth.{IsTooDeep, NotesDeep, waiting, LeadsDown};
 
 use crate::lead::{first_below, first_of, next_of};
 use crate::member::is_dotted;
@@ -20,6 +20,23 @@ use romfs_format::limits::MAX_NAMES;
 use romfs_format::rule::Rule;
 use slot_sets::SlotSet;
 use std::alloc::{AllocError, Allocator};
+
+/// The least header whose path has more than [`MAX_NAMES`] names, in an image that breaks no other
+/// rule.
+pub(crate) fn find_deep<A: Allocator + Copy>(
+    alloc: A,
+    volume: &Volume,
+) -> Result<Option<u32>, AllocError>
+    requires keeps { KeepsAllHeaderRules Usual volume.now.bytes.now }
+    ensures { IfOk result
+        (λ deep. IsLeast (BreaksHeader Usual volume.now.bytes.now Rule.TooDeep) deep) }
+{
+    let mut walk = Descent {
+        marks: SlotSet::new(alloc, volume.bytes.len() / 16)?,
+        todo: Vec::new(alloc),
+    };
+    walk.find_deep(volume)
+}
 
 // A header that is still to come, and how many names lead to the directory of its chain.
 #[derive(Clone, Copy)]
@@ -35,61 +52,6 @@ struct Descent<A: Allocator> {
     marks: SlotSet<A>,
     /// Those that are still to come.
     todo: Vec<Waiting, A>,
-}
-
-// Adds a header, if there is one.
-fn push_some<A: Allocator>(
-    todo: &mut Vec<Waiting, A>,
-    header: Option<u32>,
-    names: u32,
-) -> Result<(), AllocError>
-    ensures { IfOk result (λ _. todo.new.items ≡ todo.old.items ++ waiting header names) }
-{
-    if let Some(header) = header {
-        todo.push(Waiting { header, names })?;
-    }
-    Ok(())
-}
-
-// Adds what a header leads to.
-#[tactic(auto, using(crate::proofs::Descent::led))]
-fn follow<A: Allocator>(
-    volume: &Volume,
-    from: Waiting,
-    todo: &mut Vec<Waiting, A>,
-) -> Result<(), AllocError>
-    requires inside { IsInside volume.now.bytes.now from.header }
-    requires names { from.names + 1 < 2 ^ 32 }
-    ensures { IfOk result
-        (λ _. Adds (LeadsDown volume.now.bytes.now from) todo.old.items todo.new.items) }
-{
-    let at = from.header as usize;
-    push_some(todo, next_of(volume, at), from.names)?;
-    push_some(todo, first_below(volume, at), from.names + 1)?;
-    Ok(())
-}
-
-// Whether a header is a member, and its path has too many names.
-fn is_too_deep(volume: &Volume, at: Waiting) -> bool
-    requires inside { IsInside volume.now.bytes.now at.header }
-    ensures { IsTrue result ↔ IsTooDeep volume.now.bytes.now at }
-{
-    let place = at.header as usize;
-    at.names >= u32::from(MAX_NAMES) && place != volume.root && !is_dotted(volume, place)
-}
-
-// The least header that is too deep, with one header more than before.
-fn note(volume: &Volume, deep: Option<u32>, at: Waiting) -> Option<u32>
-    requires inside { IsInside volume.now.bytes.now at.header }
-    ensures { Notes volume.now.bytes.now at deep result }
-{
-    if !is_too_deep(volume, at) {
-        return deep;
-    }
-    match deep {
-        None => Some(at.header),
-        Some(least) => Some(least.min(at.header)),
-    }
 }
 
 impl<A: Allocator> Descent<A> {
@@ -116,19 +78,57 @@ impl<A: Allocator> Descent<A> {
     }
 }
 
-/// The least header whose path has more than [`MAX_NAMES`] names, in an image that breaks no other
-/// rule.
-pub(crate) fn find_deep<A: Allocator + Copy>(
-    alloc: A,
-    volume: &Volume,
-) -> Result<Option<u32>, AllocError>
-    requires keeps { KeepsAllHeaderRules Usual volume.now.bytes.now }
-    ensures { IfOk result
-        (λ deep. IsLeast (BreaksHeader Usual volume.now.bytes.now Rule.TooDeep) deep) }
+// The least header that is too deep, with one header more than before.
+fn note(volume: &Volume, deep: Option<u32>, at: Waiting) -> Option<u32>
+    requires inside { IsInside volume.now.bytes.now at.header }
+    ensures { NotesDeep volume.now.bytes.now at deep result }
 {
-    let mut walk = Descent {
-        marks: SlotSet::new(alloc, volume.bytes.len() / 16)?,
-        todo: Vec::new(alloc),
-    };
-    walk.find_deep(volume)
+    if !is_too_deep(volume, at) {
+        return deep;
+    }
+    match deep {
+        None => Some(at.header),
+        Some(least) => Some(least.min(at.header)),
+    }
+}
+
+// Whether a header is a member, and its path has too many names.
+fn is_too_deep(volume: &Volume, at: Waiting) -> bool
+    requires inside { IsInside volume.now.bytes.now at.header }
+    ensures { IsTrue result ↔ IsTooDeep volume.now.bytes.now at }
+{
+    let place = at.header as usize;
+    at.names >= u32::from(MAX_NAMES) && place != volume.root && !is_dotted(volume, place)
+}
+
+// Adds what a header leads to.
+#[tactic(auto, using(crate::proofs::Descent::led))]
+fn follow<A: Allocator>(
+    volume: &Volume,
+    from: Waiting,
+    todo: &mut Vec<Waiting, A>,
+) -> Result<(), AllocError>
+    requires inside { IsInside volume.now.bytes.now from.header }
+    requires names { from.names + 1 < 2 ^ 32 }
+    ensures { IfOk result
+        (λ _. Adds (LeadsDown volume.now.bytes.now from) todo.old.items todo.new.items) }
+{
+    let at = from.header as usize;
+    push_some(todo, next_of(volume, at), from.names)?;
+    push_some(todo, first_below(volume, at), from.names + 1)?;
+    Ok(())
+}
+
+// Adds a header, if there is one.
+fn push_some<A: Allocator>(
+    todo: &mut Vec<Waiting, A>,
+    header: Option<u32>,
+    names: u32,
+) -> Result<(), AllocError>
+    ensures { IfOk result (λ _. todo.new.items ≡ todo.old.items ++ waiting header names) }
+{
+    if let Some(header) = header {
+        todo.push(Waiting { header, names })?;
+    }
+    Ok(())
 }

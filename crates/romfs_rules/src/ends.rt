@@ -24,24 +24,14 @@ use std::alloc::{AllocError, Allocator};
 
 /// Where the chains end of the hard links that members' hard links lead over.
 #[derive(Drop)]
-pub(crate) struct Ends<'s, A: Allocator> {
+pub(crate) struct WalkedEnds<'s, A: Allocator> {
     /// The number of the walk that passed each, from 1; 0 where none did.
     pub(crate) walks: SlotWords<'s, A>,
     /// Where each walk ended.
     pub(crate) ends: Vec<End, A>,
 }
 
-impl<'s, A: Allocator> Ends<'s, A> {
-    // Where the chain of one of these hard links ends.
-    fn at(&self, at: usize) -> End
-        requires { (a : List ℕ) × KnowsEnd a self.now.walks self.now.ends.items at }
-        ensures { (a : List ℕ) → KnowsEnd a self.now.walks self.now.ends.items at
-            → EndsAs a at result }
-    {
-        let walk = self.walks.at(at / 16);
-        self.ends[walk as usize - 1]
-    }
-
+impl<'s, A: Allocator> WalkedEnds<'s, A> {
     /// Where the chain of a member ends that is a hard link.
     pub(crate) fn of_member(&self, volume: &Volume, at: usize) -> End
         requires ends { AreWalkedEnds volume.now.bytes.now self.now.walks self.now.ends.items }
@@ -56,27 +46,64 @@ impl<'s, A: Allocator> Ends<'s, A> {
             end_at(volume, to)
         }
     }
-}
 
-// Whether a header lies in the image and is a directory.
-fn is_directory(volume: &Volume, at: usize) -> bool
-    requires at { at < 2 ^ 32 }
-    ensures { IsTrue result ↔ IsDirectory volume.now.bytes.now at }
-{
-    is_inside(volume, at) && kind_of(word(volume.bytes, at)) == Kind::Directory
-}
-
-// Where a chain ends at a header that is no hard link.
-fn end_at(volume: &Volume, at: usize) -> End
-    requires at { at < 2 ^ 32 }
-    requires last { ¬ IsHardLink volume.now.bytes.now at }
-    ensures { EndsAs volume.now.bytes.now at result }
-{
-    if is_directory(volume, at) {
-        End::AtDirectory
-    } else {
-        End::AtOther
+    // Where the chain of one of these hard links ends.
+    fn at(&self, at: usize) -> End
+        requires { (a : List ℕ) × KnowsEnd a self.now.walks self.now.ends.items at }
+        ensures { (a : List ℕ) → KnowsEnd a self.now.walks self.now.ends.items at
+            → EndsAs a at result }
+    {
+        let walk = self.walks.at(at / 16);
+        self.ends[walk as usize - 1]
     }
+
+    // Follows each hard link of the set that no walk has passed.
+    fn follow_all(&mut self, volume: &Volume, targets: &SlotSet<A>) -> Result<(), AllocError>
+        requires targets { AreTargets volume.now.bytes.now targets.now }
+        requires same { self.old.walks.slots ≡ targets.now }
+        requires unpassed { self.old.walks.by_slot ≡ replicate (length targets.now) 0 }
+        requires empty { self.old.ends.items ≡ [] }
+        ensures { IfOk result
+            (λ _. AreWalkedEnds volume.now.bytes.now self.new.walks self.new.ends.items) }
+    {
+        let mut from = 0;
+        while let Some(slot) = targets.next_from(from) {
+            from = slot + 1;
+            if !is_left(volume, slot, &self.walks) {
+                continue;
+            }
+            let end = end_of(volume, slot * 16, &mut self.walks, &self.ends);
+            self.ends.push(end)?;
+        }
+        Ok(())
+    }
+}
+
+/// Follows each hard link that members' hard links lead over to where it ends.
+pub(crate) fn find_ends<'s, A: Allocator + Copy>(
+    alloc: A,
+    volume: &Volume,
+    targets: &'s SlotSet<A>,
+) -> Result<WalkedEnds<'s, A>, AllocError>
+    requires targets { AreTargets volume.now.bytes.now targets.now }
+    ensures { IfOk result (λ found.
+        AreWalkedEnds volume.now.bytes.now found.walks found.ends.items) }
+{
+    let mut found = WalkedEnds {
+        walks: SlotWords::new(alloc, targets)?,
+        ends: Vec::new(alloc),
+    };
+    found.follow_all(volume, targets)?;
+    Ok(found)
+}
+
+// Whether a slot holds a hard link that no walk passed.
+fn is_left<A: Allocator>(volume: &Volume, slot: usize, walks: &SlotWords<A>) -> bool
+    requires slot { slot < length volume.now.bytes.now / 16 }
+    requires there { get_or walks.now.slots slot false ≡ true }
+    ensures { IsTrue result ↔ IsUnpassed volume.now.bytes.now walks.now.by_slot slot }
+{
+    walks.at(slot) == 0 && is_hard_link(volume, slot * 16)
 }
 
 // Where the chain of a hard link ends. Marks each hard link on the way with the number of this
@@ -110,52 +137,23 @@ fn end_of<A: Allocator>(volume: &Volume, from: usize, walks: &mut SlotWords<A>, 
     end_at(volume, at)
 }
 
-// Whether a slot holds a hard link that no walk passed.
-fn is_left<A: Allocator>(volume: &Volume, slot: usize, walks: &SlotWords<A>) -> bool
-    requires slot { slot < length volume.now.bytes.now / 16 }
-    requires there { get_or walks.now.slots slot false ≡ true }
-    ensures { IsTrue result ↔ IsUnpassed volume.now.bytes.now walks.now.by_slot slot }
+// Where a chain ends at a header that is no hard link.
+fn end_at(volume: &Volume, at: usize) -> End
+    requires at { at < 2 ^ 32 }
+    requires last { ¬ IsHardLink volume.now.bytes.now at }
+    ensures { EndsAs volume.now.bytes.now at result }
 {
-    walks.at(slot) == 0 && is_hard_link(volume, slot * 16)
-}
-
-impl<'s, A: Allocator> Ends<'s, A> {
-    // Follows each hard link of the set that no walk has passed.
-    fn follow_all(&mut self, volume: &Volume, targets: &SlotSet<A>) -> Result<(), AllocError>
-        requires targets { AreTargets volume.now.bytes.now targets.now }
-        requires same { self.old.walks.slots ≡ targets.now }
-        requires unpassed { self.old.walks.by_slot ≡ replicate (length targets.now) 0 }
-        requires empty { self.old.ends.items ≡ [] }
-        ensures { IfOk result
-            (λ _. AreWalkedEnds volume.now.bytes.now self.new.walks self.new.ends.items) }
-    {
-        let mut from = 0;
-        while let Some(slot) = targets.next_from(from) {
-            from = slot + 1;
-            if !is_left(volume, slot, &self.walks) {
-                continue;
-            }
-            let end = end_of(volume, slot * 16, &mut self.walks, &self.ends);
-            self.ends.push(end)?;
-        }
-        Ok(())
+    if is_directory(volume, at) {
+        End::AtDirectory
+    } else {
+        End::AtOther
     }
 }
 
-/// Follows each hard link that members' hard links lead over to where it ends.
-pub(crate) fn find_ends<'s, A: Allocator + Copy>(
-    alloc: A,
-    volume: &Volume,
-    targets: &'s SlotSet<A>,
-) -> Result<Ends<'s, A>, AllocError>
-    requires targets { AreTargets volume.now.bytes.now targets.now }
-    ensures { IfOk result (λ found.
-        AreWalkedEnds volume.now.bytes.now found.walks found.ends.items) }
+// Whether a header lies in the image and is a directory.
+fn is_directory(volume: &Volume, at: usize) -> bool
+    requires at { at < 2 ^ 32 }
+    ensures { IsTrue result ↔ IsDirectory volume.now.bytes.now at }
 {
-    let mut found = Ends {
-        walks: SlotWords::new(alloc, targets)?,
-        ends: Vec::new(alloc),
-    };
-    found.follow_all(volume, targets)?;
-    Ok(found)
+    is_inside(volume, at) && kind_of(word(volume.bytes, at)) == Kind::Directory
 }

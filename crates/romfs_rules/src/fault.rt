@@ -23,6 +23,97 @@ use romfs_format::read::{root_of, word};
 use romfs_format::{ImageFault, Profile};
 use std::alloc::{AllocError, Allocator};
 
+/// The fault of some bytes as an image, under a profile; none where they break no rule of it.
+///
+/// That is the first broken rule of the volume header; else, of all broken rules of file headers,
+/// the one at the least place, and there the first; else a path of too many names, at the least
+/// such header. The error comes only where memory was refused.
+///
+/// It takes n log n steps in headers and one pass over the bytes of the image, whatever they are.
+/// Beside them it takes at most a byte for each 40 of the image and 96 for each header that is
+/// reached, and keeps nothing.
+pub fn first_fault<A: Allocator + Copy>(
+    alloc: A,
+    bytes: &[u8],
+    profile: Profile,
+) -> Result<Option<ImageFault>, AllocError>
+    ensures { IfOk result (IsFaultOf profile bytes.now) }
+{
+    match volume_fault(bytes) {
+        Some(fault) => Ok(Some(fault)),
+        None => {
+            let accessible = image_of(bytes, word(bytes, 8) as usize);
+            let volume = Volume {
+                bytes: accessible,
+                root: root_of(accessible) as usize,
+            };
+            fault_in(alloc, &volume, profile)
+        }
+    }
+}
+
+// The fault of an image that keeps the rules of the volume header, by its accessible bytes; none
+// where it is sound. Most images are plainly sound, and then no set is made.
+fn fault_in<A: Allocator + Copy>(
+    alloc: A,
+    volume: &Volume,
+    profile: Profile,
+) -> Result<Option<ImageFault>, AllocError>
+    ensures { IfOk result (IsFaultBehindVolume profile volume.now.bytes.now) }
+{
+    if is_plain_by(alloc, volume, profile)? {
+        Ok(fault_of(None, None))
+    } else {
+        fault_by_sets(alloc, volume, profile)
+    }
+}
+
+// Whether an image keeps all rules behind the volume header, as far as one walk tells. The sums of
+// headers are not looked at there, so under the strict profile it is not told.
+fn is_plain_by<A: Allocator + Copy>(
+    alloc: A,
+    volume: &Volume,
+    profile: Profile,
+) -> Result<bool, AllocError>
+    ensures { IfOk result (λ plain. IsTrue plain →
+        (profile ≡ Profile.Usual) × KeepsPlainly volume.now.bytes.now) }
+{
+    match profile {
+        Profile::Usual => is_plain_image(alloc, volume),
+        Profile::Strict => Ok(false),
+    }
+}
+
+// The same, by sets of its headers.
+fn fault_by_sets<A: Allocator + Copy>(
+    alloc: A,
+    volume: &Volume,
+    profile: Profile,
+) -> Result<Option<ImageFault>, AllocError>
+    ensures { IfOk result (IsFaultBehindVolume profile volume.now.bytes.now) }
+{
+    let header = find_header_fault(alloc, volume, profile)?;
+    let deep = match header {
+        Some(_) => None,
+        None => find_deep(alloc, volume)?,
+    };
+    Ok(fault_of(header, deep))
+}
+
+// The first breach of a rule of file headers, by all sets of headers, which are made here.
+fn find_header_fault<A: Allocator + Copy>(
+    alloc: A,
+    volume: &Volume,
+    profile: Profile,
+) -> Result<Option<ImageFault>, AllocError>
+    ensures { IfOk result (IsHeaderFault profile volume.now.bytes.now) }
+{
+    let chains = find_chains(alloc, volume)?;
+    let same_names = same_names_below(alloc, volume, &chains)?;
+    let twice = find_twice(alloc, volume, &chains)?;
+    find_header_fault_by_chains(alloc, volume, profile, &chains, &same_names, &twice)
+}
+
 // The headers of which a member of the same directory has the name at a lower place; none where the
 // root stands in another chain than its own, since then no fault of a name is the first.
 fn same_names_below<A: Allocator + Copy>(
@@ -67,95 +158,4 @@ fn find_header_fault_by_chains<A: Allocator + Copy>(
         outside: find_outside(volume, chains, &targets),
     };
     Ok(sets.header_fault(profile))
-}
-
-// The first breach of a rule of file headers, by all sets of headers, which are made here.
-fn find_header_fault<A: Allocator + Copy>(
-    alloc: A,
-    volume: &Volume,
-    profile: Profile,
-) -> Result<Option<ImageFault>, AllocError>
-    ensures { IfOk result (IsHeaderFault profile volume.now.bytes.now) }
-{
-    let chains = find_chains(alloc, volume)?;
-    let same_names = same_names_below(alloc, volume, &chains)?;
-    let twice = find_twice(alloc, volume, &chains)?;
-    find_header_fault_by_chains(alloc, volume, profile, &chains, &same_names, &twice)
-}
-
-// Whether an image keeps all rules behind the volume header, as far as one walk tells. The sums of
-// headers are not looked at there, so under the strict profile it is not told.
-fn is_plain_by<A: Allocator + Copy>(
-    alloc: A,
-    volume: &Volume,
-    profile: Profile,
-) -> Result<bool, AllocError>
-    ensures { IfOk result (λ plain. IsTrue plain →
-        (profile ≡ Profile.Usual) × KeepsPlainly volume.now.bytes.now) }
-{
-    match profile {
-        Profile::Usual => is_plain_image(alloc, volume),
-        Profile::Strict => Ok(false),
-    }
-}
-
-// The fault of an image that keeps the rules of the volume header, by its accessible bytes and by
-// sets of its headers; none where it is sound.
-fn fault_by_sets<A: Allocator + Copy>(
-    alloc: A,
-    volume: &Volume,
-    profile: Profile,
-) -> Result<Option<ImageFault>, AllocError>
-    ensures { IfOk result (IsFaultBehindVolume profile volume.now.bytes.now) }
-{
-    let header = find_header_fault(alloc, volume, profile)?;
-    let deep = match header {
-        Some(_) => None,
-        None => find_deep(alloc, volume)?,
-    };
-    Ok(fault_of(header, deep))
-}
-
-// The same. Most images are plainly sound, and then no set is made.
-fn fault_in<A: Allocator + Copy>(
-    alloc: A,
-    volume: &Volume,
-    profile: Profile,
-) -> Result<Option<ImageFault>, AllocError>
-    ensures { IfOk result (IsFaultBehindVolume profile volume.now.bytes.now) }
-{
-    if is_plain_by(alloc, volume, profile)? {
-        Ok(fault_of(None, None))
-    } else {
-        fault_by_sets(alloc, volume, profile)
-    }
-}
-
-/// The fault of some bytes as an image, under a profile; none where they break no rule of it.
-///
-/// That is the first broken rule of the volume header; else, of all broken rules of file headers,
-/// the one at the least place, and there the first; else a path of too many names, at the least
-/// such header. The error comes only where memory was refused.
-///
-/// It takes n log n steps in headers and one pass over the bytes of the image, whatever they are.
-/// Beside them it takes at most a byte for each 40 of the image and 96 for each header that is
-/// reached, and keeps nothing.
-pub fn first_fault<A: Allocator + Copy>(
-    alloc: A,
-    bytes: &[u8],
-    profile: Profile,
-) -> Result<Option<ImageFault>, AllocError>
-    ensures { IfOk result (IsFaultOf profile bytes.now) }
-{
-    match volume_fault(bytes) {
-        Some(fault) => Ok(Some(fault)),
-        None => {
-            let accessible = image_of(bytes, word(bytes, 8) as usize);
-            let volume = Volume {
-                bytes: accessible,
-                root: root_of(accessible) as usize,
-            };
-            fault_in(alloc, &volume, profile)
-        }
-    }
 }

@@ -13,7 +13,7 @@ ghost use Rattle.romfs_rules.specs.Headers.{IsAsked, IsEndOfMember};
 ghost use Rattle.romfs_rules.specs.Judge.{KeepsBelow, IsFirstInside, IsHeaderFault, IsDeepFault};
 
 use crate::chains::Chains;
-use crate::ends::Ends;
+use crate::ends::WalkedEnds;
 use crate::header::Header;
 use crate::member::is_member_by;
 use crate::outside::Outside;
@@ -41,7 +41,7 @@ pub(crate) struct Sets<'s, A: Allocator> {
     /// empty where the root's header stands in the chain of another directory.
     pub(crate) same_names: &'s [u32],
     /// Where the hard links of members end.
-    pub(crate) ends: &'s Ends<'s, A>,
+    pub(crate) ends: &'s WalkedEnds<'s, A>,
     /// The least of those that lie outside the image.
     pub(crate) outside: Outside,
 }
@@ -59,6 +59,67 @@ impl<'s, A: Allocator> Model for Sets<'s, A> {
 }
 
 impl<'s, A: Allocator> Sets<'s, A> {
+    /// The first breach of a rule of file headers.
+    pub(crate) fn header_fault(&self, profile: Profile) -> Option<ImageFault>
+        ensures { IsHeaderFault profile self.now result }
+    {
+        if let Some(place) = self.outside.below {
+            return Some(ImageFault {
+                rule: Rule::Outside,
+                place,
+            });
+        }
+        if let Some(fault) = self.fault_inside(profile) {
+            return Some(fault);
+        }
+        match self.outside.above {
+            Some(place) => Some(ImageFault {
+                rule: Rule::Outside,
+                place,
+            }),
+            None => None,
+        }
+    }
+
+    // The first header inside the image that breaks a rule of file headers, and the first rule that
+    // it breaks.
+    fn fault_inside(&self, profile: Profile) -> Option<ImageFault>
+        ensures { MatchOption result (KeepsBelow profile self.now (length self.now))
+            (λ f. IsFirstInside profile self.now f.rule f.place) }
+    {
+        if let Some(fault) = self.header(self.volume.root).fault(profile) {
+            return Some(fault);
+        }
+        let mut from = self.volume.root / 16 + 1;
+        while let Some(slot) = self.chains.headers.next_of_either(self.targets, from) {
+            if let Some(fault) = self.header(slot * 16).fault(profile) {
+                return Some(fault);
+            }
+            from = slot + 1;
+        }
+        None
+    }
+
+    // A header that the scan comes to.
+    fn header(&self, at: usize) -> Header<'_>
+        requires { IsAsked self.now at }
+        ensures image { result.image ≡ self.now }
+        ensures at { result.at ≡ at }
+    {
+        let name = text_at(self.volume.bytes, at + HEAD_SIZE);
+        let member = is_member_by(self.volume, at, name, self.chains);
+        Header {
+            volume: self.volume,
+            at,
+            name,
+            member,
+            used: self.is_used(at, member),
+            twice: self.is_twice(at),
+            same_name: is_listed(self.same_names, at),
+            end: self.end_of(at, member),
+        }
+    }
+
     // Whether a header is a member, or a member's hard links lead over it.
     fn is_used(&self, at: usize, member: bool) -> bool
         requires slot { HasSlot self.now at }
@@ -86,67 +147,6 @@ impl<'s, A: Allocator> Sets<'s, A> {
             Some(self.ends.of_member(self.volume, at))
         } else {
             None
-        }
-    }
-
-    // A header that the scan comes to.
-    fn header(&self, at: usize) -> Header<'_>
-        requires { IsAsked self.now at }
-        ensures image { result.image ≡ self.now }
-        ensures at { result.at ≡ at }
-    {
-        let name = text_at(self.volume.bytes, at + HEAD_SIZE);
-        let member = is_member_by(self.volume, at, name, self.chains);
-        Header {
-            volume: self.volume,
-            at,
-            name,
-            member,
-            used: self.is_used(at, member),
-            twice: self.is_twice(at),
-            same_name: is_listed(self.same_names, at),
-            end: self.end_of(at, member),
-        }
-    }
-
-    // The first header inside the image that breaks a rule of file headers, and the first rule that
-    // it breaks.
-    fn fault_inside(&self, profile: Profile) -> Option<ImageFault>
-        ensures { MatchOption result (KeepsBelow profile self.now (length self.now))
-            (λ f. IsFirstInside profile self.now f.rule f.place) }
-    {
-        if let Some(fault) = self.header(self.volume.root).fault(profile) {
-            return Some(fault);
-        }
-        let mut from = self.volume.root / 16 + 1;
-        while let Some(slot) = self.chains.headers.next_of_either(self.targets, from) {
-            if let Some(fault) = self.header(slot * 16).fault(profile) {
-                return Some(fault);
-            }
-            from = slot + 1;
-        }
-        None
-    }
-
-    /// The first breach of a rule of file headers.
-    pub(crate) fn header_fault(&self, profile: Profile) -> Option<ImageFault>
-        ensures { IsHeaderFault profile self.now result }
-    {
-        if let Some(place) = self.outside.below {
-            return Some(ImageFault {
-                rule: Rule::Outside,
-                place,
-            });
-        }
-        if let Some(fault) = self.fault_inside(profile) {
-            return Some(fault);
-        }
-        match self.outside.above {
-            Some(place) => Some(ImageFault {
-                rule: Rule::Outside,
-                place,
-            }),
-            None => None,
         }
     }
 }

@@ -16,29 +16,6 @@ use romfs_format::limits::HEAD_SIZE;
 use romfs_format::read::{is_dot_name, kind_of, text_at, word};
 use std::alloc::Allocator;
 
-// Whether a header with this name is named `.` or `..`.
-fn is_dotted_by(volume: &Volume, at: usize, name: Option<&[u8]>) -> bool
-    requires inside { IsInside volume.now.bytes.now at }
-    requires name { option_map (λ n. n.now) name ≡ text_at volume.now.bytes.now (at + HEAD_SIZE) }
-    ensures { IsTrue result ↔ IsDotted volume.now.bytes.now at }
-{
-    // the image is named by the clauses alone
-    let _ = volume;
-    match name {
-        None => false,
-        Some(name) => is_dot_name(name),
-    }
-}
-
-// Whether a header's name begins with a dot. Most do not, and then its end is not looked for.
-#[inline(always)]
-fn begins_with_dot(volume: &Volume, at: usize) -> bool
-    requires inside { IsInside volume.now.bytes.now at }
-    ensures { IsDotted volume.now.bytes.now at → IsTrue result }
-{
-    at + HEAD_SIZE < volume.bytes.len() && volume.bytes[at + HEAD_SIZE] == b'.'
-}
-
 /// Whether a header is named `.` or `..`.
 pub(crate) fn is_dotted(volume: &Volume, at: usize) -> bool
     requires inside { IsInside volume.now.bytes.now at }
@@ -79,17 +56,13 @@ pub(crate) fn is_opened<A: Allocator>(volume: &Volume, at: usize, chains: &Chain
     at == volume.root || is_in_chain(volume, at, chains) && opens(volume, at)
 }
 
-// Whether a header stands in a chain, the root's in another than its own.
-fn stands_kept<A: Allocator>(volume: &Volume, at: usize, chains: &Chains<A>) -> bool
+/// Whether a header is a member of some directory.
+pub(crate) fn is_some_member<A: Allocator>(volume: &Volume, at: usize, chains: &Chains<A>) -> bool
     requires slot { HasSlot volume.now.bytes.now at }
     requires chains { AreChains volume.now.bytes.now chains.now }
-    ensures { IsTrue result ↔ StandsKept volume.now.bytes.now at }
+    ensures { IsTrue result ↔ IsSomeMember volume.now.bytes.now at }
 {
-    if at == volume.root {
-        chains.root_elsewhere
-    } else {
-        is_in_chain(volume, at, chains)
-    }
+    is_member_by(volume, at, text_at(volume.bytes, at + HEAD_SIZE), chains)
 }
 
 /// Whether a header with this name is a member of some directory.
@@ -107,11 +80,38 @@ pub(crate) fn is_member_by<A: Allocator>(
     stands_kept(volume, at, chains) && !is_dotted_by(volume, at, name)
 }
 
-/// Whether a header is a member of some directory.
-pub(crate) fn is_some_member<A: Allocator>(volume: &Volume, at: usize, chains: &Chains<A>) -> bool
+// Whether a header stands in a chain, the root's in another than its own.
+fn stands_kept<A: Allocator>(volume: &Volume, at: usize, chains: &Chains<A>) -> bool
     requires slot { HasSlot volume.now.bytes.now at }
     requires chains { AreChains volume.now.bytes.now chains.now }
-    ensures { IsTrue result ↔ IsSomeMember volume.now.bytes.now at }
+    ensures { IsTrue result ↔ StandsKept volume.now.bytes.now at }
 {
-    is_member_by(volume, at, text_at(volume.bytes, at + HEAD_SIZE), chains)
+    if at == volume.root {
+        chains.root_elsewhere
+    } else {
+        is_in_chain(volume, at, chains)
+    }
+}
+
+// Whether a header with this name is named `.` or `..`.
+fn is_dotted_by(volume: &Volume, at: usize, name: Option<&[u8]>) -> bool
+    requires inside { IsInside volume.now.bytes.now at }
+    requires name { option_map (λ n. n.now) name ≡ text_at volume.now.bytes.now (at + HEAD_SIZE) }
+    ensures { IsTrue result ↔ IsDotted volume.now.bytes.now at }
+{
+    // the image is named by the clauses alone
+    let _ = volume;
+    match name {
+        None => false,
+        Some(name) => is_dot_name(name),
+    }
+}
+
+// Whether a header's name begins with a dot. Most do not, and then its end is not looked for.
+#[inline(always)]
+fn begins_with_dot(volume: &Volume, at: usize) -> bool
+    requires inside { IsInside volume.now.bytes.now at }
+    ensures { IsDotted volume.now.bytes.now at → IsTrue result }
+{
+    at + HEAD_SIZE < volume.bytes.len() && volume.bytes[at + HEAD_SIZE] == b'.'
 }

@@ -33,6 +33,35 @@ pub(crate) struct Outside {
     pub above: Option<u32>,
 }
 
+/// Finds the least headers outside the image that are reached, on either side.
+pub(crate) fn find_outside<A: Allocator>(
+    volume: &Volume,
+    chains: &Chains<A>,
+    targets: &SlotSet<A>,
+) -> Outside
+    requires chains { AreChains volume.now.bytes.now chains.now }
+    requires targets { AreTargets volume.now.bytes.now targets.now }
+    ensures below { IsLeastBelow volume.now.bytes.now result.below }
+    ensures above { IsLeastPastEnd volume.now.bytes.now result.above }
+{
+    let known = Known {
+        volume,
+        chains,
+        targets,
+    };
+    let none = Outside {
+        below: None,
+        above: None,
+    };
+    let mut found = known.note_named(none, volume.root);
+    let mut from = volume.root / 16 + 1;
+    while let Some(slot) = chains.headers.next_of_either(targets, from) {
+        found = known.note_named(found, slot * 16);
+        from = slot + 1;
+    }
+    found
+}
+
 // What tells where headers lead. A clause sees the image.
 #[derive(Drop)]
 struct Known<'k, A: Allocator> {
@@ -56,13 +85,58 @@ impl<'k, A: Allocator> Model for Known<'k, A> {
         × AreTargets held.volume.now.bytes.now held.targets.now };
 }
 
-// The lesser of a word and what was found before.
-fn lesser(found: Option<u32>, word: u32) -> u32
-    ensures { result ≡ lesser found word }
-{
-    match found {
-        Some(least) if least <= word => least,
-        _ => word,
+impl<'k, A: Allocator> Known<'k, A> {
+    // What is found with the headers more that a header leads to.
+    #[inline(always)]
+    fn note_named(&self, found: Outside, at: usize) -> Outside
+        requires { HasSlot self.now at }
+        ensures { NotesOnBoth self.now (Names self.now at) found result }
+    {
+        let next = next_link(self.volume, at, self.chains);
+        let with_next = note(found, self.volume, next);
+        self.note_spec(with_next, at)
+    }
+
+    // What is found with the headers more that a header's spec.info leads to. Most lie in the
+    // image, and then it is not asked whether it leads there.
+    #[inline(always)]
+    fn note_spec(&self, found: Outside, at: usize) -> Outside
+        requires { HasSlot self.now at }
+        ensures { NotesOnBoth self.now (NamesBySpec self.now at) found result }
+    {
+        let named = cleared(word(self.volume.bytes, at + 4)) as usize;
+        if is_inside(self.volume, named) {
+            return found;
+        }
+        let first = first_link(self.volume, at, self.chains);
+        let destination = self.destination(at);
+        let with_first = note(found, self.volume, first);
+        note(with_first, self.volume, destination)
+    }
+
+    // The destination of a hard link that is a member, or that a member's hard link leads over.
+    #[inline(always)]
+    fn destination(&self, at: usize) -> Option<u32>
+        requires { HasSlot self.now at }
+        ensures { IsTheOne (NamesDestination self.now at) result }
+    {
+        if !is_hard_link(self.volume, at) {
+            return None;
+        }
+        if self.is_asked(at) {
+            destination_of(self.volume, at)
+        } else {
+            None
+        }
+    }
+
+    // Whether a header is a member, or a member's hard link leads over it.
+    #[inline(always)]
+    fn is_asked(&self, at: usize) -> bool
+        requires { HasSlot self.now at }
+        ensures { IsTrue result ↔ (IsSomeMember self.now at ⊎ IsTarget self.now at) }
+    {
+        self.targets.contains(at / 16) || is_some_member(self.volume, at, self.chains)
     }
 }
 
@@ -91,86 +165,12 @@ fn note(found: Outside, volume: &Volume, word: Option<u32>) -> Outside
     }
 }
 
-impl<'k, A: Allocator> Known<'k, A> {
-    // Whether a header is a member, or a member's hard link leads over it.
-    #[inline(always)]
-    fn is_asked(&self, at: usize) -> bool
-        requires { HasSlot self.now at }
-        ensures { IsTrue result ↔ (IsSomeMember self.now at ⊎ IsTarget self.now at) }
-    {
-        self.targets.contains(at / 16) || is_some_member(self.volume, at, self.chains)
-    }
-
-    // The destination of a hard link that is a member, or that a member's hard link leads over.
-    #[inline(always)]
-    fn destination(&self, at: usize) -> Option<u32>
-        requires { HasSlot self.now at }
-        ensures { IsTheOne (NamesDestination self.now at) result }
-    {
-        if !is_hard_link(self.volume, at) {
-            return None;
-        }
-        if self.is_asked(at) {
-            destination_of(self.volume, at)
-        } else {
-            None
-        }
-    }
-
-    // What is found with the headers more that a header's spec.info leads to. Most lie in the
-    // image, and then it is not asked whether it leads there.
-    #[inline(always)]
-    fn note_spec(&self, found: Outside, at: usize) -> Outside
-        requires { HasSlot self.now at }
-        ensures { NotesOnBoth self.now (NamesBySpec self.now at) found result }
-    {
-        let named = cleared(word(self.volume.bytes, at + 4)) as usize;
-        if is_inside(self.volume, named) {
-            return found;
-        }
-        let first = first_link(self.volume, at, self.chains);
-        let destination = self.destination(at);
-        let with_first = note(found, self.volume, first);
-        note(with_first, self.volume, destination)
-    }
-
-    // What is found with the headers more that a header leads to.
-    #[inline(always)]
-    fn note_named(&self, found: Outside, at: usize) -> Outside
-        requires { HasSlot self.now at }
-        ensures { NotesOnBoth self.now (Names self.now at) found result }
-    {
-        let next = next_link(self.volume, at, self.chains);
-        let with_next = note(found, self.volume, next);
-        self.note_spec(with_next, at)
-    }
-}
-
-/// Finds the least headers outside the image that are reached, on either side.
-pub(crate) fn find_outside<A: Allocator>(
-    volume: &Volume,
-    chains: &Chains<A>,
-    targets: &SlotSet<A>,
-) -> Outside
-    requires chains { AreChains volume.now.bytes.now chains.now }
-    requires targets { AreTargets volume.now.bytes.now targets.now }
-    ensures below { IsLeastBelow volume.now.bytes.now result.below }
-    ensures above { IsLeastPastEnd volume.now.bytes.now result.above }
+// The lesser of a word and what was found before.
+fn lesser(found: Option<u32>, word: u32) -> u32
+    ensures { result ≡ lesser found word }
 {
-    let known = Known {
-        volume,
-        chains,
-        targets,
-    };
-    let none = Outside {
-        below: None,
-        above: None,
-    };
-    let mut found = known.note_named(none, volume.root);
-    let mut from = volume.root / 16 + 1;
-    while let Some(slot) = chains.headers.next_of_either(targets, from) {
-        found = known.note_named(found, slot * 16);
-        from = slot + 1;
+    match found {
+        Some(least) if least <= word => least,
+        _ => word,
     }
-    found
 }

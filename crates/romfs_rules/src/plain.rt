@@ -19,6 +19,7 @@ use crate::slot::is_fresh;
 use crate::volume::Volume;
 use slot_sets::SlotSet;
 use std::alloc::{AllocError, Allocator};
+use std::marker::Model;
 
 /// How many names are compared with one another, at the most.
 const FEW: usize = 16;
@@ -28,111 +29,6 @@ const FEW: usize = 16;
 pub(crate) struct Folder {
     pub(crate) header: u32,
     pub(crate) names: u32,
-}
-
-// Adds a header of a directory's chain, if it opens as a directory.
-fn push_below<A: Allocator>(
-    volume: &Volume,
-    folder: Folder,
-    at: usize,
-    todo: &mut Vec<Folder, A>,
-) -> Result<(), AllocError>
-    requires inside { IsInside volume.now.bytes.now at }
-    requires names { folder.names + 1 < 2 ^ 32 }
-    ensures { IfOk result
-        (λ _. AddsFolder volume.now.bytes.now folder at todo.old.items todo.new.items) }
-{
-    if at != volume.root && opens(volume, at) {
-        todo.push(Folder {
-            header: at as u32,
-            names: folder.names + 1,
-        })?;
-    }
-    Ok(())
-}
-
-// Whether no two of these headers have one name.
-fn have_names_apart<A: Allocator + Copy>(
-    alloc: A,
-    volume: &Volume,
-    heads: &[u32],
-    hashes: &[u64],
-) -> Result<bool, AllocError>
-    requires few { length heads.now < 2 ^ 32 }
-    requires inside { (i : ℕ) → i < length heads.now →
-        get_or heads.now i 0 + HEAD_SIZE ≤ length volume.now.bytes.now }
-    requires hashes { AreNameHashes
-        (kept_names volume.now.bytes.now heads.now) (length heads.now) hashes.now }
-    ensures { IfOk result (λ apart. IsTrue apart → HaveNamesApart volume.now.bytes.now heads.now) }
-{
-    if hashes.len() <= FEW && have_hashes_apart(hashes) {
-        return Ok(true);
-    }
-    match name_classes_by(alloc, volume, heads, hashes)? {
-        None => Ok(true),
-        Some(_) => Ok(false),
-    }
-}
-
-// A walk down from the root.
-#[derive(Drop)]
-struct Walk<A: Allocator> {
-    /// The headers that it has come to.
-    marks: SlotSet<A>,
-    /// The directories that are still to come.
-    todo: Vec<Folder, A>,
-    /// The headers of the chain that it goes along.
-    heads: Vec<u32, A>,
-    /// What their names are mixed to.
-    hashes: Vec<u64, A>,
-}
-
-impl<A: Allocator + Copy> Walk<A> {
-    // Goes along the chain of a directory, and tells whether each header there is new and plain.
-    fn is_plain_chain(&mut self, volume: &Volume, folder: Folder) -> Result<bool, AllocError>
-        requires inside { IsInside volume.now.bytes.now folder.header }
-        requires sized { length self.old.marks ≡ length volume.now.bytes.now / 16 }
-        ensures { IfOk result (λ plain. IsTrue plain → PassesChain volume.now.bytes.now folder
-            self.old.marks self.new.marks self.old.todo.items self.new.todo.items
-            self.new.heads.items self.new.hashes.items) }
-    {
-        self.heads.clear();
-        self.hashes.clear();
-        let mut next = first_of(volume, folder.header as usize);
-        while let Some(head) = next {
-            let at = head as usize;
-            if !is_fresh(volume, at, &self.marks) {
-                return Ok(false);
-            }
-            let Some(hash) = plain_hash(volume, folder, at) else {
-                return Ok(false);
-            };
-            self.marks.insert(at / 16);
-            self.heads.push(head)?;
-            self.hashes.push(hash)?;
-            push_below(volume, folder, at, &mut self.todo)?;
-            next = next_of(volume, at);
-        }
-        Ok(true)
-    }
-
-    // The same, and whether no two members have one name.
-    fn is_plain_folder(
-        &mut self,
-        alloc: A,
-        volume: &Volume,
-        folder: Folder,
-    ) -> Result<bool, AllocError>
-        requires inside { IsInside volume.now.bytes.now folder.header }
-        requires sized { length self.old.marks ≡ length volume.now.bytes.now / 16 }
-        ensures { IfOk result (λ plain. IsTrue plain → PassesFolder volume.now.bytes.now folder
-            self.old.marks self.new.marks self.old.todo.items self.new.todo.items) }
-    {
-        if !self.is_plain_chain(volume, folder)? {
-            return Ok(false);
-        }
-        have_names_apart(alloc, volume, &self.heads, &self.hashes)
-    }
 }
 
 /// Whether an image keeps all rules behind the volume header, as far as one walk tells.
@@ -158,4 +54,122 @@ pub(crate) fn is_plain_image<A: Allocator + Copy>(
         }
     }
     Ok(true)
+}
+
+// A walk down from the root. A clause sees how far it has come.
+#[derive(Drop)]
+struct Walk<A: Allocator> {
+    /// The headers that it has come to.
+    marks: SlotSet<A>,
+    /// The directories that are still to come.
+    todo: Vec<Folder, A>,
+    /// The headers of the chain that it goes along.
+    heads: Vec<u32, A>,
+    /// What their names are mixed to.
+    hashes: Vec<u64, A>,
+}
+
+impl<A: Allocator> Model for Walk<A> {
+    ghost use Rattle.romfs_rules.specs.Plain.{WalkState};
+
+    ghost Value = { WalkState };
+
+    ghost view = { λ held. record {
+      marks = held.marks;
+      todo = held.todo.items;
+      heads = held.heads.items;
+      hashes = held.hashes.items;
+    } };
+}
+
+impl<A: Allocator + Copy> Walk<A> {
+    // Goes along the chain of a directory, and tells whether each header there is new and plain,
+    // and no two members have one name.
+    fn is_plain_folder(
+        &mut self,
+        alloc: A,
+        volume: &Volume,
+        folder: Folder,
+    ) -> Result<bool, AllocError>
+        requires inside { IsInside volume.now.bytes.now folder.header }
+        requires sized { length self.old.marks ≡ length volume.now.bytes.now / 16 }
+        ensures { IfOk result (λ plain. IsTrue plain →
+            PassesFolder volume.now.bytes.now folder self.old self.new) }
+    {
+        if !self.is_plain_chain(volume, folder)? {
+            return Ok(false);
+        }
+        have_names_apart(alloc, volume, &self.heads, &self.hashes)
+    }
+
+    // The same of headers alone, whatever their names.
+    fn is_plain_chain(&mut self, volume: &Volume, folder: Folder) -> Result<bool, AllocError>
+        requires inside { IsInside volume.now.bytes.now folder.header }
+        requires sized { length self.old.marks ≡ length volume.now.bytes.now / 16 }
+        ensures { IfOk result (λ plain. IsTrue plain →
+            PassesChain volume.now.bytes.now folder self.old self.new) }
+    {
+        self.heads.clear();
+        self.hashes.clear();
+        let mut next = first_of(volume, folder.header as usize);
+        while let Some(head) = next {
+            let at = head as usize;
+            if !is_fresh(volume, at, &self.marks) {
+                return Ok(false);
+            }
+            let Some(hash) = plain_hash(volume, folder, at) else {
+                return Ok(false);
+            };
+            self.marks.insert(at / 16);
+            self.heads.push(head)?;
+            self.hashes.push(hash)?;
+            push_below(volume, folder, at, &mut self.todo)?;
+            next = next_of(volume, at);
+        }
+        Ok(true)
+    }
+}
+
+// Whether no two of these headers have one name.
+fn have_names_apart<A: Allocator + Copy>(
+    alloc: A,
+    volume: &Volume,
+    heads: &[u32],
+    hashes: &[u64],
+) -> Result<bool, AllocError>
+    requires few { length heads.now < 2 ^ 32 }
+    requires inside { (i : ℕ) → i < length heads.now →
+        get_or heads.now i 0 + HEAD_SIZE ≤ length volume.now.bytes.now }
+    requires hashes { AreNameHashes
+        (kept_names volume.now.bytes.now heads.now) (length heads.now) hashes.now }
+    ensures { IfOk result (λ apart. IsTrue apart → HaveNamesApart volume.now.bytes.now heads.now) }
+{
+    if hashes.len() <= FEW && have_hashes_apart(hashes) {
+        return Ok(true);
+    }
+    match name_classes_by(alloc, volume, heads, hashes)? {
+        None => Ok(true),
+        Some(_) => Ok(false),
+    }
+}
+
+// Adds a header of a directory's chain, if it opens as a directory.
+fn push_below<A: Allocator>(
+    volume: &Volume,
+    folder: Folder,
+    at: usize,
+    todo: &mut Vec<Folder, A>,
+) -> Result<(), AllocError>
+    requires inside { IsInside volume.now.bytes.now at }
+    requires names { folder.names + 1 < 2 ^ 32 }
+    ensures { IfOk result
+        (λ _. AddsFolder volume.now.bytes.now folder at todo.old.items todo.new.items) }
+{
+    if at != volume.root && opens(volume, at) {
+        todo.push(Folder {
+            header: at as u32,
+            names: folder.names + 1,
+        })?;
+    }
+    Ok(())
 }

@@ -22,59 +22,22 @@ use slot_sets::{SlotNumbers, places_of};
 use std::alloc::{AllocError, Allocator};
 use successor_graph::note_repeats;
 
-// The number of the header after one, or that of headers where there is none inside the image.
-fn next_number<A: Allocator>(
-    volume: &Volume,
-    heads: &[u32],
-    numbers: &SlotNumbers<A>,
-    at: usize,
-) -> u32
-    requires few { length heads.now < 2 ^ 32 }
-    requires numbered { AreNumbered volume.now.bytes.now heads.now numbers.now }
-    requires at { IsLinked volume.now.bytes.now at }
-    ensures { IsNextNumber volume.now.bytes.now heads.now at result }
-{
-    let after = cleared(word(volume.bytes, at)) as usize;
-    if after != 0 && is_inside(volume, after) {
-        numbers.number(after / 16)
-    } else {
-        heads.len() as u32
-    }
-}
-
-// The number of the header after each, and one more, for none, that leads to itself.
-fn next_numbers<A: Allocator + Copy>(
+/// The members that have the name of another member of their directory that stands at a lower
+/// place, in the order of their places.
+pub(crate) fn find_same_names<A: Allocator + Copy>(
     alloc: A,
     volume: &Volume,
-    heads: &[u32],
-    numbers: &SlotNumbers<A>,
+    chains: &Chains<A>,
 ) -> Result<Vec<u32, A>, AllocError>
-    requires few { length heads.now < 2 ^ 32 }
-    requires numbered { AreNumbered volume.now.bytes.now heads.now numbers.now }
-    ensures { IfOk result (λ next. AreNextNumbers volume.now.bytes.now heads.now next.items) }
+    requires chains { AreChains volume.now.bytes.now chains.now }
+    requires alone { ¬ HasRootElsewhere volume.now.bytes.now }
+    ensures { IfOk result (λ found. HaveSameNames volume.now.bytes.now found.items) }
 {
-    let mut next = Vec::with_capacity(alloc, heads.len() + 1)?;
-    for at in heads {
-        next.push(next_number(volume, heads, numbers, *at as usize))?;
+    let heads = places_of(alloc, &chains.headers)?;
+    match name_classes_of(alloc, volume, &heads)? {
+        None => Ok(Vec::new(alloc)),
+        Some(class) => same_names_by(alloc, volume, chains, &heads, class),
     }
-    next.push(heads.len() as u32)?;
-    Ok(next)
-}
-
-// Those of the headers that are noted.
-fn chosen<A: Allocator>(alloc: A, heads: &[u32], noted: &[bool]) -> Result<Vec<u32, A>, AllocError>
-    requires sized { length heads.now ≤ length noted.now }
-    requires rising { (i j : ℕ) → i < j → j < length heads.now →
-        get_or heads.now i 0 < get_or heads.now j 0 }
-    ensures { IfOk result (λ found. AreChosen heads.now noted.now (length heads.now) found.items) }
-{
-    let mut found = Vec::new(alloc);
-    for (number, head) in heads.iter().enumerate() {
-        if noted[number] {
-            found.push(*head)?;
-        }
-    }
-    Ok(found)
 }
 
 // Those of these headers that have the name of another member of their directory at a lower place,
@@ -99,20 +62,57 @@ fn same_names_by<A: Allocator + Copy>(
     chosen(alloc, heads, &noted)
 }
 
-/// The members that have the name of another member of their directory that stands at a lower
-/// place, in the order of their places.
-pub(crate) fn find_same_names<A: Allocator + Copy>(
+// The number of the header after each, and one more, for none, that leads to itself.
+fn next_numbers<A: Allocator + Copy>(
     alloc: A,
     volume: &Volume,
-    chains: &Chains<A>,
+    heads: &[u32],
+    numbers: &SlotNumbers<A>,
 ) -> Result<Vec<u32, A>, AllocError>
-    requires chains { AreChains volume.now.bytes.now chains.now }
-    requires alone { ¬ HasRootElsewhere volume.now.bytes.now }
-    ensures { IfOk result (λ found. HaveSameNames volume.now.bytes.now found.items) }
+    requires few { length heads.now < 2 ^ 32 }
+    requires numbered { AreNumbered volume.now.bytes.now heads.now numbers.now }
+    ensures { IfOk result (λ next. AreNextNumbers volume.now.bytes.now heads.now next.items) }
 {
-    let heads = places_of(alloc, &chains.headers)?;
-    match name_classes_of(alloc, volume, &heads)? {
-        None => Ok(Vec::new(alloc)),
-        Some(class) => same_names_by(alloc, volume, chains, &heads, class),
+    let mut next = Vec::with_capacity(alloc, heads.len() + 1)?;
+    for at in heads {
+        next.push(next_number(volume, heads, numbers, *at as usize))?;
     }
+    next.push(heads.len() as u32)?;
+    Ok(next)
+}
+
+// The number of the header after one, or that of headers where there is none inside the image.
+fn next_number<A: Allocator>(
+    volume: &Volume,
+    heads: &[u32],
+    numbers: &SlotNumbers<A>,
+    at: usize,
+) -> u32
+    requires few { length heads.now < 2 ^ 32 }
+    requires numbered { AreNumbered volume.now.bytes.now heads.now numbers.now }
+    requires at { IsLinked volume.now.bytes.now at }
+    ensures { IsNextNumber volume.now.bytes.now heads.now at result }
+{
+    let after = cleared(word(volume.bytes, at)) as usize;
+    if after != 0 && is_inside(volume, after) {
+        numbers.number(after / 16)
+    } else {
+        heads.len() as u32
+    }
+}
+
+// Those of the headers that are noted.
+fn chosen<A: Allocator>(alloc: A, heads: &[u32], noted: &[bool]) -> Result<Vec<u32, A>, AllocError>
+    requires sized { length heads.now ≤ length noted.now }
+    requires rising { (i j : ℕ) → i < j → j < length heads.now →
+        get_or heads.now i 0 < get_or heads.now j 0 }
+    ensures { IfOk result (λ found. AreChosen heads.now noted.now (length heads.now) found.items) }
+{
+    let mut found = Vec::new(alloc);
+    for (number, head) in heads.iter().enumerate() {
+        if noted[number] {
+            found.push(*head)?;
+        }
+    }
+    Ok(found)
 }

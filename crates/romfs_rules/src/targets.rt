@@ -15,24 +15,6 @@ use romfs_format::read::{cleared, word};
 use slot_sets::SlotSet;
 use std::alloc::{AllocError, Allocator};
 
-// Marks the headers on the destination chain of a header, up to one that has a mark.
-fn mark_destinations<A: Allocator>(volume: &Volume, from: usize, marks: &mut SlotSet<A>)
-    requires from { from < 2 ^ 32 }
-    requires sized { length marks.old ≡ length volume.now.bytes.now / 16 }
-    requires closed { IsClosed volume.now.bytes.now marks.old }
-    ensures follows { FollowsLink volume.now.bytes.now from marks.old marks.new }
-    ensures closed { IsClosed volume.now.bytes.now marks.new }
-{
-    let mut at = from;
-    while is_hard_link(volume, at) {
-        at = cleared(word(volume.bytes, at + 4)) as usize;
-        if !is_fresh(volume, at, marks) {
-            return;
-        }
-        marks.insert(at / 16);
-    }
-}
-
 /// Marks the headers on the destination chains of members that are hard links.
 pub(crate) fn mark_targets<A: Allocator + Copy>(
     alloc: A,
@@ -52,4 +34,22 @@ pub(crate) fn mark_targets<A: Allocator + Copy>(
         from = slot + 1;
     }
     Ok(marks)
+}
+
+// Marks the headers on the destination chain of a header, up to one that has a mark.
+fn mark_destinations<A: Allocator>(volume: &Volume, from: usize, marks: &mut SlotSet<A>)
+    requires from { from < 2 ^ 32 }
+    requires sized { length marks.old ≡ length volume.now.bytes.now / 16 }
+    requires closed { IsClosed volume.now.bytes.now marks.old }
+    ensures follows { FollowsLink volume.now.bytes.now from marks.old marks.new }
+    ensures closed { IsClosed volume.now.bytes.now marks.new }
+{
+    let mut at = from;
+    while is_hard_link(volume, at) {
+        at = cleared(word(volume.bytes, at + 4)) as usize;
+        if !is_fresh(volume, at, marks) {
+            return;
+        }
+        marks.insert(at / 16);
+    }
 }

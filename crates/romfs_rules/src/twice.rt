@@ -16,6 +16,61 @@ use crate::volume::Volume;
 use slot_sets::{SlotSet, places_of};
 use std::alloc::{AllocError, Allocator};
 
+/// The headers that two links name, rising.
+pub(crate) fn find_twice<A: Allocator + Copy>(
+    alloc: A,
+    volume: &Volume,
+    chains: &Chains<A>,
+) -> Result<Vec<u32, A>, AllocError>
+    requires chains { AreChains volume.now.bytes.now chains.now }
+    ensures { IfOk result (λ found. AreTwice volume.now.bytes.now found.items) }
+{
+    let twice = mark_twice(alloc, volume, chains)?;
+    places_of(alloc, &twice)
+}
+
+// Marks the headers that two links name.
+fn mark_twice<A: Allocator + Copy>(
+    alloc: A,
+    volume: &Volume,
+    chains: &Chains<A>,
+) -> Result<SlotSet<A>, AllocError>
+    requires chains { AreChains volume.now.bytes.now chains.now }
+    ensures { IfOk result (λ marks.
+        AreMarks volume.now.bytes.now (IsLinkedTwice volume.now.bytes.now) marks) }
+{
+    let mut once = SlotSet::new(alloc, volume.bytes.len() / 16)?;
+    let mut twice = SlotSet::new(alloc, volume.bytes.len() / 16)?;
+    count_links(volume, volume.root, chains, &mut once, &mut twice);
+    let mut from = volume.root / 16 + 1;
+    while let Some(slot) = chains.headers.next_from(from) {
+        count_links(volume, slot * 16, chains, &mut once, &mut twice);
+        from = slot + 1;
+    }
+    Ok(twice)
+}
+
+// Counts the links of a header's fields.
+#[inline(always)]
+fn count_links<A: Allocator>(
+    volume: &Volume,
+    at: usize,
+    chains: &Chains<A>,
+    once: &mut SlotSet<A>,
+    twice: &mut SlotSet<A>,
+)
+    requires slot { HasSlot volume.now.bytes.now at }
+    requires chains { AreChains volume.now.bytes.now chains.now }
+    requires once { length once.old ≡ length volume.now.bytes.now / 16 }
+    requires twice { length twice.old ≡ length volume.now.bytes.now / 16 }
+    ensures { CountsBoth volume.now.bytes.now at once.old twice.old once.new twice.new }
+{
+    let next = next_link(volume, at, chains);
+    count_link(volume, next, once, twice);
+    let first = first_link(volume, at, chains);
+    count_link(volume, first, once, twice);
+}
+
 // Counts a link to a header, if it lies in the image.
 #[inline(always)]
 fn count_link<A: Allocator>(
@@ -40,59 +95,4 @@ fn count_link<A: Allocator>(
     } else {
         once.insert(at / 16);
     }
-}
-
-// Counts the links of a header's fields.
-#[inline(always)]
-fn count_links<A: Allocator>(
-    volume: &Volume,
-    at: usize,
-    chains: &Chains<A>,
-    once: &mut SlotSet<A>,
-    twice: &mut SlotSet<A>,
-)
-    requires slot { HasSlot volume.now.bytes.now at }
-    requires chains { AreChains volume.now.bytes.now chains.now }
-    requires once { length once.old ≡ length volume.now.bytes.now / 16 }
-    requires twice { length twice.old ≡ length volume.now.bytes.now / 16 }
-    ensures { CountsBoth volume.now.bytes.now at once.old twice.old once.new twice.new }
-{
-    let next = next_link(volume, at, chains);
-    count_link(volume, next, once, twice);
-    let first = first_link(volume, at, chains);
-    count_link(volume, first, once, twice);
-}
-
-// Marks the headers that two links name.
-fn mark_twice<A: Allocator + Copy>(
-    alloc: A,
-    volume: &Volume,
-    chains: &Chains<A>,
-) -> Result<SlotSet<A>, AllocError>
-    requires chains { AreChains volume.now.bytes.now chains.now }
-    ensures { IfOk result (λ marks.
-        AreMarks volume.now.bytes.now (IsLinkedTwice volume.now.bytes.now) marks) }
-{
-    let mut once = SlotSet::new(alloc, volume.bytes.len() / 16)?;
-    let mut twice = SlotSet::new(alloc, volume.bytes.len() / 16)?;
-    count_links(volume, volume.root, chains, &mut once, &mut twice);
-    let mut from = volume.root / 16 + 1;
-    while let Some(slot) = chains.headers.next_from(from) {
-        count_links(volume, slot * 16, chains, &mut once, &mut twice);
-        from = slot + 1;
-    }
-    Ok(twice)
-}
-
-/// The headers that two links name, rising.
-pub(crate) fn find_twice<A: Allocator + Copy>(
-    alloc: A,
-    volume: &Volume,
-    chains: &Chains<A>,
-) -> Result<Vec<u32, A>, AllocError>
-    requires chains { AreChains volume.now.bytes.now chains.now }
-    ensures { IfOk result (λ found. AreTwice volume.now.bytes.now found.items) }
-{
-    let twice = mark_twice(alloc, volume, chains)?;
-    places_of(alloc, &twice)
 }

@@ -22,35 +22,6 @@ pub(crate) struct Volume<'v> {
     ghost rooted: { root ≡ root_of bytes.now },
 }
 
-/// The accessible bytes.
-#[tactic(auto, unfolding(romfs_format::specs::Fields::image))]
-pub(crate) fn image_of(bytes: &[u8], full: usize) -> &[u8]
-    requires full { full ≡ word bytes.now 8 }
-    requires within { full ≤ length bytes.now }
-    ensures value { result.now ≡ image bytes.now }
-    ensures length { length result.now ≡ full }
-{
-    &bytes[..full]
-}
-
-// What the checksum goes over.
-fn summed(image: &[u8]) -> &[u8]
-    ensures { result.now ≡ summed image.now }
-{
-    if image.len() < SUMMED_SIZE {
-        image
-    } else {
-        &image[..SUMMED_SIZE]
-    }
-}
-
-// Whether an image begins as each has to.
-fn is_magic(bytes: &[u8]) -> bool
-    ensures { IsTrue result ↔ StartsWith bytes.now magic }
-{
-    bytes.starts_with(b"-rom1fs-")
-}
-
 /// The first rule of the volume header that is broken.
 #[tactic(auto, unfolding(romfs_format::specs::Fields::root))]
 pub(crate) fn volume_fault(bytes: &[u8]) -> Option<ImageFault>
@@ -101,4 +72,33 @@ pub(crate) fn volume_fault(bytes: &[u8]) -> Option<ImageFault>
             }
         }
     }
+}
+
+/// The accessible bytes.
+#[tactic(auto, unfolding(romfs_format::specs::Fields::image))]
+pub(crate) fn image_of(bytes: &[u8], full: usize) -> &[u8]
+    requires full { full ≡ word bytes.now 8 }
+    requires within { full ≤ length bytes.now }
+    ensures value { result.now ≡ image bytes.now }
+    ensures length { length result.now ≡ full }
+{
+    &bytes[..full]
+}
+
+// What the checksum goes over.
+fn summed(image: &[u8]) -> &[u8]
+    ensures { result.now ≡ summed image.now }
+{
+    if image.len() < SUMMED_SIZE {
+        image
+    } else {
+        &image[..SUMMED_SIZE]
+    }
+}
+
+// Whether an image begins as each has to.
+fn is_magic(bytes: &[u8]) -> bool
+    ensures { IsTrue result ↔ StartsWith bytes.now magic }
+{
+    bytes.starts_with(b"-rom1fs-")
 }

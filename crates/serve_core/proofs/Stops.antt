@@ -1,14 +1,14 @@
 -- What an end of serving tells: where it is `Ok` so was the stream's; where it is a refusal of images
 -- it is that of no stream, and of one refusal alone.
-use Rattle.std.proofs.Common.{◌≡◌, ℕ, Result, Ok, Err}
+use Rattle.std.proofs.Common.{◌≡◌, ap, ℕ, Result, Ok, Err, refl}
 use Rattle.romfs_format.specs.declared.rule.ImageFault.{ImageFault}
 use Rattle.stack_prepare.specs.declared.refusal.Refusal.{Refusal}
 use Rattle.stack_prepare.specs.declared.refusal.Refusal.TheVariants as refusals
 use Rattle.serve_loop.specs.declared.done.Done.{Done}
 use Rattle.serve_loop.specs.declared.stream_fault.StreamFault.{StreamFault}
-use Rattle.serve_loop.specs.declared.stream_fault.StreamFault.TheVariants.{BadLength, CutOff, Read, Write, Turns, Memory}
+use Rattle.serve_loop.specs.declared.stream_fault.StreamFault.TheVariants as faults
 use Rattle.serve_core.specs.declared.stop.Stop.{Stop}
-use Rattle.serve_core.specs.declared.stop.Stop.TheVariants.{Layer, Layers}
+use Rattle.serve_core.specs.declared.stop.Stop.TheVariants.{Layer, Layers, Read, Write}
 use Rattle.serve_core.specs.Stops.{stop_of_fault, stop_of_refusal, told}
 
 -- two results that are stops are so of one
@@ -22,20 +22,20 @@ ended_well done (Err fault) e = absurd (cc)
 
 -- a fault of a stream is no refusal of images
 not_many : (count : ℕ) (fault : StreamFault) → ¬ (Layers count ≡ stop_of_fault fault)
-not_many count (BadLength at len) e = absurd (cc)
-not_many count (CutOff at) e = absurd (cc)
-not_many count Read e = absurd (cc)
-not_many count Write e = absurd (cc)
-not_many count Turns e = absurd (cc)
-not_many count Memory e = absurd (cc)
+not_many count (faults.BadLength at len) e = absurd (cc)
+not_many count (faults.CutOff at) e = absurd (cc)
+not_many count faults.Read e = absurd (cc)
+not_many count faults.Write e = absurd (cc)
+not_many count faults.Turns e = absurd (cc)
+not_many count faults.Memory e = absurd (cc)
 
 not_broken : (layer : ℕ) (broken : ImageFault) (fault : StreamFault) → ¬ (Layer layer broken ≡ stop_of_fault fault)
-not_broken layer broken (BadLength at len) e = absurd (cc)
-not_broken layer broken (CutOff at) e = absurd (cc)
-not_broken layer broken Read e = absurd (cc)
-not_broken layer broken Write e = absurd (cc)
-not_broken layer broken Turns e = absurd (cc)
-not_broken layer broken Memory e = absurd (cc)
+not_broken layer broken (faults.BadLength at len) e = absurd (cc)
+not_broken layer broken (faults.CutOff at) e = absurd (cc)
+not_broken layer broken faults.Read e = absurd (cc)
+not_broken layer broken faults.Write e = absurd (cc)
+not_broken layer broken faults.Turns e = absurd (cc)
+not_broken layer broken faults.Memory e = absurd (cc)
 
 -- nor is the end of a stream
 pub never_many : {A : Type 0} (count : ℕ) (ended : Result (Done A) StreamFault) → ¬ (Err (Layers count) ≡ told ended)
@@ -59,3 +59,29 @@ pub broken_told : (layer : ℕ) (broken : ImageFault) (refusal : Refusal) → La
 broken_told layer broken (refusals.Layer n fault) e = cc
 broken_told layer broken (refusals.Layers count) e = absurd (cc)
 broken_told layer broken refusals.Memory e = absurd (cc)
+
+-- a failed read is told of a failed read alone
+pub read_told : {A : Type 0} (ended : Result (Done A) StreamFault) → Err Read ≡ told ended → ended ≡ Err faults.Read
+read_told (Ok done) e = absurd (cc)
+read_told (Err fault) e = ap Err (one fault (same_stop e))
+  where
+    one : (fault : StreamFault) → Read ≡ stop_of_fault fault → fault ≡ faults.Read
+    one faults.Read e = refl
+    one faults.Write e = absurd (cc)
+    one faults.Turns e = absurd (cc)
+    one faults.Memory e = absurd (cc)
+    one (faults.BadLength at len) e = absurd (cc)
+    one (faults.CutOff at) e = absurd (cc)
+
+-- a failed write of a failed write alone
+pub write_told : {A : Type 0} (ended : Result (Done A) StreamFault) → Err Write ≡ told ended → ended ≡ Err faults.Write
+write_told (Ok done) e = absurd (cc)
+write_told (Err fault) e = ap Err (one fault (same_stop e))
+  where
+    one : (fault : StreamFault) → Write ≡ stop_of_fault fault → fault ≡ faults.Write
+    one faults.Write e = refl
+    one faults.Read e = absurd (cc)
+    one faults.Turns e = absurd (cc)
+    one faults.Memory e = absurd (cc)
+    one (faults.BadLength at len) e = absurd (cc)
+    one (faults.CutOff at) e = absurd (cc)

@@ -33,25 +33,6 @@ pub enum Stream {
     Many,
 }
 
-/// INIT, and 512 GETATTRs of the root.
-fn many(alloc: Global) -> Result<Vec<u8>, AllocError> {
-    let mut stream = REQUESTS[..56].to_vec(alloc)?;
-    for _ in 0..512 {
-        stream.extend_from_slice(&REQUESTS[56..])?;
-    }
-    Ok(stream)
-}
-
-fn stream_of(alloc: Global, stream: Stream) -> Result<Vec<u8>, AllocError> {
-    match stream {
-        Stream::Script => script(alloc),
-        Stream::Long => long_stream(alloc),
-        Stream::Bad => bad_stream(alloc),
-        Stream::Forgets => forgets(alloc),
-        Stream::Many => many(alloc),
-    }
-}
-
 /// How a stream comes, and how its replies are taken.
 #[derive(Clone, Copy, Debug)]
 pub struct Run {
@@ -90,26 +71,6 @@ pub const WHOLE: Run = Run {
 /// All of a stream by so many workers, in batches of so many messages.
 pub fn by(plan: (u32, u32)) -> Run {
     Run { plan, ..WHOLE }
-}
-
-fn pieces_of<'a>(stream: &'a [u8], run: Run, watched: Watched<'a>) -> Pieces<'a> {
-    Pieces {
-        rest: &stream[..stream.len().min(run.given)],
-        piece: run.piece,
-        fails: run.breaks,
-        calls: Calls::new(watched),
-    }
-}
-
-fn taker_of<'a>(alloc: Global, run: Run, watched: Watched<'a>) -> Taker<'a> {
-    Taker {
-        taken: Vec::new(alloc),
-        room: run.room,
-        most: run.most,
-        fails: run.fails,
-        flushes: run.flushes,
-        calls: Calls::new(watched),
-    }
 }
 
 /// The memory of a run that is refused, if one looks whether a device is called after that.
@@ -315,4 +276,43 @@ pub fn serve_of<R: Threads + Sync, A: Allocator + Copy + Send + Sync>(
     drop(tap);
     drop(spout);
     Some(Finished::of(done, pieces, taker).seen(&replies))
+}
+
+fn stream_of(alloc: Global, stream: Stream) -> Result<Vec<u8>, AllocError> {
+    match stream {
+        Stream::Script => script(alloc),
+        Stream::Long => long_stream(alloc),
+        Stream::Bad => bad_stream(alloc),
+        Stream::Forgets => forgets(alloc),
+        Stream::Many => many(alloc),
+    }
+}
+
+/// INIT, and 512 GETATTRs of the root.
+fn many(alloc: Global) -> Result<Vec<u8>, AllocError> {
+    let mut stream = REQUESTS[..56].to_vec(alloc)?;
+    for _ in 0..512 {
+        stream.extend_from_slice(&REQUESTS[56..])?;
+    }
+    Ok(stream)
+}
+
+fn pieces_of<'a>(stream: &'a [u8], run: Run, watched: Watched<'a>) -> Pieces<'a> {
+    Pieces {
+        rest: &stream[..stream.len().min(run.given)],
+        piece: run.piece,
+        fails: run.breaks,
+        calls: Calls::new(watched),
+    }
+}
+
+fn taker_of<'a>(alloc: Global, run: Run, watched: Watched<'a>) -> Taker<'a> {
+    Taker {
+        taken: Vec::new(alloc),
+        room: run.room,
+        most: run.most,
+        fails: run.fails,
+        flushes: run.flushes,
+        calls: Calls::new(watched),
+    }
 }

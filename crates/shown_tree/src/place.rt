@@ -22,13 +22,6 @@ pub struct Entry {
     pub place: Place,
 }
 
-// Whether the kind is a directory's.
-fn is_directory(kind: Kind) -> bool
-    ensures { result ≡ is_directory kind }
-{
-    kind == Kind::Directory
-}
-
 /// What layers remove from those below them (OCI image specification, layer chapter, "Whiteouts").
 #[derive(Clone, Copy, Debug, PartialEq, Eq, Drop)]
 pub struct Mark {
@@ -93,4 +86,11 @@ impl Lay for Mark {
             opaque: low.opaque || high.opaque,
         }
     }
+}
+
+// Whether the kind is a directory's.
+fn is_directory(kind: Kind) -> bool
+    ensures { result ≡ is_directory kind }
+{
+    kind == Kind::Directory
 }

@@ -80,6 +80,13 @@ impl<A: Allocator> Tree<A> {
     }
 }
 
+/// Whether a name is a marker's.
+pub fn is_marker(name: &[u8]) -> bool
+    ensures { result ≡ starts_with nat_eq name.now marker }
+{
+    name.starts_with(MARKER)
+}
+
 // Whether no name of a path is a marker's.
 fn is_plain(path: &[&[u8]]) -> bool
     ensures { result ≡ is_plain (map (λ name. name.now) path.now) }
@@ -109,11 +116,4 @@ fn cut_by<T: Cuts, A: Allocator>(tree: &Branch<T, A>, path: &[&[u8]]) -> bool
         }
     }
     here.value().mark().cut
-}
-
-/// Whether a name is a marker's.
-pub fn is_marker(name: &[u8]) -> bool
-    ensures { result ≡ starts_with nat_eq name.now marker }
-{
-    name.starts_with(MARKER)
 }

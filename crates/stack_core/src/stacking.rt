@@ -35,6 +35,14 @@ pub fn stack<R: Threads + Sync, A: Allocator + Copy + Send + Sync, G: Gate + Syn
     stack_from(rt, alloc, 0, images, gate, FORKS)
 }
 
+/// Where the entry stands that a path shows; none where the path is not shown.
+pub fn shown<A: Allocator>(tree: &Tree<A>, path: &[&[u8]]) -> Option<Place>
+    ensures { result
+        ≡ option_map (λ entry. entry.place) (entry_at tree.now (map (λ name. name.now) path.now)) }
+{
+    tree.entry(path).map(|entry| entry.place)
+}
+
 // The tree of a run of layers, of which the lowest has the number `first`: of its halves, made at
 // the same time as long as it may still be cut so.
 #[cycle(halves)]
@@ -96,12 +104,4 @@ fn stack_in_turn<A: Allocator + Copy, G: Gate>(
     let low = stack_in_turn(alloc, first, lows, gate)?;
     let high = stack_in_turn(alloc, after, highs, gate)?;
     lay(alloc, low, high)
-}
-
-/// Where the entry stands that a path shows; none where the path is not shown.
-pub fn shown<A: Allocator>(tree: &Tree<A>, path: &[&[u8]]) -> Option<Place>
-    ensures { result
-        ≡ option_map (λ entry. entry.place) (entry_at tree.now (map (λ name. name.now) path.now)) }
-{
-    tree.entry(path).map(|entry| entry.place)
 }

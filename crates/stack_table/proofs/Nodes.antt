@@ -7,7 +7,7 @@ use Rattle.std.specs.List.{slice_index_or}
 use Rattle.std.specs.Option.{option_map, option_map_or, option_and_then}
 use Rattle.std.proofs.lemmas.Option.{slice_get_within, slice_get-get_or, slice_get_past, slice_get_cases, get_or_from_slice_get}
 use Rattle.romfs_reader.specs.Readers.{bytes_at, IsPart}
-use Rattle.stack_model.specs.Listing.{Entry, stacked}
+use Rattle.stack_model.specs.Listing.{Entry}
 use Rattle.stack_model.specs.Numbers.{Place, Child, nodes, node_of, number_of, number, same_name, children, child}
 use Rattle.stack_model.specs.Attributes.{is_directory, is_directory_at, kind_at, attr_of}
 use Rattle.stack_model.proofs.Numbering.{number_used}
@@ -16,6 +16,7 @@ use Rattle.stack_table.specs.declared.node.Brief.{Brief}
 use Rattle.stack_table.specs.declared.directory.Directory.{Directory}
 use Rattle.stack_model.specs.Listing.{Stacked}
 use Rattle.stack_table.specs.Rows.{Line, number_named}
+use Rattle.stack_table.specs.Directories.{HeldDirectories}
 use Rattle.stack_table.specs.Readers.{TellsNode, attr_at, parent_of, parent_at, child_of, child_at, rows_of, rows_at, data_of_number}
 use Rattle.stack_table.specs.Held.{held_at, kept_of, directory_held, brief_of, attr_held, HaveKeys, IsHeldDirectory, IsNode, IsTable}
 
@@ -48,16 +49,18 @@ held_map f [] (suc k) = refl
 held_map f (x ∷ all) (suc zero) = refl
 held_map f (x ∷ all) (suc (suc k)) = held_map f all (suc k)
 
-module _ (layers : List (List ℕ)) (entries : List Entry) (held : List Node) (directories : List Directory) (rows : List Line)
-    (keys : List ℕ) (blocks : ℕ) (t : IsTable layers entries held directories rows keys blocks) where
-  abbrev stack : Stacked
-  stack = record { layers = layers; entries = entries }
+module _ (stack : Stacked) (held : List Node) (directories : HeldDirectories) (blocks : ℕ) (t : IsTable stack held directories blocks) where
+  abbrev layers : List (List ℕ)
+  layers = stack.layers
+
+  abbrev entries : List Entry
+  entries = stack.entries
 
   -- a number that is held is in use, and the node says what it should
   pub record IsHere (n : ℕ) (node : Node) : Type 0 where
     pub at : Place
     pub is : node_of entries n ≡ Some at
-    pub holds : IsNode layers entries directories rows keys node at
+    pub holds : IsNode stack directories node at
 
   -- where a node is held of a number, it is the node of the number's place
   pub here : (n : ℕ) (node : Node) → held_at held n ≡ Some node → IsHere n node
@@ -84,8 +87,8 @@ module _ (layers : List (List ℕ)) (entries : List Entry) (held : List Node) (d
       let h = here n node.now e in
       record { place_is = h.is ∙ ap Some (sym h.holds.place); kind_is = h.holds.kind ∙ ap (kind_at layers) (sym h.holds.place) }
 
-  attr_same : (n : ℕ) (node : Node) (p : Place) → IsNode layers entries directories rows keys node p → number entries p ≡ n
-      → attr_held n (brief_of node) ≡ attr_of (stacked layers entries) p
+  attr_same : (n : ℕ) (node : Node) (p : Place) → IsNode stack directories node p → number entries p ≡ n
+      → attr_held n (brief_of node) ≡ attr_of stack p
   attr_same n node p h i =
       let size = h.size in
       let mode_is = h.mode_is in
@@ -122,10 +125,10 @@ module _ (layers : List (List ℕ)) (entries : List Entry) (held : List Node) (d
     pub at : Place
     pub is : node_of entries n ≡ Some at
     pub kind : is_directory_at layers at ≡ true
-    pub holds : IsHeldDirectory layers entries rows keys directory at
+    pub holds : IsHeldDirectory stack directories directory at
 
   found_at : (n : ℕ) (node : Node) (directory : Directory) (h : IsHere n node) (b : Bool) → is_directory node.kind ≡ b
-      → cond b (slice_get directories node.directory) None ≡ Some directory → IsFound n directory
+      → cond b (slice_get directories.all node.directory) None ≡ Some directory → IsFound n directory
   found_at n node directory h false e k = absurd (cc)
   found_at n node directory h true e k =
       let d = h.holds.directory_is e in
@@ -135,7 +138,7 @@ module _ (layers : List (List ℕ)) (entries : List Entry) (held : List Node) (d
         at = h.at;
         is = h.is;
         kind = ap is_directory (sym h.holds.kind) ∙ e;
-        holds = subst (λ (x : Directory). IsHeldDirectory layers entries rows keys x h.at) is d.holds;
+        holds = subst (λ (x : Directory). IsHeldDirectory stack directories x h.at) is d.holds;
       }
 
   -- a directory that is held is of a number in use, whose place is a directory
@@ -148,7 +151,7 @@ module _ (layers : List (List ℕ)) (entries : List Entry) (held : List Node) (d
 
   -- a number of which no directory is held is not in use, or its place is none
   not_held : (n : ℕ) (node : Node) (h : IsHere n node) (b : Bool) → is_directory node.kind ≡ b
-      → cond b (slice_get directories node.directory) None ≡ None → option_map_or (is_directory_at layers) (Some h.at) false ≡ false
+      → cond b (slice_get directories.all node.directory) None ≡ None → option_map_or (is_directory_at layers) (Some h.at) false ≡ false
   not_held n node h true e k = absurd (let d = h.holds.directory_is e in let z : Some d.directory ≡ None = sym d.is ∙ k in cc)
   not_held n node h false e k = ap is_directory (sym h.holds.kind) ∙ e
 
@@ -164,19 +167,19 @@ module _ (layers : List (List ℕ)) (entries : List Entry) (held : List Node) (d
           ∙ not_held n node h (is_directory node.kind) refl k
 
   -- the rows from a directory's start to its end are those of its number
-  pub rows_are : (n : ℕ) (d : Directory) → directory_held held directories n ≡ Some d → slice_range rows d.rows_start d.rows_end
+  pub rows_are : (n : ℕ) (d : Directory) → directory_held held directories n ≡ Some d → slice_range directories.rows d.rows_start d.rows_end
       ≡ rows_at stack n
   rows_are n d e = let h = found n d e in rw h.is h.holds.rows_are
 
   -- the keys of its rows are there
-  pub keys_end : (n : ℕ) (d : Directory) → directory_held held directories n ≡ Some d → d.rows_end ≤ length keys
+  pub keys_end : (n : ℕ) (d : Directory) → directory_held held directories n ≡ Some d → d.rows_end ≤ length directories.keys
   keys_end n d e = let level = t.are.keys_level in let end = (found n d e).holds.end in omega arith
 
   -- of each directory
-  pub have_keys : HaveKeys held directories keys
+  pub have_keys : HaveKeys held directories
   have_keys = record { each = λ n d e. ((found n d e).holds.start, keys_end n d e) }
 
-  named_of : (p : Place) (name : List ℕ) → number_named name (rows_of (stacked layers entries) p) ≡ child_of (stacked layers entries) p name
+  named_of : (p : Place) (name : List ℕ) → number_named name (rows_of stack p) ≡ child_of stack p name
   named_of p name = go (is_directory_at layers p)
     where
       go : (b : Bool) → number_named name (cond b (map (λ c. record { number = number entries c.place; name = c.name })
@@ -186,7 +189,7 @@ module _ (layers : List (List ℕ)) (entries : List Entry) (held : List Node) (d
 
   -- the number that these rows give a name is that of the child
   pub child_is : (n : ℕ) (d : Directory) (name : List ℕ) → directory_held held directories n ≡ Some d
-      → number_named name (slice_range rows d.rows_start d.rows_end) ≡ child_at stack n name
+      → number_named name (slice_range directories.rows d.rows_start d.rows_end) ≡ child_at stack n name
   child_is n d name e = let h = found n d e in rw (h.is, h.holds.rows_are) (named_of h.at name)
 
   -- the parent that is held of a directory is its number's
@@ -197,7 +200,7 @@ module _ (layers : List (List ℕ)) (entries : List Entry) (held : List Node) (d
   pub rows_none : (n : ℕ) → directory_held held directories n ≡ None → [] ≡ rows_at stack n
   rows_none n e = go (node_of entries n) (not_found n e)
     where
-      go : (o : Option Place) → option_map_or (is_directory_at layers) o false ≡ false → [] ≡ option_map_or (rows_of (stacked layers entries)) o []
+      go : (o : Option Place) → option_map_or (is_directory_at layers) o false ≡ false → [] ≡ option_map_or (rows_of stack) o []
       go None f = refl
       go (Some p) f = rw f refl
 
@@ -206,7 +209,7 @@ module _ (layers : List (List ℕ)) (entries : List Entry) (held : List Node) (d
   child_none n name e = go (node_of entries n) (not_found n e)
     where
       go : (o : Option Place) → option_map_or (is_directory_at layers) o false ≡ false
-          → None ≡ option_and_then (λ p. child_of (stacked layers entries) p name) o
+          → None ≡ option_and_then (λ p. child_of stack p name) o
       go None f = refl
       go (Some p) f = rw f refl
 
@@ -214,7 +217,7 @@ module _ (layers : List (List ℕ)) (entries : List Entry) (held : List Node) (d
   pub parent_none : (n : ℕ) → directory_held held directories n ≡ None → None ≡ parent_at stack n
   parent_none n e = go (node_of entries n) (not_found n e)
     where
-      go : (o : Option Place) → option_map_or (is_directory_at layers) o false ≡ false → None ≡ option_and_then (parent_of (stacked layers entries)) o
+      go : (o : Option Place) → option_map_or (is_directory_at layers) o false ≡ false → None ≡ option_and_then (parent_of stack) o
       go None f = refl
       go (Some p) f = rw f refl
 

@@ -2,7 +2,7 @@
 use Rattle.std.specs.Prelude.{◌≡◌, ℕ, zero, suc, ◌≤◌, List, length, map, slice_get, slice_range, All, Bool, Option, Some, None, true, if◌then◌else◌}
 use Rattle.std.specs.Option.{option_and_then}
 use Rattle.romfs_reader.specs.Readers.{bytes_at, IsPart}
-use Rattle.stack_model.specs.Listing.{Entry, IsListing, stacked}
+use Rattle.stack_model.specs.Listing.{Entry, IsListing}
 use Rattle.stack_model.specs.Numbers.{Place, nodes, number, parent}
 use Rattle.stack_model.specs.Attributes.{is_directory, kind_at, mode, size_at, rdev, nlink, blocks_of, blocks_all, data_of}
 use Rattle.node_attr.specs.declared.attr.Attr.{Attr}
@@ -11,7 +11,9 @@ use Rattle.stack_table.specs.declared.node.Brief.{Brief}
 use Rattle.stack_table.specs.declared.directory.Directory.{Directory}
 use Rattle.name_keys.specs.Keyed.{AreKeyed}
 use Rattle.name_keys.specs.Noted.{IsNoted}
-use Rattle.stack_table.specs.Rows.{Line, names}
+use Rattle.stack_model.specs.Listing.{Stacked}
+use Rattle.stack_table.specs.Rows.{names}
+use Rattle.stack_table.specs.Directories.{HeldDirectories}
 use Rattle.stack_table.specs.Readers.{placed, rows_of}
 
 -- what is held of a number, counted from 1
@@ -20,12 +22,12 @@ held_at held zero = None
 held_at held (suc k) = slice_get held k
 
 -- what is held of a node that is a directory
-abbrev pub kept_of : List Directory → Node → Option Directory
+abbrev pub kept_of : HeldDirectories → Node → Option Directory
 kept_of directories node =
-    if is_directory node.kind then slice_get directories node.directory else None
+    if is_directory node.kind then slice_get directories.all node.directory else None
 
 -- the directory of a number
-abbrev pub directory_held : List Node → List Directory → ℕ → Option Directory
+abbrev pub directory_held : List Node → HeldDirectories → ℕ → Option Directory
 directory_held held directories n = option_and_then (kept_of directories) (held_at held n)
 
 -- the attributes of a node but for its number
@@ -56,76 +58,72 @@ pub record HoldsData (layers : List (List ℕ)) (layer : ℕ) (node : Node) (p :
   pub data_is : bytes_at image node.part.start node.part.len ≡ data_of layers p
 
 -- a directory holds the number of the one above, and its rows with their keys
-pub record IsHeldDirectory (layers : List (List ℕ)) (entries : List Entry) (rows : List Line)
-    (keys : List ℕ) (directory : Directory) (p : Place) : Type 0 where
-  pub parent_is : directory.parent ≡ number entries (parent entries p)
+pub record IsHeldDirectory (stack : Stacked) (held : HeldDirectories) (directory : Directory)
+    (p : Place) : Type 0 where
+  pub parent_is : directory.parent ≡ number stack.entries (parent stack.entries p)
   pub start : directory.rows_start ≤ directory.rows_end
-  pub end : directory.rows_end ≤ length rows
-  pub rows_are : slice_range rows directory.rows_start directory.rows_end
-      ≡ rows_of (stacked layers entries) p
-  pub keyed : AreKeyed directory.shared (slice_range keys directory.rows_start directory.rows_end)
-      (names (slice_range rows directory.rows_start directory.rows_end))
+  pub end : directory.rows_end ≤ length held.rows
+  pub rows_are : slice_range held.rows directory.rows_start directory.rows_end
+      ≡ rows_of stack p
+  pub keyed : AreKeyed directory.shared
+      (slice_range held.keys directory.rows_start directory.rows_end)
+      (names (slice_range held.rows directory.rows_start directory.rows_end))
 
 -- the directory of this node is held, and is the place's
-pub record HoldsDirectory (layers : List (List ℕ)) (entries : List Entry)
-    (directories : List Directory)
-    (rows : List Line) (keys : List ℕ) (node : Node) (p : Place) : Type 0 where
+pub record HoldsDirectory (stack : Stacked) (held : HeldDirectories) (node : Node) (p : Place)
+    : Type 0 where
   pub directory : Directory
-  pub is : slice_get directories node.directory ≡ Some directory
-  pub holds : IsHeldDirectory layers entries rows keys directory p
+  pub is : slice_get held.all node.directory ≡ Some directory
+  pub holds : IsHeldDirectory stack held directory p
 
 -- the node holds what the definitions say of its place
-pub record IsNode (layers : List (List ℕ)) (entries : List Entry) (directories : List Directory)
-    (rows : List Line) (keys : List ℕ) (node : Node) (p : Place) : Type 0 where
+pub record IsNode (stack : Stacked) (directories : HeldDirectories) (node : Node) (p : Place)
+    : Type 0 where
   pub place : placed node.place ≡ p
-  pub holds : HoldsData layers node.place.layer node p
-  pub kind : node.kind ≡ kind_at layers p
-  pub size : node.part.len ≡ size_at layers p
-  pub mode_is : node.mode ≡ mode layers p
-  pub nlink_is : node.nlink ≡ nlink (stacked layers entries) p
-  pub rdev_is : node.rdev ≡ rdev layers p
-  pub directory_is : is_directory node.kind ≡ true
-      → HoldsDirectory layers entries directories rows keys node p
+  pub holds : HoldsData stack.layers node.place.layer node p
+  pub kind : node.kind ≡ kind_at stack.layers p
+  pub size : node.part.len ≡ size_at stack.layers p
+  pub mode_is : node.mode ≡ mode stack.layers p
+  pub nlink_is : node.nlink ≡ nlink stack p
+  pub rdev_is : node.rdev ≡ rdev stack.layers p
+  pub directory_is : is_directory node.kind ≡ true → HoldsDirectory stack directories node p
 
 -- the nodes in the order of their numbers, what is held of the directories, and a key beside each
 -- row
-pub record AreNodes (layers : List (List ℕ)) (entries : List Entry) (held : List Node)
-    (directories : List Directory) (rows : List Line) (keys : List ℕ) : Type 0 where
-  pub level : length held ≡ length (nodes entries)
-  pub keys_level : length keys ≡ length rows
+pub record AreNodes (stack : Stacked) (held : List Node) (directories : HeldDirectories)
+    : Type 0 where
+  pub level : length held ≡ length (nodes stack.entries)
+  pub keys_level : length directories.keys ≡ length directories.rows
   pub each : (k : ℕ) (node : Node) (p : Place) → slice_get held k ≡ Some node
-      → slice_get (nodes entries) k ≡ Some p
-      → IsNode layers entries directories rows keys node p
+      → slice_get (nodes stack.entries) k ≡ Some p → IsNode stack directories node p
 
--- a table of these layers and their listing
-pub record IsTable (layers : List (List ℕ)) (entries : List Entry) (held : List Node)
-    (directories : List Directory) (rows : List Line) (keys : List ℕ) (blocks : ℕ) : Type 0 where
-  pub listing : IsListing layers entries
-  pub are : AreNodes layers entries held directories rows keys
-  pub blocks_are : blocks ≡ blocks_all layers
+-- a table of the stack's layers and their listing
+pub record IsTable (stack : Stacked) (held : List Node) (directories : HeldDirectories)
+    (blocks : ℕ) : Type 0 where
+  pub listing : IsListing stack.layers stack.entries
+  pub are : AreNodes stack held directories
+  pub blocks_are : blocks ≡ blocks_all stack.layers
 
 -- the keys of each directory's rows are there
-pub record HaveKeys (held : List Node) (directories : List Directory) (keys : List ℕ)
-    : Type 0 where
+pub record HaveKeys (held : List Node) (directories : HeldDirectories) : Type 0 where
   pub each : (n : ℕ) (d : Directory) → directory_held held directories n ≡ Some d
-      → (d.rows_start ≤ d.rows_end) × (d.rows_end ≤ length keys)
+      → (d.rows_start ≤ d.rows_end) × (d.rows_end ≤ length directories.keys)
 
 -- the keys of the directories with numbers up to one are noted, each under its directory's
-pub record AreNotedUpTo (held : List Node) (directories : List Directory) (keys : List ℕ)
-    (filter : List Bool) (last : ℕ) : Type 0 where
+pub record AreNotedUpTo (held : List Node) (directories : HeldDirectories) (filter : List Bool)
+    (last : ℕ) : Type 0 where
   pub each : (n : ℕ) (d : Directory) → n ≤ last → directory_held held directories n ≡ Some d
-      → All (IsNoted filter n) (slice_range keys d.rows_start d.rows_end)
+      → All (IsNoted filter n) (slice_range directories.keys d.rows_start d.rows_end)
 
 -- what a table holds: the attributes of its nodes are held once more, and all keys are noted
-pub record IsHeld (layers : List (List ℕ)) (entries : List Entry) (held : List Node)
-    (briefs : List Brief) (directories : List Directory) (rows : List Line) (keys : List ℕ)
-    (filter : List Bool) (blocks : ℕ) : Type 0 where
-  pub table : IsTable layers entries held directories rows keys blocks
+pub record IsHeld (stack : Stacked) (held : List Node) (briefs : List Brief)
+    (directories : HeldDirectories) (filter : List Bool) (blocks : ℕ) : Type 0 where
+  pub table : IsTable stack held directories blocks
   pub briefs_are : briefs ≡ map brief_of held
-  pub noted : AreNotedUpTo held directories keys filter (length held)
+  pub noted : AreNotedUpTo held directories filter (length held)
 
 -- some listing of the layers makes it a table
-abbrev pub IsSomeTable : List (List ℕ) → List Node → List Directory → List Line → List ℕ → ℕ
-    → Type 0
-IsSomeTable layers held directories rows keys blocks =
-    (entries : List Entry) × IsTable layers entries held directories rows keys blocks
+abbrev pub IsSomeTable : List (List ℕ) → List Node → HeldDirectories → ℕ → Type 0
+IsSomeTable layers held directories blocks =
+    (entries : List Entry)
+    × IsTable (record { layers = layers; entries = entries }) held directories blocks

@@ -1,4 +1,5 @@
 pub mod Stacked
 pub mod Rows
+pub mod Directories
 pub mod Readers
 pub mod Held

@@ -1,6 +1,6 @@
 //! Look-ups in the parts of a table.
 
-ghost use Rattle.std.specs.Prelude.{◌≡◌, ◌≤◌, ⊤, None, Some, MatchOption, IfOk, All, length, map, slice_range};
+ghost use Rattle.std.specs.Prelude.{◌≡◌, ◌≤◌, ◌+◌, ◌*◌, ⊤, None, Some, MatchOption, IfOk, All, length, map};
 ghost use Rattle.name_keys.specs.Names.{Rise, place_of};
 ghost use Rattle.name_keys.specs.Keyed.{AreKeyed};
 ghost use Rattle.name_keys.specs.Noted.{IsNoted};
@@ -47,18 +47,6 @@ pub(crate) fn briefs_of<A: Allocator>(alloc: A, nodes: &[Node]) -> Result<Vec<Br
     Ok(briefs)
 }
 
-// The attributes of a node in brief.
-fn brief_of(node: &Node) -> Brief
-    ensures { result ≡ brief_of node.now }
-{
-    Brief {
-        size: node.part.len,
-        mode: node.mode,
-        nlink: node.nlink,
-        rdev: node.rdev,
-    }
-}
-
 // The attributes of a node with this number, which has these in brief.
 pub(crate) fn attr_of(number: u64, brief: &Brief) -> Attr
     ensures { result ≡ attr_held number brief.now }
@@ -75,9 +63,9 @@ pub(crate) fn attr_of(number: u64, brief: &Brief) -> Attr
 }
 
 // The directory of a number.
-pub(crate) fn directory_at<'a>(
+pub(crate) fn directory_at<'a, A: Allocator>(
     nodes: &[Node],
-    directories: &'a [Directory],
+    directories: &'a Directories<A>,
     number: u64,
 ) -> Option<&'a Directory>
     ensures { MatchOption result (directory_held nodes.now directories.now number ≡ None)
@@ -90,25 +78,8 @@ pub(crate) fn directory_at<'a>(
     }
 }
 
-// The rows of a directory.
-pub(crate) fn rows_of<'a, A: Allocator>(rows: &'a [Row<A>], directory: &Directory) -> &'a [Row<A>]
-    requires start { directory.now.rows_start ≤ directory.now.rows_end }
-    requires end { directory.now.rows_end ≤ length rows.now }
-    ensures { result.now ≡ slice_range rows.now directory.now.rows_start directory.now.rows_end }
-{
-    &rows[directory.rows_start..directory.rows_end]
-}
-
-// The keys of a directory's rows.
-pub(crate) fn keys_of<'a>(keys: &'a [u64], directory: &Directory) -> &'a [u64]
-    requires start { directory.now.rows_start ≤ directory.now.rows_end }
-    requires end { directory.now.rows_end ≤ length keys.now }
-    ensures { result.now ≡ slice_range keys.now directory.now.rows_start directory.now.rows_end }
-{
-    &keys[directory.rows_start..directory.rows_end]
-}
-
-/// What tells of a name before the rows of its directory are searched.
+/// What tells of a name before the rows of its directory are searched. Of both parts a clause sees
+/// how large they are.
 #[derive(Drop)]
 pub(crate) struct Hints<A: Allocator> {
     /// Where rows stand.
@@ -148,6 +119,42 @@ pub(crate) fn place_of<A: Allocator>(
     find(rows, keys, directory.shared, &hints.filter, number, name)
 }
 
+// What tells of the names of all directories' rows, by one pass over the nodes.
+pub(crate) fn hints_of<A: Allocator + Copy>(
+    alloc: A,
+    nodes: &[Node],
+    directories: &Directories<A>,
+) -> Result<Hints<A>, AllocError>
+    requires { HaveKeys nodes.now directories.now }
+    ensures noted { IfOk result (λ hints.
+        AreNotedUpTo nodes.now directories.now hints.filter (length nodes.now)) }
+    ensures guesses { IfOk result (λ hints. hints.guesses ≤ 4 * length directories.now.rows + 17) }
+    ensures filter { IfOk result (λ hints. length hints.filter ≤ 8 * length directories.now.rows) }
+{
+    let mut guesses = Guesses::for_rows(alloc, directories.rows.len())?;
+    let mut filter = KeyFilter::for_rows(alloc, directories.rows.len())?;
+    for at in 0..nodes.len() {
+        let number = at as u64 + 1;
+        if let Some(directory) = directory_at(nodes, directories, number) {
+            filter.note_all(number, directories.keys_of(directory));
+            note_rows(&mut guesses, number, directory, &directories.rows);
+        }
+    }
+    Ok(Hints { guesses, filter })
+}
+
+// The attributes of a node in brief.
+fn brief_of(node: &Node) -> Brief
+    ensures { result ≡ brief_of node.now }
+{
+    Brief {
+        size: node.part.len,
+        mode: node.mode,
+        nlink: node.nlink,
+        rdev: node.rdev,
+    }
+}
+
 // The place of this name, where it is the one that was guessed among all rows. None says nothing.
 #[inline(always)]
 fn confirmed<A: Allocator>(
@@ -167,35 +174,15 @@ fn confirmed<A: Allocator>(
     }
 }
 
-// What tells of the names of all directories' rows, by one pass over the nodes.
-pub(crate) fn hints_of<A: Allocator + Copy>(
-    alloc: A,
-    nodes: &[Node],
-    directories: &Directories<A>,
-) -> Result<Hints<A>, AllocError>
-    requires { HaveKeys nodes.now directories.now.all.items directories.now.keys.items }
-    ensures { IfOk result (λ hints. AreNotedUpTo nodes.now directories.now.all.items
-        directories.now.keys.items hints.filter (length nodes.now)) }
-{
-    let mut guesses = Guesses::for_rows(alloc, directories.rows.len())?;
-    let mut filter = KeyFilter::for_rows(alloc, directories.rows.len())?;
-    for at in 0..nodes.len() {
-        let number = at as u64 + 1;
-        if let Some(directory) = directory_at(nodes, &directories.all, number) {
-            filter.note_all(number, keys_of(&directories.keys, directory));
-            note_rows(&mut guesses, number, directory, &directories.rows);
-        }
-    }
-    Ok(Hints { guesses, filter })
-}
-
 // Notes where the rows of a directory stand among all rows.
 fn note_rows<A: Allocator>(
     guesses: &mut Guesses<A>,
     number: u64,
     directory: &Directory,
     rows: &[Row<A>],
-) {
+)
+    ensures { guesses.new ≡ guesses.old }
+{
     if let Some(own) = rows.get(directory.rows_start..directory.rows_end) {
         guesses.note_all(number, directory.rows_start, own);
     }

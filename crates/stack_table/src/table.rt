@@ -11,8 +11,7 @@ ghost use Rattle.stack_table.specs.Readers.{TellsNode, attr_at, parent_at, child
 use crate::directory::{Directories, Directory};
 use crate::guess::Guess;
 use crate::lookup::{
-    Hints, attr_of, briefs_of, directory_at, hints_of, keys_of, node_at, numbered, place_of,
-    rows_of,
+    Hints, attr_of, briefs_of, directory_at, hints_of, node_at, numbered, place_of,
 };
 use crate::node::{Brief, Node};
 use crate::row::Row;
@@ -69,9 +68,9 @@ impl<A: Allocator> Model for Table<A> {
 
     ghost view = { λ held. record { layers = held.images.items; entries = held.listing.0 } };
 
-    ghost invariant = { λ held. IsHeld held.images.items held.listing.0 held.nodes.items
-        held.briefs.items held.directories.all.items held.directories.rows.items
-        held.directories.keys.items held.hints.filter held.blocks };
+    ghost invariant = { λ held.
+        IsHeld (record { layers = held.images.items; entries = held.listing.0 })
+        held.nodes.items held.briefs.items held.directories held.hints.filter held.blocks };
 }
 
 impl<A: Allocator + Copy> Table<A> {
@@ -84,8 +83,7 @@ impl<A: Allocator + Copy> Table<A> {
         directories: Directories<A>,
         blocks: u64,
     ) -> Result<Self, AllocError>
-        requires { IsSomeTable images.items nodes.items directories.all.items
-            directories.rows.items directories.keys.items blocks }
+        requires { IsSomeTable images.items nodes.items directories blocks }
         ensures { IfOk result (λ table. IsTableOf images.items table) }
     {
         let hints = hints_of(alloc, &nodes, &directories)?;
@@ -143,9 +141,9 @@ impl<A: Allocator> Table<A> {
     pub fn child_guessed(&self, number: u64, name: &[u8], guess: Guess) -> Option<u64>
         ensures { result ≡ child_at self.now number name.now }
     {
-        let directory = directory_at(&self.nodes, &self.directories.all, number)?;
-        let rows = rows_of(&self.directories.rows, directory);
-        let keys = keys_of(&self.directories.keys, directory);
+        let directory = directory_at(&self.nodes, &self.directories, number)?;
+        let rows = self.directories.rows_of(directory);
+        let keys = self.directories.keys_of(directory);
         let at = place_of(rows, keys, &self.hints, number, directory, name, guess)?;
         let row = &rows[at];
         Some(row.number)
@@ -175,8 +173,8 @@ impl<A: Allocator> Table<A> {
     pub fn rows(&self, number: u64) -> &[Row<A>]
         ensures { result.now ≡ rows_at self.now number }
     {
-        match directory_at(&self.nodes, &self.directories.all, number) {
-            Some(directory) => rows_of(&self.directories.rows, directory),
+        match directory_at(&self.nodes, &self.directories, number) {
+            Some(directory) => self.directories.rows_of(directory),
             None => &[],
         }
     }
@@ -187,7 +185,7 @@ impl<A: Allocator> Table<A> {
     pub fn parent(&self, number: u64) -> Option<u64>
         ensures { result ≡ parent_at self.now number }
     {
-        let directory = directory_at(&self.nodes, &self.directories.all, number)?;
+        let directory = directory_at(&self.nodes, &self.directories, number)?;
         Some(directory.parent)
     }
 

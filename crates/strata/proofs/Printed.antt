@@ -7,8 +7,8 @@ use native.Mathlib.Numerals.{unary_clauses}
 use Rattle.std.specs.Prelude.{codes}
 use Rattle.std.specs.Fmt.{decimal, digits, padded_integral, format_spec, char_count}
 use Rattle.romfs_format.specs.declared.rule.ImageFault.{ImageFault}
-use Rattle.serve_loop.specs.declared.stop.Stop.{Stop}
-use Rattle.serve_loop.specs.declared.stop.Stop.TheVariants.{Layer, Layers}
+use Rattle.serve_core.specs.declared.stop.Stop.{Stop}
+use Rattle.serve_core.specs.declared.stop.Stop.TheVariants.{Layer, Layers}
 use Rattle.strata.specs.Texts.{place_text, broken_text, stop_text, numbered_lines}
 
 -- eight digits with zeros in front, as a hole of the form {:08x} writes them

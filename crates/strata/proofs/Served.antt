@@ -3,14 +3,19 @@
 -- stopped, whole, or whole but for its balances.
 use Rattle.std.proofs.Common.{◌≡◌, ◌∙◌, sym, ap, refl, subst, ℕ, ◌⊎◌, inl, inr, List, Option, None, Some, is_some, true, false, true≢false, Result, Ok, Err, OnOk, IfErr, IsErrAnd}
 use Rattle.command_line.specs.declared.options.Line.{Line}
-use Rattle.serve_loop.specs.declared.stop.Stop.{Stop}
+use Rattle.stack_model.specs.Listing.{Stacked}
+use Rattle.stack_prepare.specs.declared.refusal.Refusal.{Refusal}
+use Rattle.stack_prepare.specs.Layers.{AreRefused}
+use Rattle.stack_prepare.specs.Preparing.{AreStacked}
+use Rattle.serve_core.specs.declared.stop.Stop.{Stop}
+use Rattle.serve_core.specs.Stops.{stop_of_refusal}
 use Rattle.serve_loop.specs.declared.done.Done.{Done}
 use Rattle.devices.specs.States.{Devices, SourceState, SinkState}
 use Rattle.serve_loop.specs.Serving.{Trace}
 use Rattle.strata.specs.declared.faults.Fault.{Fault}
 use Rattle.strata.specs.declared.faults.Fault.TheVariants.{Stopped}
 use Rattle.strata.specs.Faults.{out_of_memory, write_failed}
-use Rattle.strata.specs.Ending.{Gave, Took, Asks, GetsReplies, IsServing, IsServedWhole, IsNotServed}
+use Rattle.strata.specs.Ending.{profile_of, Gave, Took, Asks, GetsReplies, IsServing, IsServedWhole, IsNotServed}
 
 none_where : {X : Type 0} (o : Option X) → is_some o ≡ false → o ≡ None
 none_where None e = refl
@@ -48,18 +53,37 @@ pub from_file : {F G X E : Type 0} (named : Option F) (file : Option G) (x : G) 
 from_file named file x t result old same some = record { gave = λ none. absurd (no_file named file x same some none); kept = λ _. refl }
 
 module _ (A : Type 0) (line : Line) (images : List (List ℕ)) (old new : Devices) where
-  -- serving stopped
-  pub stopped : (r : Result (Done A) Stop) (stop : Stop) (told : Result (Unit {0}) Fault) → (t : Trace) × IsServing line images t r old new
-      → r ≡ Err stop
-      → IsErrAnd told (λ fault. fault ≡ Stopped stop) → IfErr told (λ fault. IsNotServed A line images fault old new)
-  stopped r stop (Ok u) s e f = absurd f
-  stopped r stop (Err fault) s e f = inr
-      (inl (record { trace = s.0; stop = stop; told = f; serving = subst (λ v. IsServing line images s.0 v old new) e s.1 }))
+  -- the images were refused
+  pub refused : (refusal : Refusal) (told : Result (Unit {0}) Fault) → AreRefused (profile_of line) images refusal → new ≡ old
+      → IsErrAnd told (λ fault. fault ≡ Stopped (stop_of_refusal refusal)) → IfErr told (λ fault. IsNotServed A line images fault old new)
+  refused refusal (Ok u) r k f = absurd f
+  refused refusal (Err fault) r k f = inr (inl (record { refusal = refusal; told = f; refused = r }, k))
 
-  -- serving went to its end, whatever came of the balances
-  pub whole : (r : Result (Done A) Stop) (done : Done A) → (t : Trace) × IsServing line images t r old new → r ≡ Ok done
-      → IsServedWhole A line images old new
-  whole r done s e = record { trace = s.0; done = done; serving = subst (λ v. IsServing line images s.0 v old new) e s.1 }
+  module _ (stack : Stacked) (stacked : AreStacked (profile_of line) images stack) where
+    -- serving stopped
+    pub stopped : (r : Result (Done A) Stop) (stop : Stop) (told : Result (Unit {0}) Fault) → (t : Trace) × IsServing line stack t r old new
+        → r ≡ Err stop
+        → IsErrAnd told (λ fault. fault ≡ Stopped stop) → IfErr told (λ fault. IsNotServed A line images fault old new)
+    stopped r stop (Ok u) s e f = absurd f
+    stopped r stop (Err fault) s e f = inr (inr (inl (record {
+      stack = stack;
+      stacked = stacked;
+      trace = s.0;
+      stop = stop;
+      told = f;
+      serving = subst (λ v. IsServing line stack s.0 v old new) e s.1;
+    })))
+
+    -- serving went to its end, whatever came of the balances
+    pub whole : (r : Result (Done A) Stop) (done : Done A) → (t : Trace) × IsServing line stack t r old new → r ≡ Ok done
+        → IsServedWhole A line images old new
+    whole r done s e = record {
+      stack = stack;
+      stacked = stacked;
+      trace = s.0;
+      done = done;
+      serving = subst (λ v. IsServing line stack s.0 v old new) e s.1;
+    }
 
   -- a stream that was served whole but whose balances were not written is not served
   pub lost : {F : Type 0} (file : Option F) (told : Result (Unit {0}) Fault) → IsServedWhole A line images old new
@@ -67,7 +91,7 @@ module _ (A : Type 0) (line : Line) (images : List (List ℕ)) (old new : Device
       → IfErr told (λ fault. (is_some file ≡ true) × ((fault ≡ write_failed) ⊎ (fault ≡ out_of_memory)))
       → IfErr told (λ fault. IsNotServed A line images fault old new)
   lost file (Ok u) w same l = l
-  lost file (Err fault) w same l = inr (inr (record { named = sym same ∙ l.0; told = l.1; served = w }))
+  lost file (Err fault) w same l = inr (inr (inr (record { named = sym same ∙ l.0; told = l.1; served = w })))
 
   -- a stream that was served whole is so where its balances are told well
   pub in_time : (told : Result (Unit {0}) Fault) → IsServedWhole A line images old new → OnOk told (IsServedWhole A line images old new)

@@ -4,8 +4,8 @@
 use Rattle.std.proofs.Common.{◌≡◌, ◌≢◌, ◌∙◌, sym, ap, subst, ℕ, ◌≤◌, ◌⊎◌, inl, inr, List, All, Option, Some, None, Err, refl, arith}
 use Rattle.romfs_format.specs.declared.rule.Profile.{Profile}
 use Rattle.romfs_format.specs.Rules.{IsSound}
-use Rattle.serve_loop.specs.declared.stop.Stop.{Stop}
-use Rattle.serve_loop.specs.declared.stop.Stop.TheVariants as stops
+use Rattle.serve_core.specs.declared.stop.Stop.{Stop}
+use Rattle.serve_core.specs.declared.stop.Stop.TheVariants as stops
 use Rattle.command_line.specs.declared.options.Line.{Line}
 use Rattle.command_line.specs.declared.options.LineFault.{LineFault}
 use Rattle.command_line.specs.declared.options.LineFault.TheVariants as lines
@@ -13,13 +13,15 @@ use Rattle.command_line.specs.declared.options.Verb.{Verb}
 use Rattle.command_line.specs.declared.options.Verb.TheVariants as verbs
 use Rattle.command_line.specs.CommandLine.{IsTaken, IsMisnumbered, IsCrossed, IsLineFault}
 use Rattle.reply_model.specs.declared.session.Session.{Session}
-use Rattle.layer_check.specs.Layers.{AreRefused}
-use Rattle.stack_table.specs.Stacked.{Stacked}
+use Rattle.stack_prepare.specs.Layers.{AreRefused}
+use Rattle.stack_model.specs.Listing.{Stacked}
 use Rattle.devices.specs.States.{Devices}
 use Rattle.serve_loop.specs.Serving.{Trace}
-use Rattle.serve_core.specs.Headline.{Serves}
-use Rattle.serve_core.proofs.Headline.{many_refused, broken_refused}
-use Rattle.serve_core.proofs.Refusals.{not_few, none_broken}
+use Rattle.serve_core.specs.Stops.{stop_of_refusal}
+use Rattle.serve_core.proofs.Stops.{never_broken, never_many}
+use Rattle.stack_prepare.specs.declared.refusal.Refusal.{Refusal}
+use Rattle.stack_prepare.specs.declared.refusal.Refusal.TheVariants as refusals
+use Rattle.stack_prepare.proofs.Refusals.{not_few, none_broken}
 use Rattle.strata.specs.declared.faults.Fault.{Fault}
 use Rattle.strata.specs.declared.faults.Fault.TheVariants.{ImageFile, RequestsFile, RepliesFile, BalancesFile, Bind, Accept, Broken, InSession, Stopped}
 use Rattle.strata.specs.Faults.{status_of, stop_status, out_of_memory, line_told_of}
@@ -61,15 +63,16 @@ work_other A verbs.Serve line images fault old new s =
         | inr (inl w) ↦ told_as fault RepliesFile w.0 one_is_other
         | inr (inr w) ↦ told_as fault BalancesFile w.0 one_is_other
       ]
-      | inr (inl p) ↦ told_as fault (Stopped p.stop) p.told (stop_of p.stop).words
-      | inr (inr b) ↦ elim b.told [
+      | inr (inl r) ↦ told_as fault (Stopped (stop_of_refusal r.0.refusal)) r.0.told (stop_of (stop_of_refusal r.0.refusal)).words
+      | inr (inr (inl p)) ↦ told_as fault (Stopped p.stop) p.told (stop_of p.stop).words
+      | inr (inr (inr b)) ↦ elim b.told [
         | inl w ↦ told_as fault (Stopped stops.Write) w one_is_other
         | inr w ↦ told_as fault out_of_memory w five_is_other
       ]
     ]
 work_other A verbs.Socket line images fault old new s =
     elim s.1 [
-      | inl r ↦ told_as fault (Stopped r.stop) r.told (stop_of r.stop).words
+      | inl r ↦ told_as fault (Stopped (stop_of_refusal r.refusal)) r.told (stop_of (stop_of_refusal r.refusal)).words
       | inr (inl b) ↦ told_as fault Bind b.told one_is_other
       | inr (inr served) ↦ elim (of_sessions {A = A} line.sessions fault served.served) [
         | inl accept ↦ told_as fault Accept accept one_is_other
@@ -85,11 +88,11 @@ work_other A verbs.Check line images fault old new s =
         ]
         | inr m ↦ told_as fault out_of_memory m five_is_other
       ]
-      | inr l ↦ told_as fault (Stopped stops.Write) l.told one_is_other
+      | inr l ↦ told_as fault (Stopped stops.Write) l.lost.told one_is_other
     ]
 work_other A verbs.List line images fault old new s =
     elim s.1 [
-      | inl r ↦ told_as fault (Stopped r.0.stop) r.0.told (stop_of r.0.stop).words
+      | inl r ↦ told_as fault (Stopped (stop_of_refusal r.0.refusal)) r.0.told (stop_of (stop_of_refusal r.0.refusal)).words
       | inr l ↦ told_as fault (Stopped stops.Write) l.told one_is_other
     ]
 
@@ -131,37 +134,19 @@ four_is_more e = absurd (omega arith)
 three_of : (fault other : Fault) → fault ≡ other → status_of fault ≡ 3 → status_of other ≡ 3
 three_of fault other f e = sym (ap status_of f) ∙ e
 
-refused_bad : (profile : Profile) (images : List (List ℕ)) (stop : Stop) → AreRefused profile images stop → stop_status stop ≡ 3
-    → AreBad profile images
-refused_bad profile images (stops.Layers count) r e = inl (not_few profile images count r)
-refused_bad profile images (stops.Layer layer fault) r e =
+refused_bad : (profile : Profile) (images : List (List ℕ)) (refusal : Refusal) → AreRefused profile images refusal
+    → stop_status (stop_of_refusal refusal) ≡ 3 → AreBad profile images
+refused_bad profile images (refusals.Layers count) r e = inl (not_few profile images count r)
+refused_bad profile images (refusals.Layer layer fault) r e =
     (let b = r.1 in inr (λ s. none_broken profile b.below b.above b.bytes fault.rule fault.place
     (subst (All (IsSound profile)) b.images_are s) b.broken))
-refused_bad profile images stops.Memory r e = absurd (five_is_more e)
-refused_bad profile images (stops.BadLength at len) r e = absurd r
-refused_bad profile images (stops.CutOff at) r e = absurd r
-refused_bad profile images stops.Read r e = absurd r
-refused_bad profile images stops.Write r e = absurd r
-refused_bad profile images stops.Turns r e = absurd r
-
-served_bad : {A : Type 0} {first : Session} (profile : Profile) (images : List (List ℕ)) (turns : ℕ) (t : Trace) (stop : Stop)
-    → Serves {A = A} profile first images turns t (Err stop) → stop_status stop ≡ 3 → AreBad profile images
-served_bad profile images turns t (stops.Layers count) s e = refused_bad profile images (stops.Layers count)
-    (many_refused profile _ images turns t count s).refused e
-served_bad profile images turns t (stops.Layer layer fault) s e = refused_bad profile images (stops.Layer layer fault)
-    (broken_refused profile _ images turns t layer fault s).refused e
-served_bad profile images turns t stops.Memory s e = absurd (five_is_more e)
-served_bad profile images turns t (stops.BadLength at len) s e = absurd (four_is_more e)
-served_bad profile images turns t (stops.CutOff at) s e = absurd (four_is_more e)
-served_bad profile images turns t stops.Read s e = absurd (one_is_less e)
-served_bad profile images turns t stops.Write s e = absurd (one_is_less e)
-served_bad profile images turns t stops.Turns s e = absurd (four_is_more e)
+refused_bad profile images refusals.Memory r e = absurd (five_is_more e)
 
 -- no session is stopped for images
 session_less : {A : Type 0} (first : Session) (stack : Stacked) (t : Trace) (stop : Stop) → IsSession {A = A} first stack t (Err stop)
     → stop_status stop ≢ 3
-session_less first stack t (stops.Layers count) s e = absurd s.run.end
-session_less first stack t (stops.Layer layer fault) s e = absurd s.run.end
+session_less first stack t (stops.Layers count) s e = never_many count s.run.ended s.run.result_is
+session_less first stack t (stops.Layer layer fault) s e = never_broken layer fault s.run.ended s.run.result_is
 session_less first stack t stops.Memory s e = five_is_more e
 session_less first stack t (stops.BadLength at len) s e = four_is_more e
 session_less first stack t (stops.CutOff at) s e = four_is_more e
@@ -178,16 +163,19 @@ work_bad A verbs.Serve line images fault old new s e =
         | inr (inl w) ↦ absurd (one_is_less (three_of fault RepliesFile w.0 e))
         | inr (inr w) ↦ absurd (one_is_less (three_of fault BalancesFile w.0 e))
       ]
-      | inr (inl p) ↦ served_bad {A = A} (profile_of line) images _ p.trace p.stop p.serving.by.serves
-          (three_of fault (Stopped p.stop) p.told e)
-      | inr (inr b) ↦ elim b.told [
+      | inr (inl r) ↦ refused_bad (profile_of line) images r.0.refusal r.0.refused
+          (three_of fault (Stopped (stop_of_refusal r.0.refusal)) r.0.told e)
+      | inr (inr (inl p)) ↦ absurd (session_less (first_of line) p.stack p.trace p.stop p.serving.by
+          (three_of fault (Stopped p.stop) p.told e))
+      | inr (inr (inr b)) ↦ elim b.told [
         | inl w ↦ absurd (one_is_less (three_of fault (Stopped stops.Write) w e))
         | inr w ↦ absurd (five_is_more (three_of fault out_of_memory w e))
       ]
     ]
 work_bad A verbs.Socket line images fault old new s e =
     elim s.1 [
-      | inl r ↦ refused_bad (profile_of line) images r.stop r.refused (three_of fault (Stopped r.stop) r.told e)
+      | inl r ↦ refused_bad (profile_of line) images r.refusal r.refused
+          (three_of fault (Stopped (stop_of_refusal r.refusal)) r.told e)
       | inr (inl b) ↦ absurd (one_is_less (three_of fault Bind b.told e))
       | inr (inr served) ↦ elim (of_sessions {A = A} line.sessions fault served.served) [
         | inl accept ↦ absurd (one_is_less (three_of fault Accept accept e))
@@ -204,11 +192,12 @@ work_bad A verbs.Check line images fault old new s e =
         ]
         | inr m ↦ absurd (five_is_more (three_of fault out_of_memory m e))
       ]
-      | inr l ↦ absurd (one_is_less (three_of fault (Stopped stops.Write) l.told e))
+      | inr l ↦ absurd (one_is_less (three_of fault (Stopped stops.Write) l.lost.told e))
     ]
 work_bad A verbs.List line images fault old new s e =
     elim s.1 [
-      | inl r ↦ refused_bad (profile_of line) images r.0.stop r.0.refused (three_of fault (Stopped r.0.stop) r.0.told e)
+      | inl r ↦ refused_bad (profile_of line) images r.0.refusal r.0.refused
+          (three_of fault (Stopped (stop_of_refusal r.0.refusal)) r.0.told e)
       | inr l ↦ absurd (one_is_less (three_of fault (Stopped stops.Write) l.told e))
     ]
 

@@ -6,6 +6,6 @@ pub mod Laws
 pub mod Mounts
 pub use Rattle.command_line.specs.CommandLine
 pub use Rattle.devices.specs.States
-pub use Rattle.layer_check.specs.Layers
-pub use Rattle.serve_core.specs.Preparing
+pub use Rattle.stack_prepare.specs.Layers
+pub use Rattle.stack_prepare.specs.Preparing
 pub use Rattle.serve_loop.specs.Serving

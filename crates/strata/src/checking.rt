@@ -3,7 +3,7 @@
 ghost use Rattle.std.specs.Prelude.{◌≡◌, ◌<◌, ◌^◌, length, string_bytes, OnOk, IfOk, IfErr};
 ghost use Rattle.romfs_format.specs.Fields.{image};
 ghost use Rattle.romfs_format.specs.Rules.{IsSound};
-ghost use Rattle.layer_check.specs.Layers.{contents_of};
+ghost use Rattle.stack_prepare.specs.Layers.{contents_of};
 ghost use Rattle.strata.specs.Faults.{AreSizes, IsFirstFault, IsImageFault};
 ghost use Rattle.strata.specs.Texts.{size_lines};
 ghost use Rattle.strata.specs.Ending.{AreGood, AreNotGood};
@@ -12,7 +12,6 @@ use crate::faults::Fault;
 use crate::lines::put_lines;
 use devices::Sink;
 use romfs_check::{Check, CheckFault, Image, Profile};
-use serve_core::Stop;
 use std::alloc::{AllocError, Allocator};
 use std::io::Write;
 
@@ -80,6 +79,6 @@ fn checked_size<A: Allocator + Copy>(
             image: number,
             fault,
         }),
-        Err(CheckFault::Memory) => Err(Fault::Stopped(Stop::Memory)),
+        Err(CheckFault::Memory) => Err(Fault::out_of_memory()),
     }
 }

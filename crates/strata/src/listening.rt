@@ -2,14 +2,15 @@
 
 ghost use Rattle.std.specs.Prelude.{◌≡◌, ◌⊎◌, is_some, true, IfOk, IfErr};
 ghost use Rattle.command_line.specs.CommandLine.{IsInLimits};
-ghost use Rattle.layer_check.specs.Layers.{contents_of};
+ghost use Rattle.stack_prepare.specs.Layers.{contents_of};
 ghost use Rattle.strata.specs.Ending.{profile_of, AreNotStacked, EndsAtSocket, IsNotBound};
 
 use crate::clients::sessions_from;
 use crate::faults::Fault;
 use crate::settings::{first_of, plan_of, profile_of};
 use command_line::Line;
-use serve_core::{FreePass, prepare_as};
+use devices::Listening;
+use stack_prepare::{FreePass, prepare_as};
 use std::alloc::Allocator;
 use std::fs::{self, Files};
 use std::io::Write;
@@ -37,12 +38,13 @@ pub fn listen<R: Files + Net + Threads + Sync, A: Allocator + Copy + Send + Sync
     let path = line.listen.unwrap();
     let table = prepare_as(rt, alloc, images, profile_of(line), &FreePass)?;
     let listener = bind(rt, path)?;
+    let mut clients = Listening::new(&listener);
     let status = sessions_from(
         rt,
         alloc,
         &table,
         first_of(line),
-        &listener,
+        &mut clients,
         line.sessions,
         plan_of(line),
         faults,

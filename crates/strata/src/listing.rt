@@ -1,7 +1,7 @@
 //! The command `list`.
 
 ghost use Rattle.std.specs.Prelude.{◌<◌, ◌^◌, OnOk, IfErr};
-ghost use Rattle.layer_check.specs.Layers.{contents_of};
+ghost use Rattle.stack_prepare.specs.Layers.{contents_of};
 ghost use Rattle.strata.specs.Ending.{profile_of, IsStackListed, IsNotListed};
 
 use crate::faults::Fault;
@@ -9,7 +9,7 @@ use crate::settings::profile_of;
 use command_line::Line;
 use devices::Sink;
 use path_list::write_list;
-use serve_core::{FreePass, prepare_as};
+use stack_prepare::{FreePass, prepare_as};
 use std::alloc::Allocator;
 use std::thread::Threads;
 

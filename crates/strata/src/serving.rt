@@ -4,9 +4,10 @@ ghost use Rattle.std.specs.Prelude.{◌≡◌, is_some, OnOk, IfErr};
 ghost use Rattle.std.specs.Io.KnownBytes.{IsAtEnd};
 ghost use Rattle.devices.specs.States.{devices};
 ghost use Rattle.command_line.specs.CommandLine.{IsInLimits};
-ghost use Rattle.layer_check.specs.Layers.{contents_of};
+ghost use Rattle.stack_prepare.specs.Layers.{contents_of};
 ghost use Rattle.serve_loop.specs.Serving.{Trace, Does};
-ghost use Rattle.strata.specs.Ending.{AreNew, Gave, GetsReplies, IsServingBy, IsServing, IsServedWhole, IsNotServed};
+ghost use Rattle.strata.specs.Ending.{first_of, AreNew, Gave, GetsReplies, IsServing, IsServedWhole, IsNotServed};
+ghost use Rattle.strata.specs.Sessions.{IsSession};
 
 use crate::balances::tell_balances;
 use crate::faults::Fault;
@@ -14,14 +15,16 @@ use crate::files::{create_named, open_requests};
 use crate::settings::{first_of, plan_of, profile_of};
 use command_line::Line;
 use devices::{Sink, Source, Spout, Tap};
-use serve_core::{Done, FreePass, MAX_TURNS, Stop, Terms, serve_as};
+use serve_core::{Done, MAX_TURNS, Stop, Terms, run};
+use stack_prepare::{FreePass, Table, prepare_as};
 use std::alloc::Allocator;
 use std::fs::Files;
 use std::io::{Read, Write};
 use std::thread::Threads;
 
-/// Answers the requests of a file or else of the input, to a file or else to the output, as they
-/// come. At the end of the stream it writes the balances, if a file is named for them.
+/// Checks the images, stacks them, and answers the requests of a file or else of the input over the
+/// stack, to a file or else to the output, as they come. Where an image is broken neither the input
+/// nor the output is touched. At the end of the stream it writes the balances, if a file is named for them.
 pub fn serve<R: Files + Threads + Sync, A: Allocator + Copy + Send + Sync, S: Source, K: Sink>(
     rt: &R,
     alloc: A,
@@ -42,7 +45,8 @@ pub fn serve<R: Files + Threads + Sync, A: Allocator + Copy + Send + Sync, S: So
     let requests = open_requests(rt, line.requests)?;
     let replies = create_named(rt, line.replies, Fault::RepliesFile)?;
     let balances = create_named(rt, line.balances, Fault::BalancesFile)?;
-    let done = serve_stream(rt, alloc, line, images, requests, replies, input, output)?;
+    let table = prepare_as(rt, alloc, images, profile_of(line), &FreePass)?;
+    let done = serve_stream(rt, alloc, line, &table, requests, replies, input, output)?;
     tell_balances(alloc, balances, done.balances.as_slice())
 }
 
@@ -57,7 +61,7 @@ fn serve_stream<
     rt: &R,
     alloc: A,
     line: &Line<'_>,
-    images: Vec<Vec<u8, A>, A>,
+    table: &Table<A>,
     requests: Option<F>,
     replies: Option<F>,
     input: &mut S,
@@ -67,21 +71,13 @@ fn serve_stream<
     requires requests { is_some requests ≡ is_some line.now.requests }
     requires replies { is_some replies ≡ is_some line.now.replies }
     requires new { AreNew (devices (S.state input.old) (K.state output.old)) }
-    ensures { (t : Trace) × IsServing line.now (contents_of images) t result
+    ensures { (t : Trace) × IsServing line.now table.now t result
         (devices (S.state input.old) (K.state output.old))
         (devices (S.state input.new) (K.state output.new)) }
 {
     match requests {
-        Some(file) => serve_source(
-            rt,
-            alloc,
-            line,
-            images,
-            &mut Tap::new(file),
-            replies,
-            output,
-        ),
-        None => serve_source(rt, alloc, line, images, input, replies, output),
+        Some(file) => serve_source(rt, alloc, line, table, &mut Tap::new(file), replies, output),
+        None => serve_source(rt, alloc, line, table, input, replies, output),
     }
 }
 
@@ -96,20 +92,20 @@ fn serve_source<
     rt: &R,
     alloc: A,
     line: &Line<'_>,
-    images: Vec<Vec<u8, A>, A>,
+    table: &Table<A>,
     source: &mut S,
     replies: Option<F>,
     output: &mut K,
 ) -> Result<Done<A>, Stop>
     requires limits { IsInLimits line.now }
     requires new { AreNew (devices (S.state source.old) (K.state output.old)) }
-    ensures { (t : Trace) × IsServingBy line.now (contents_of images) t result
+    ensures { (t : Trace) × IsSession (first_of line.now) table.now t result
         × Gave t result (S.state source.old) (S.state source.new)
         × GetsReplies replies t (K.state output.old) (K.state output.new) }
 {
     match replies {
-        Some(file) => serve_between(rt, alloc, line, images, source, &mut Spout::new(file)),
-        None => serve_between(rt, alloc, line, images, source, output),
+        Some(file) => serve_between(rt, alloc, line, table, source, &mut Spout::new(file)),
+        None => serve_between(rt, alloc, line, table, source, output),
     }
 }
 
@@ -118,23 +114,22 @@ fn serve_between<R: Threads + Sync, A: Allocator + Copy + Send + Sync, S: Source
     rt: &R,
     alloc: A,
     line: &Line<'_>,
-    images: Vec<Vec<u8, A>, A>,
+    table: &Table<A>,
     source: &mut S,
     sink: &mut K,
 ) -> Result<Done<A>, Stop>
     requires limits { IsInLimits line.now }
     requires new { AreNew (devices (S.state source.old) (K.state sink.old)) }
-    ensures run { Does (λ t. IsServingBy line.now (contents_of images) t result)
+    ensures run { Does (λ t. IsSession (first_of line.now) table.now t result)
         (devices (S.state source.old) (K.state sink.old))
         (devices (S.state source.new) (K.state sink.new)) }
     ensures end { OnOk result (IsAtEnd (S.state source.new).left) }
 {
-    let profile = profile_of(line);
     let terms = Terms {
         first: first_of(line),
         plan: plan_of(line),
         turns: MAX_TURNS,
         gate: &FreePass,
     };
-    serve_as(rt, alloc, images, profile, source, sink, &terms)
+    run(rt, alloc, table, source, sink, &terms)
 }

@@ -50,14 +50,11 @@ pub record TakesChildren {T : Type 0} (from from' children : List (Subtree T)) :
   pub below : first.below ≡ spread children
   pub forest : IsForest children
 
--- the first branches have gone from two lists, and the high one laid on the low one to the end of
--- a third
+-- the first branches have gone from two lists, and both is the high one laid on the low one
 pub record CoversFirst {T : Type 0} (f : T → T → T)
-    (lows lows' highs highs' out out' : List (Subtree T)) : Type 0 where
+    (lows lows' highs highs' : List (Subtree T)) (both : Subtree T) : Type 0 where
   pub low : Subtree T
   pub high : Subtree T
-  pub both : Subtree T
   pub low_left : lows ≡ low ∷ lows'
   pub high_left : highs ≡ high ∷ highs'
   pub laid : IsLaid f low high both
-  pub added : out' ≡ out ++ both ∷ []

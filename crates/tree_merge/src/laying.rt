@@ -4,7 +4,7 @@ ghost use Rattle.std.specs.Prelude.{◌≡◌, ◌<◌, ◌++◌, length, IfOk, 
 ghost use Rattle.path_tree.specs.Rows.{IsForest};
 ghost use Rattle.tree_merge.specs.Laying.{IsLaid, AreLaid, CoversFirst};
 
-use crate::moving::{add_last, pass_first, take_first};
+use crate::moving::{pass_first, take_first};
 use path_tree::{Branch, Lay};
 use std::alloc::{AllocError, Allocator};
 use std::cmp::Ordering;
@@ -53,7 +53,7 @@ pub fn merge<T: Lay, A: Allocator + Copy>(
         match low.order(high.name()) {
             Ordering::Less => pass_first(&mut lows, &mut out)?,
             Ordering::Greater => pass_first(&mut highs, &mut out)?,
-            Ordering::Equal => cover_first(alloc, &mut lows, &mut highs, &mut out)?,
+            Ordering::Equal => out.push(cover_first(alloc, &mut lows, &mut highs)?)?,
         }
     }
     // one of the two is empty now
@@ -62,24 +62,22 @@ pub fn merge<T: Lay, A: Allocator + Copy>(
     Ok(out)
 }
 
-/// The first branches of two directories, one laid on the other, are added to `out`.
+/// The first branches of two directories, taken from both, one laid on the other.
 #[cycle(laying)]
 fn cover_first<T: Lay, A: Allocator + Copy>(
     alloc: A,
     lows: &mut VecDeque<Branch<T, A>, A>,
     highs: &mut VecDeque<Branch<T, A>, A>,
-    out: &mut Vec<Branch<T, A>, A>,
-) -> Result<(), AllocError>
+) -> Result<Branch<T, A>, AllocError>
     requires low { 0 < length lows.old.items }
     requires high { 0 < length highs.old.items }
-    ensures { OnOk result (CoversFirst T.laid
-        lows.old.items lows.new.items highs.old.items highs.new.items out.old.items out.new.items) }
+    ensures { IfOk result (CoversFirst T.laid
+        lows.old.items lows.new.items highs.old.items highs.new.items) }
 {
     let (_, below, low) = take_first(lows);
     let (name, above, high) = take_first(highs);
     let children = merge(alloc, low, high)?;
-    add_last(out, name, T::lay(below, above), children)?;
-    Ok(())
+    Ok(Branch::new(name, T::lay(below, above), children))
 }
 
 /// Adds all that is left of branches.

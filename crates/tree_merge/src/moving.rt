@@ -56,6 +56,19 @@ pub fn drop_first<T: Copy + Drop, A: Allocator>(from: &mut VecDeque<Branch<T, A>
     take_first(from);
 }
 
+/// Takes the children of the first branch of a list; the branch stays there without any.
+#[inline(never)]
+pub fn take_children<T: Copy + Drop, A: Allocator + Copy>(
+    alloc: A,
+    from: &mut VecDeque<Branch<T, A>, A>,
+) -> Vec<Branch<T, A>, A>
+    requires { 0 < length from.old.items }
+    ensures { TakesChildren from.old.items from.new.items result.items }
+{
+    let first = from.front_mut().unwrap();
+    first.take_children(alloc)
+}
+
 /// Takes the first branch from a list, as its name, value and children.
 #[inline(never)]
 pub(crate) fn take_first<T: Copy + Drop, A: Allocator>(
@@ -73,24 +86,11 @@ pub(crate) fn take_first<T: Copy + Drop, A: Allocator>(
     first.into_parts()
 }
 
-/// Takes the children of the first branch of a list; the branch stays there without any.
-#[inline(never)]
-pub fn take_children<T: Copy + Drop, A: Allocator + Copy>(
-    alloc: A,
-    from: &mut VecDeque<Branch<T, A>, A>,
-) -> Vec<Branch<T, A>, A>
-    requires { 0 < length from.old.items }
-    ensures { TakesChildren from.old.items from.new.items result.items }
-{
-    let first = from.front_mut().unwrap();
-    first.take_children(alloc)
-}
-
 /// Adds a branch of its parts to the end of a list.
 ///
 /// `AllocError` comes only where memory was refused; nothing is promised of the list then.
 #[inline(never)]
-pub(crate) fn add_last<T: Copy + Drop, A: Allocator>(
+fn add_last<T: Copy + Drop, A: Allocator>(
     to: &mut Vec<Branch<T, A>, A>,
     name: Name<A>,
     value: T,

@@ -1,7 +1,7 @@
 use Rattle.std.proofs.Common.{List}
 use Rattle.stack_model.specs.Listing.{Entry as Listed}
 use Rattle.shown_tree.specs.declared.place.Entry.{Entry}
-use Rattle.node_table.specs.Walks.{Visit}
+use Rattle.node_table.specs.Walks.{Visit, walk_of}
 use Rattle.node_table.specs.Numbering.{number_among}
 use Rattle.node_table.specs.Building.{number_above, StandAtStarts}
 use Rattle.node_table.specs.Agreement.{AgreeWithListing}
@@ -11,9 +11,7 @@ use Rattle.node_table.proofs.building.make.Given as goal
 -- first branches stand at their places, and agree with a listing; those so far have nodes
 abbrev pub invariant-loop-at : goal.invariant-loop-at
 invariant-loop-at g l = (first : List (Visit Entry)) × (entries : List Listed)
-    × AgreeWithListing l.images entries (number_among l.walk.visits.items) (number_above l.numbered.numbers.items l.walk.above.items) first
-    l.numbered.starts.items l.numbered.paths.items
-    × StandAtStarts (number_among l.walk.visits.items) l.walk.visits.items l.numbered.numbers.items l.walk.above.items
-    l.walk.sizes.items first l.numbered.starts.items
-    × Making l.images entries l.nodes.items
-    (record { all = l.directories.all.items; rows = l.directories.rows.items; keys = l.directories.keys.items }) l.at
+    × AgreeWithListing (record { layers = l.images; entries = entries }) (number_among l.walk.visits.items)
+    (number_above l.numbered.numbers.items l.walk.above.items) first l.numbered.starts.items l.numbered.paths.items
+    × StandAtStarts (walk_of l.walk) l.numbered.numbers.items first l.numbered.starts.items
+    × Making (record { layers = l.images; entries = entries }) l.nodes.items l.directories l.at

@@ -1,3 +1,4 @@
+use Rattle.node_table.specs.Walks.{walk_of}
 use Rattle.node_table.proofs.Counting.{Numbers}
 use Rattle.node_table.proofs.FirstBranches.{WalksTree, firsts_agree, firsts_stand, walked_all}
 use Rattle.node_table.proofs.making.parts_of.Goals as goal
@@ -6,7 +7,7 @@ pub make-requires : goal.make-requires
 make-requires g c =
     let root = c.root-root.result.now in
     let visits = c.walk.new.out.visits.items in
-    let all = walked_all root _ _ _ _ _ _ c.in_ok-all.ensures.0 c.in_ok-all.ensures.1 c.in_ok-all.ensures.2 c.in_ok-walk.ensures in
+    let all = walked_all root _ (walk_of c.walk.new.out) c.in_ok-all.ensures c.in_ok-walk.ensures in
     let numbered = rw c.deref.ensures.value at c.in_ok-numbered.ensures in
     let held : Numbers = record { first = numbered.0; starts = _; paths = _; numbers = _ } in
     let walk : WalksTree c.args.images.now c.args.tree.now root visits c.walk.new.out.above.items held = record {

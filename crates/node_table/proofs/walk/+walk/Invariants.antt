@@ -1,4 +1,5 @@
 use Rattle.std.proofs.Common.{length}
+use Rattle.node_table.specs.Walks.{walk_of}
 use Rattle.node_table.proofs.Walking.{Walking}
 use Rattle.node_table.proofs.walk.+walk.Given as goal
 
@@ -8,6 +9,4 @@ decreases-walk g l = length l.branch.now.below
 
 -- the branch and its children so far are walked over
 abbrev pub invariant-loop-child : goal.invariant-loop-child
-invariant-loop-child g l = Walking l.branch l.fn.place l.child-items
-    (record { visits = l.fn.out.visits.items; above = l.fn.out.above.items; sizes = l.fn.out.sizes.items })
-    (record { visits = l.out.visits.items; above = l.out.above.items; sizes = l.out.sizes.items }) l.child-index
+invariant-loop-child g l = Walking l.branch l.fn.place l.child-items (walk_of l.fn.out) (walk_of l.out) l.child-index

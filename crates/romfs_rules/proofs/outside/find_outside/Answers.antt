@@ -1,5 +1,5 @@
 use Rattle.std.proofs.Common.{◌≡◌, ◌*◌, ◌/◌, ℕ, Option, None, subst, arith, length}
-use Rattle.romfs_rules.specs.Outside.{IsBelow, IsPastEnd, Names, Notes}
+use Rattle.romfs_rules.specs.Outside.{IsBeforeRoot, IsPastEnd, Names, Notes}
 use Rattle.romfs_rules.proofs.Slots.{clear_gap, slot_inside, slot_behind, root_slot, cleared_root, inside_root}
 use Rattle.romfs_rules.proofs.Reach.{IsFoundBefore, nothing, scans, scanned_to, all_scanned}
 use Rattle.romfs_rules.proofs.outside.find_outside.Goals as goal
@@ -28,9 +28,9 @@ loop-slot-init g c =
     record {
       behind = omega arith;
       low = omega arith;
-      below = scans a (IsBelow a) slot None after.result.below inside
-          (nothing a (IsBelow a) slot (omega arith)) (subst
-          (λ h. Notes (Names a h) (IsBelow a) None after.result.below) e after.ensures.0);
+      below = scans a (IsBeforeRoot a) slot None after.result.below inside
+          (nothing a (IsBeforeRoot a) slot (omega arith)) (subst
+          (λ h. Notes (Names a h) (IsBeforeRoot a) None after.result.below) e after.ensures.0);
       above = scans a (IsPastEnd a) slot None after.result.above inside
           (nothing a (IsPastEnd a) slot (omega arith)) (subst
           (λ h. Notes (Names a h) (IsPastEnd a) None after.result.above) e after.ensures.1);
@@ -53,8 +53,8 @@ loop-slot-preserved g c =
     record {
       behind = omega arith;
       low = omega arith;
-      below = scans a (IsBelow a) slot before.below after.result.below inside
-          (scanned_to a (IsBelow a) before.below b chains targets c.loop-slot.invariant.below)
+      below = scans a (IsBeforeRoot a) slot before.below after.result.below inside
+          (scanned_to a (IsBeforeRoot a) before.below b chains targets c.loop-slot.invariant.below)
           after.ensures.0;
       above = scans a (IsPastEnd a) slot before.above after.result.above inside
           (scanned_to a (IsPastEnd a) before.above b chains targets c.loop-slot.invariant.above)
@@ -73,8 +73,8 @@ returns g c =
     let all : (Q : ℕ → Type 0) → (found : Option ℕ) → IsFoundBefore a Q c.loop-slot.from found
     → IsFoundBefore a Q (length headers) found = λ Q found f. scanned_to a Q found b chains targets f in
     record {
-      below = all_scanned a (IsBelow a) c.args.volume.now.keeps (length headers) c.loop-slot.found.below
-          (omega arith) (λ g q e. omega arith) (all (IsBelow a) c.loop-slot.found.below
+      below = all_scanned a (IsBeforeRoot a) c.args.volume.now.keeps (length headers) c.loop-slot.found.below
+          (omega arith) (λ g q e. omega arith) (all (IsBeforeRoot a) c.loop-slot.found.below
           c.loop-slot.invariant.below);
       above = all_scanned a (IsPastEnd a) c.args.volume.now.keeps (length headers) c.loop-slot.found.above
           (omega arith) (λ g q e. (let i = inside_root a c.args.volume.now.keeps in omega arith))

@@ -1,6 +1,6 @@
 use Rattle.std.proofs.Common.{◌-◌, ◌*◌, ◌<◌, ◌≤◌, length}
 use Rattle.romfs_format.specs.Fields.{root}
-use Rattle.romfs_rules.specs.Outside.{IsBelow, IsPastEnd}
+use Rattle.romfs_rules.specs.Outside.{IsBeforeRoot, IsPastEnd}
 use Rattle.romfs_rules.proofs.Reach.{IsFoundBefore}
 use Rattle.romfs_rules.proofs.outside.find_outside.Given as goal
 
@@ -9,7 +9,7 @@ abbrev pub invariant-loop-slot : goal.invariant-loop-slot
 invariant-loop-slot g l = record {
   behind : root l.fn.volume.bytes.now < l.from * 16;
   low : l.from ≤ length l.chains.headers;
-  below : IsFoundBefore l.fn.volume.bytes.now (IsBelow l.fn.volume.bytes.now) l.from l.found.below;
+  below : IsFoundBefore l.fn.volume.bytes.now (IsBeforeRoot l.fn.volume.bytes.now) l.from l.found.below;
   above : IsFoundBefore l.fn.volume.bytes.now (IsPastEnd l.fn.volume.bytes.now) l.from l.found.above;
 }
 

@@ -1,14 +1,14 @@
-use Rattle.strata.proofs.Served.{whole, in_time, lost}
+use Rattle.strata.proofs.Served.{in_time, lost, stopped, whole}
 use Rattle.strata.proofs.serving.serve.Goals as goal
 
 pub returns-clause-done : goal.returns-clause-done
 returns-clause-done g c =
-    in_time g.row.A.Denot c.args.line.now _ _ _ c.tell_balances.result (whole g.row.A.Denot c.args.line.now _ _ _ c.serve_stream.result
-    c.in_ok-done.done c.serve_stream.ensures c.in_ok-done.was)
+    in_time g.row.A.Denot c.args.line.now _ _ _ c.tell_balances.result (whole g.row.A.Denot c.args.line.now _ _ _ _
+    (rw c.profile_of.ensures at c.in_ok-table.ensures.ok) c.serve_stream.result c.in_ok-done.done c.serve_stream.ensures c.in_ok-done.was)
 
 pub returns-clause-stopped : goal.returns-clause-stopped
 returns-clause-stopped g c =
-    let served = whole g.row.A.Denot c.args.line.now _ _ _ c.serve_stream.result c.in_ok-done.done c.serve_stream.ensures
-    c.in_ok-done.was in
+    let served = whole g.row.A.Denot c.args.line.now _ _ _ _ (rw c.profile_of.ensures at c.in_ok-table.ensures.ok) c.serve_stream.result
+    c.in_ok-done.done c.serve_stream.ensures c.in_ok-done.was in
     lost g.row.A.Denot c.args.line.now _ _ _ c.in_ok-balances.balances c.tell_balances.result served c.in_ok-balances.ensures.ok
     c.tell_balances.ensures

@@ -29,11 +29,9 @@ cover_first-returns g t c =
     record {
       low = low;
       high = high;
-      both = record { name = c.take_first-name.result.0; value = c.lay.result; below = spread c.in_ok-children.children.items };
       low_left = c.take_first-below.ensures.first;
       high_left = c.take_first-name.ensures.first;
-      laid = rw c.lay.ensures (branch_laid g.T.Lay.laid low high _ _ _ refl refl c.in_ok-children.ensures);
-      added = c.in_ok-add_last.ensures;
+      laid = rw (c.new.ensures, c.lay.ensures) (branch_laid g.T.Lay.laid low high _ _ _ refl refl c.in_ok-children.ensures);
     }
 
 pub merge-cover_first-requires : goal.merge-cover_first-requires
@@ -71,7 +69,7 @@ merge-loop-low-preserved g t c =
     let high = rw p.high_left at c.in-Some-Some.ensures'.lookup in
     let equal : name_cmp p.low.name p.high.name ≡ Equal =
     sym (rw (c.name.ensures, low, high) at c.in-Equal.ensures) in
-    rw p.added
+    rw c.in_ok-push-in-Equal.ensures.items
     (both_first g.T.Lay.laid _ _ _ _ _ _ _ (rw (p.low_left, p.high_left) at c.loop-low.invariant) _
     equal p.laid)
 

@@ -1,4 +1,4 @@
-use Rattle.std.proofs.Common.{◌≡◌, ℕ, inl, inr, arith, subst}
+use Rattle.std.proofs.Common.{◌≡◌, ◌∙◌, ℕ, inl, inr, arith, subst}
 use Rattle.std.proofs.lemmas.Bool.{cases_lt}
 use Rattle.std.proofs.lemmas.List.{get_or_default}
 use Rattle.name_keys.specs.Noted.{IsNoted}
@@ -10,7 +10,10 @@ loop-key-preserved g c = (
     | inl b ↦ c.note.ensures.kept.each _ _ (c.loop-key.invariant.0 k b)
     | inr n ↦ (let e : k ≡ c.loop-key.key-index = omega arith in rw e c.note.ensures.noted)
   ],
-  record { each = λ d k n. c.note.ensures.kept.each d k (c.loop-key.invariant.1.each d k n) },
+  record {
+    level = c.note.ensures.kept.level ∙ c.loop-key.invariant.1.level;
+    each = λ d k n. c.note.ensures.kept.each d k (c.loop-key.invariant.1.each d k n);
+  },
 )
 
 pub returns-clause-noted : goal.returns-clause-noted

@@ -16,8 +16,6 @@ of_parts-requires g c =
       c.complete_all.auto.nodes,
       ap length c.deref_mut.ensures.value,
     ) in
-    let kept = c.in_ok-nodes.field-0.directories in
     table_made c.args.images.items c.in_ok-nodes.field-0.nodes.items c.complete_all.new.nodes
-    (drop (length c.complete_all.new.nodes) c.in_ok-nodes.field-0.nodes.items)
-    (record { all = kept.all.items; rows = kept.rows.items; keys = kept.keys.items }) c.in_ok-nodes.field-0.nodes.len
-    c.blocks_of-blocks.result made done n blocks
+    (drop (length c.complete_all.new.nodes) c.in_ok-nodes.field-0.nodes.items) c.in_ok-nodes.field-0.directories
+    c.in_ok-nodes.field-0.nodes.len c.blocks_of-blocks.result made done n blocks

@@ -1,5 +1,6 @@
 use Rattle.std.proofs.Common.{◌≡◌, ◌-◌, length, take}
 use Rattle.path_list.specs.declared.path_text.TheConstants.{LONGEST}
+use Rattle.path_list.specs.Walks.{passage}
 use Rattle.path_list.proofs.Turns.{PutsSoFar, pieces}
 use Rattle.path_list.proofs.room.Room.+put_below.Given as goal
 
@@ -11,6 +12,6 @@ decreases-put_below g l = LONGEST - length l.path.now
 abbrev pub invariant-loop-row : goal.invariant-loop-row
 invariant-loop-row g l = record {
   back : l.path ≡ l.fn.path;
-  put : PutsSoFar l.table l.number l.fn.path (g.K.Sink.state l.fn.sink) l.fn.self.waiting.items (g.K.Sink.state l.sink) l.self.waiting.items
-      (pieces l.table (take l.row-index l.row-items));
+  put : PutsSoFar l.table l.number l.fn.path (passage (g.K.Sink.state l.fn.sink) l.fn.self.waiting.items)
+      (passage (g.K.Sink.state l.sink) l.self.waiting.items) (pieces l.table (take l.row-index l.row-items));
 }

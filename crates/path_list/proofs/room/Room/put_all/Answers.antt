@@ -8,7 +8,7 @@ use Rattle.path_list.proofs.Whole.{none, begun}
 use Rattle.path_list.proofs.room.Room.put_all.Goals as goal
 
 pub returns-then-len-eq0 : goal.returns-then-len-eq0
-returns-then-len-eq0 g c = puts_same (none c.args.table.now c.len.result c.len.ensures.value c.if-len-eq0.true) (puts_none _ _ _)
+returns-then-len-eq0 g c = puts_same (none c.args.table.now c.len.result c.len.ensures.value c.if-len-eq0.true) (puts_none _ _)
 
 pub put_below-requires-clause-on : goal.put_below-requires-clause-on
 put_below-requires-clause-on g c =

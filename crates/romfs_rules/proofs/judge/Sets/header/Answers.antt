@@ -1,12 +1,17 @@
-use Rattle.std.proofs.Common.{subst, arith}
+use Rattle.std.proofs.Common.{◌≡◌, ℕ, List, sym, subst, arith}
 use Rattle.romfs_rules.specs.Sets.{AreSets}
+use Rattle.romfs_rules.specs.Headers.{IsHeader}
+use Rattle.romfs_rules.specs.declared.header.Header.TheInside.{Inside}
 use Rattle.romfs_rules.proofs.Judging.{listed_says, rises}
 use Rattle.romfs_rules.proofs.judge.Sets.header.Goals as goal
+
+in_image : (header : Inside) (a b : List ℕ) → a ≡ b → IsHeader a header → IsHeader b header
+in_image header a b e h = subst (λ x. IsHeader x header) e h
 
 pub invariant_of-result : goal.invariant_of-result
 invariant_of-result g c =
     let sets = subst (λ a. AreSets a c.self.inside) c.self.view_is c.self.invariant in
-    rw c.self.view_is (record {
+    in_image _ _ _ (sym c.self.view_is) (record {
       asked = c.requires;
       is_name = rw c.self.view_is at c.text_at-name.ensures.value;
       name_within = rw c.self.view_is at c.text_at-name.ensures.within;

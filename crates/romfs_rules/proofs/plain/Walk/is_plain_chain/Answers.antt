@@ -1,12 +1,14 @@
 use Rattle.std.proofs.Common.{◌/◌, refl, arith}
+use Rattle.romfs_rules.specs.Plain.{WalkState}
 use Rattle.romfs_rules.proofs.PlainChain.{begun, none_hashed, steps, hashed_more, ended}
 use Rattle.successor_graph.proofs.Marks.{marks_fall}
 use Rattle.romfs_rules.proofs.plain.Walk.is_plain_chain.Goals as goal
 
 pub loop-next-init : goal.loop-next-init
 loop-next-init g c = record {
-  chained = begun c.args.volume.now.bytes.now c.args.folder c.args.self.now.marks c.args.self.now.todo.items
-      c.clear.new.self.items c.first_of-next.result c.clear.ensures.items c.first_of-next.ensures;
+  chained = rw (← c.self.view_is)
+      (begun c.args.volume.now.bytes.now c.args.folder _ c.clear.new.self.items c.clear-2.new.self.items
+      c.first_of-next.result c.clear.ensures.items c.first_of-next.ensures);
   hashed = none_hashed c.args.volume.now.bytes.now c.clear.new.self.items c.clear-2.new.self.items c.clear.ensures.items
       c.clear-2.ensures.items;
 }
@@ -14,25 +16,30 @@ loop-next-init g c = record {
 pub loop-next-smaller : goal.loop-next-smaller
 loop-next-smaller g c =
     let f = c.if-not-is_fresh.ensures.fresh refl in
-    let less = marks_fall c.loop-next.self.marks (c.in-Some.head / 16) f.1 f.2 in
+    let less = marks_fall c.loop-next.self-inside.marks (c.in-Some.head / 16) f.1 f.2 in
     rw c.insert.ensures (omega arith)
 
 pub loop-next-preserved : goal.loop-next-preserved
 loop-next-preserved g c =
     let f = c.if-not-is_fresh.ensures.fresh refl in
     let x = c.in-Some-plain_hash.ensures in
+    let now : WalkState = record {
+      marks = c.loop-next.self-inside.marks;
+      todo = c.loop-next.self-inside.todo.items;
+      heads = c.loop-next.self-inside.heads.items;
+      hashes = c.loop-next.self-inside.hashes.items;
+    } in
     record {
       chained = rw (c.insert.ensures, c.in_ok-push.ensures.items)
-          (steps c.args.volume.now.bytes.now c.args.folder c.args.self.now.marks c.args.self.now.todo.items c.loop-next.self.marks
-          c.loop-next.self.todo.items c.loop-next.self.heads.items c.in-Some.head (rw c.in-Some.is at c.loop-next.invariant.chained)
-          x.plain f.1 f.2 c.push_below.new.todo.items c.in_ok-push_below.ensures
+          (steps c.args.volume.now.bytes.now c.args.folder c.args.self.now now c.in-Some.head
+          (rw c.in-Some.is at c.loop-next.invariant.chained)
+          x.plain f.1 f.2 c.push_below.new.todo.items c.in_ok-push_below.ensures c.push-in-Some.new.self.items
           c.next_of-next.result c.next_of-next.ensures);
       hashed = rw (c.in_ok-push.ensures.items, c.in_ok-push-2.ensures.items)
-          (hashed_more c.args.volume.now.bytes.now c.in-Some.head c.in-Some-plain_hash.hash c.loop-next.self.heads.items
-          c.loop-next.self.hashes.items x.mixed c.loop-next.invariant.hashed);
+          (hashed_more c.args.volume.now.bytes.now c.in-Some.head c.in-Some-plain_hash.hash c.loop-next.self-inside.heads.items
+          c.loop-next.self-inside.hashes.items x.mixed c.loop-next.invariant.hashed);
     }
 
 pub returns : goal.returns
-returns g c = λ _. ended c.args.volume.now.bytes.now c.args.folder c.args.self.now.marks c.args.self.now.todo.items
-    c.loop-next.self.marks c.loop-next.self.todo.items c.loop-next.self.heads.items c.loop-next.self.hashes.items
+returns g c = λ _. ended c.args.volume.now.bytes.now c.args.folder c.args.self.now _
     (rw c.in_default.is at c.loop-next.invariant.chained) c.loop-next.invariant.hashed

@@ -7,11 +7,16 @@ use Rattle.romfs_rules.proofs.plain.Walk.is_plain_chain.Given as goal
 -- the headers before the next one were passed, and this is what their names are mixed to
 abbrev pub invariant-loop-next : goal.invariant-loop-next
 invariant-loop-next g l = record {
-  chained : Chained l.volume.bytes.now l.folder l.fn.self.marks l.self.marks l.fn.self.todo.items l.self.todo.items
-      l.self.heads.items l.next;
-  hashed : AreNameHashes (kept_names l.volume.bytes.now l.self.heads.items) (length l.self.heads.items) l.self.hashes.items;
+  chained : Chained l.volume.bytes.now l.folder l.fn.self (record {
+    marks = l.self-inside.marks;
+    todo = l.self-inside.todo.items;
+    heads = l.self-inside.heads.items;
+    hashes = l.self-inside.hashes.items;
+  }) l.next;
+  hashed : AreNameHashes (kept_names l.volume.bytes.now l.self-inside.heads.items) (length l.self-inside.heads.items)
+      l.self-inside.hashes.items;
 }
 
 -- how many slots have no mark
 abbrev pub decreases-loop-next : goal.decreases-loop-next
-decreases-loop-next g l = unmarked l.self.marks
+decreases-loop-next g l = unmarked l.self-inside.marks

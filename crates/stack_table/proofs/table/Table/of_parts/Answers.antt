@@ -6,16 +6,16 @@ use Rattle.stack_table.proofs.Nodes.{have_keys}
 use Rattle.stack_table.proofs.table.Table.of_parts.Goals as goal
 
 pub hints_of-requires : goal.hints_of-requires
-hints_of-requires g c = rw c.deref.ensures.value (have_keys _ _ _ _ _ _ _ c.requires.1)
+hints_of-requires g c = rw c.deref.ensures.value (have_keys _ _ _ _ c.requires.1)
 
 pub invariant_of-result-2 : goal.invariant_of-result-2
 invariant_of-result-2 g c =
     let mine : Listed c.args.images.items = (c.requires.0, ∣ c.requires.1.listing ∣₁) in
     record {
-      table = subst (λ (e : List Entry). IsTable c.args.images.items e c.args.nodes.items c.args.directories.all.items
-          c.args.directories.rows.items c.args.directories.keys.items c.args.blocks)
+      table = subst (λ (e : List Entry). IsTable (record { layers = c.args.images.items; entries = e }) c.args.nodes.items
+          c.args.directories c.args.blocks)
           (ap (λ x. x.0) (listed_once c.args.images.items mine c.result-1.given.0)) c.requires.1;
-      noted = rw c.deref.ensures.value at c.in_ok-hints.ensures;
+      noted = rw c.deref.ensures.value at c.in_ok-hints.ensures.noted;
       briefs_are = rw c.deref-2.ensures.value at c.in_ok-briefs.ensures;
     }
 

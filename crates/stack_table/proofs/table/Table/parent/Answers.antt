@@ -4,9 +4,9 @@ use Rattle.stack_table.proofs.table.Table.parent.Goals as goal
 
 pub returns-in_err-directory : goal.returns-in_err-directory
 returns-in_err-directory g c = c.from_residual.ensures
-    ∙ rw (← c.self.view_is) (parent_none _ _ _ _ _ _ _ c.self.invariant.table c.args.number
-    (rw (c.deref.ensures.value, c.deref-2.ensures.value) at c.in_err-directory.ensures))
+    ∙ rw (← c.self.view_is) (parent_none _ _ _ _ c.self.invariant.table c.args.number
+    (rw c.deref.ensures.value at c.in_err-directory.ensures))
 
 pub returns : goal.returns
-returns g c = rw (← c.self.view_is) (parent_is _ _ _ _ _ _ _ c.self.invariant.table c.args.number _
-    (rw (c.deref.ensures.value, c.deref-2.ensures.value) at c.in_ok-directory.ensures))
+returns g c = rw (← c.self.view_is) (parent_is _ _ _ _ c.self.invariant.table c.args.number _
+    (rw c.deref.ensures.value at c.in_ok-directory.ensures))

@@ -1,6 +1,6 @@
 use Rattle.std.proofs.Common.{◌≡◌, ◌-◌, ◌≤◌, length}
 use Rattle.romfs_rules.proofs.EndWalk.{Found}
-use Rattle.romfs_rules.proofs.ends.Ends.follow_all.Given as goal
+use Rattle.romfs_rules.proofs.ends.WalkedEnds.follow_all.Given as goal
 
 -- the walks of all slots before the next one are found, by the set of targets
 abbrev pub invariant-loop-slot : goal.invariant-loop-slot

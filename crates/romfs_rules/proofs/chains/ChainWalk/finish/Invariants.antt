@@ -1,5 +1,5 @@
 use Rattle.romfs_rules.proofs.Closure.{Walked, left}
-use Rattle.romfs_rules.proofs.chains.Walk.finish.Given as goal
+use Rattle.romfs_rules.proofs.chains.ChainWalk.finish.Given as goal
 
 -- the walk over the other chains has these words to come, and these marks
 abbrev pub invariant-loop-word : goal.invariant-loop-word

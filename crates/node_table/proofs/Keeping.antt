@@ -4,7 +4,6 @@
 use Rattle.std.proofs.Common.{◌≡◌, ◌∙◌, sym, ap, subst, ℕ, ◌-◌, ◌≤◌, List, [], ◌∷◌, ◌++◌, length, take, drop, map, refl, arith, length-append, true}
 use Rattle.std.specs.Prelude.{slice_range}
 use Rattle.std.proofs.lemmas.List.{drop-append-le, drop_at, length-drop, length-map, take-append-le, take_all}
-use Rattle.stack_model.specs.Listing.{Entry as Listed}
 use Rattle.stack_model.specs.Numbers.{Place as ModelPlace, number, parent}
 use Rattle.stack_model.specs.Attributes.{is_directory_at}
 use Rattle.shown_tree.specs.declared.place.Place.{Place}
@@ -14,17 +13,13 @@ use Rattle.name_keys.specs.Keys.{key}
 use Rattle.name_keys.specs.Keyed.{AreKeyed}
 use Rattle.stack_table.specs.declared.node.Node.{Node}
 use Rattle.stack_table.specs.declared.directory.Directory.{Directory}
+use Rattle.stack_model.specs.Listing.{Stacked}
 use Rattle.stack_table.specs.Rows.{Line, names}
+use Rattle.stack_table.specs.Directories.{HeldDirectories}
 use Rattle.stack_table.specs.Held.{IsHeldDirectory, IsNode}
 use Rattle.node_table.specs.Building.{line_in, IsMade}
 use Rattle.node_table.specs.Agreement.{AgreeBelow}
 use Rattle.node_table.proofs.Lists.{get_front}
-
--- directories, the rows of all of them, and a key beside each row
-pub record Folders : Type 0 where
-  pub all : List Directory
-  pub rows : List Line
-  pub keys : List ℕ
 
 -- rows that stand stay as more are added
 range_stays : {X : Type 0} (xs ys : List X) (start end : ℕ) → start ≤ end → end ≤ length xs
@@ -43,45 +38,46 @@ keyed_by : (shared : ℕ) (keys keys' : List ℕ) (rows rows' : List Line) → k
 keyed_by shared keys keys' rows rows' same_keys same_rows keyed = subst (λ (x : List ℕ). AreKeyed shared x (names rows')) same_keys
     (subst (λ (x : List Line). AreKeyed shared keys (names x)) same_rows keyed)
 
+-- directories, rows and their keys, with more behind them
+abbrev pub with_more : HeldDirectories → Directory → List Line → List ℕ → HeldDirectories
+with_more held d rows keys = record { all = held.all ++ d ∷ []; rows = held.rows ++ rows; keys = held.keys ++ keys }
+
 -- a directory of a place stays one as rows and keys are added
-still_directory : (layers : List (List ℕ)) (entries : List Listed) (rows more : List Line) (keys more_keys : List ℕ) (d : Directory)
-    (p : ModelPlace) → length keys ≡ length rows → IsHeldDirectory layers entries rows keys d p
-    → IsHeldDirectory layers entries (rows ++ more) (keys ++ more_keys) d p
-still_directory layers entries rows more keys more_keys d p level held =
-    let same_rows = range_stays rows more d.rows_start d.rows_end held.start held.end in
-    let same_keys = range_stays keys more_keys d.rows_start d.rows_end held.start (let end = held.end in omega arith) in
+still_directory : (stack : Stacked) (held : HeldDirectories) (new : Directory) (rows : List Line) (keys : List ℕ) (d : Directory)
+    (p : ModelPlace) → length held.keys ≡ length held.rows → IsHeldDirectory stack held d p
+    → IsHeldDirectory stack (with_more held new rows keys) d p
+still_directory stack held new rows keys d p level is =
+    let same_rows = range_stays held.rows rows d.rows_start d.rows_end is.start is.end in
+    let same_keys = range_stays held.keys keys d.rows_start d.rows_end is.start (let end = is.end in omega arith) in
     record {
-      parent_is = held.parent_is;
-      start = held.start;
-      end = (let end = held.end in omega (arith, length-append rows more));
-      rows_are = same_rows ∙ held.rows_are;
-      keyed = keyed_by d.shared _ _ _ _ (sym same_keys) (sym same_rows) held.keyed;
+      parent_is = is.parent_is;
+      start = is.start;
+      end = (let end = is.end in omega (arith, length-append held.rows rows));
+      rows_are = same_rows ∙ is.rows_are;
+      keyed = keyed_by d.shared _ _ _ _ (sym same_keys) (sym same_rows) is.keyed;
     }
 
 -- a node of a place stays one as a directory, its rows and their keys are added
-pub still_node : (layers : List (List ℕ)) (entries : List Listed) (old : Folders) (d : Directory) (more : List Line)
-    (more_keys : List ℕ) (node : Node) (p : ModelPlace) → length old.keys ≡ length old.rows
-    → IsNode layers entries old.all old.rows old.keys node p
-    → IsNode layers entries (old.all ++ d ∷ []) (old.rows ++ more) (old.keys ++ more_keys) node p
-still_node layers entries old d more more_keys node p level held = record {
-  place = held.place;
-  holds = held.holds;
-  kind = held.kind;
-  size = held.size;
-  mode_is = held.mode_is;
-  nlink_is = held.nlink_is;
-  rdev_is = held.rdev_is;
-  directory_is = λ is_one. let its = held.directory_is is_one in record {
+pub still_node : (stack : Stacked) (held : HeldDirectories) (d : Directory) (rows : List Line) (keys : List ℕ) (node : Node)
+    (p : ModelPlace) → length held.keys ≡ length held.rows → IsNode stack held node p → IsNode stack (with_more held d rows keys) node p
+still_node stack held d rows keys node p level is = record {
+  place = is.place;
+  holds = is.holds;
+  kind = is.kind;
+  size = is.size;
+  mode_is = is.mode_is;
+  nlink_is = is.nlink_is;
+  rdev_is = is.rdev_is;
+  directory_is = λ is_one. let its = is.directory_is is_one in record {
     directory = its.directory;
-    is = get_front old.all (d ∷ []) node.directory its.directory its.is;
-    holds = still_directory layers entries old.rows more old.keys more_keys its.directory p level its.holds;
+    is = get_front held.all (d ∷ []) node.directory its.directory its.is;
+    holds = still_directory stack held d rows keys its.directory p level its.holds;
   };
 }
 
 -- a directory that was added last is the place's
-module _ (layers : List (List ℕ)) (entries : List Listed) (tell : Place → ℕ) (above : ℕ) (old new : Folders)
-    (level : length old.keys ≡ length old.rows) (cs : List (Subtree Entry)) (d : Directory)
-    (made : IsMade tell above cs old.rows new.rows old.keys new.keys d) where
+module _ (stack : Stacked) (tell : Place → ℕ) (above : ℕ) (old new : HeldDirectories) (level : length old.keys ≡ length old.rows)
+    (cs : List (Subtree Entry)) (d : Directory) (made : IsMade tell above cs old new d) where
   -- a key was added for each row
   pub level_made : length new.keys ≡ length new.rows
   level_made =
@@ -107,8 +103,8 @@ module _ (layers : List (List ℕ)) (entries : List Listed) (tell : Place → �
       ∙ range_last old.keys made.keys_are.keys
 
   -- a directory that was made of a place's branch holds the rows and the parent of the place
-  pub is_made : (p : ModelPlace) → is_directory_at layers p ≡ true → above ≡ number entries (parent entries p)
-      → AgreeBelow layers entries tell p cs → IsHeldDirectory layers entries new.rows new.keys d p
+  pub is_made : (p : ModelPlace) → is_directory_at stack.layers p ≡ true → above ≡ number stack.entries (parent stack.entries p)
+      → AgreeBelow stack tell p cs → IsHeldDirectory stack new d p
   is_made p is_one parent_is below = record {
     parent_is = made.parent_is ∙ parent_is;
     start = (let start = made.start_is in let end = made.end_is in let rows = ap length made.rows_are in

@@ -1,6 +1,6 @@
 use Rattle.std.proofs.Common.{arith}
 use Rattle.romfs_rules.proofs.EndWalk.{known_slot, ended_in, ended_as}
-use Rattle.romfs_rules.proofs.ends.Ends.at.Goals as goal
+use Rattle.romfs_rules.proofs.ends.WalkedEnds.at.Goals as goal
 
 pub at-walk-requires : goal.at-walk-requires
 at-walk-requires g c = known_slot c.requires.0 c.args.self.now.walks c.args.self.now.ends.items c.args.at c.requires.1

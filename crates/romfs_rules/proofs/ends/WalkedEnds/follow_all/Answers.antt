@@ -3,7 +3,7 @@ use Rattle.std.proofs.lemmas.Bool.{false≢true}
 use Rattle.romfs_rules.specs.Ends.{AreWalkedEnds}
 use Rattle.romfs_rules.proofs.Slots.{clear_gap}
 use Rattle.romfs_rules.proofs.EndWalk.{found_more, found_same, found_to, found_all, found_none}
-use Rattle.romfs_rules.proofs.ends.Ends.follow_all.Goals as goal
+use Rattle.romfs_rules.proofs.ends.WalkedEnds.follow_all.Goals as goal
 
 pub loop-slot-init : goal.loop-slot-init
 loop-slot-init g c = record {

@@ -1,7 +1,7 @@
 use Rattle.std.proofs.Common.{refl, subst}
 use Rattle.romfs_rules.proofs.Lists.{none_left}
 use Rattle.romfs_rules.proofs.Closure.{Walked, begun, all_marked, step_stale, less_stale, step_fresh, less_fresh}
-use Rattle.romfs_rules.proofs.chains.Walk.finish.Goals as goal
+use Rattle.romfs_rules.proofs.chains.ChainWalk.finish.Goals as goal
 
 pub loop-word-init : goal.loop-word-init
 loop-word-init g c =

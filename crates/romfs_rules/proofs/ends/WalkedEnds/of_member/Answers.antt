@@ -1,6 +1,6 @@
 use Rattle.std.proofs.Common.{refl}
 use Rattle.romfs_rules.proofs.EndWalk.{back, first_target}
-use Rattle.romfs_rules.proofs.ends.Ends.of_member.Goals as goal
+use Rattle.romfs_rules.proofs.ends.WalkedEnds.of_member.Goals as goal
 
 pub at-requires : goal.at-requires
 at-requires g c = (
