@@ -35,11 +35,11 @@ RULES = {
     "bad name": "a name is empty or holds a `/`",
     "data outside": "the data of a file or link reach beyond the image's end",
     "target too long": "a symbolic link's target is above 4,095 bytes",
-    "linked twice": "a folder or file stands in two places of the tree other than by hard link; genromfs does so where one "
-                    "folder is bind-mounted into another",
+    "linked twice": "a folder or file stands in two places of the tree other than by hard link",
     "name twice": "a folder holds a name twice; genromfs does so of a device's file `@NAME,..` beside `NAME`",
     "link loop": "hard links lead to one another in a ring",
-    "link to directory": "a hard link leads to a folder",
+    "link to directory": "a hard link leads to a folder; genromfs makes one of a folder that it meets twice, as where it is "
+                         "bind-mounted into another",
     "major too large": "a device's major number is above 4,095",
     "bad header sum": "the words of a header don't add up; only --strict asks for that",
     "too deep": "a path has more than 512 names",
