@@ -9,6 +9,12 @@ IsUnread first count fault =
     (fault ≡ Memory)
     ⊎ ((image : ℕ) × (first ≤ image) × (image < first + count) × (fault ≡ Unread image))
 
+-- so many images from number first on are read, of these many, and the next one could not be; or
+-- memory ran out
+abbrev pub IsNextUnread : ℕ → ℕ → ℕ → FilesFault → Type 0
+IsNextUnread first count read fault =
+    (fault ≡ Memory) ⊎ ((read < count) × (fault ≡ Unread (first + read)))
+
 -- what the two halves of a list come to: the fault of the lower one; or else that of the upper one;
 -- or else the images of both, in order, but where memory to put them together was refused
 abbrev pub IsOfBoth : {V X : Type 0} → (V → List X) → Result V FilesFault → Result V FilesFault

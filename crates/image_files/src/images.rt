@@ -4,8 +4,8 @@
 //! what two halves found is put together: a fault of the lower half, of memory or of an image that
 //! cannot be read, is told before one of the upper.
 
-ghost use Rattle.std.specs.Prelude.{◌≡◌, ◌⊎◌, ◌+◌, ◌<◌, ◌^◌, ℕ, length, vec_len, IfOk, IfErr};
-ghost use Rattle.image_files.specs.Unread.{IsOfBoth, IsUnread};
+ghost use Rattle.std.specs.Prelude.{◌≡◌, ◌⊎◌, ◌+◌, ◌<◌, ◌^◌, ℕ, length, vec_len, IfOk, IfErr, OnOk};
+ghost use Rattle.image_files.specs.Unread.{IsNextUnread, IsOfBoth, IsUnread};
 ghost use Rattle.image_files.specs.declared.images.FilesFault.TheVariants.{Unread, Memory};
 ghost use denote.Param.Send.{IsSync, IsSend, Frees};
 
@@ -140,10 +140,28 @@ fn read_in_turn<R: Files, A: Allocator + Copy>(
     ensures err { IfErr result (IsUnread first (length paths.now)) }
 {
     let mut images = Vec::with_capacity(alloc, paths.len())?;
+    add_in_turn(rt, alloc, first, paths, &mut images)?;
+    Ok(images)
+}
+
+/// Adds the bytes of a run of images, of which the lowest has the number `first`, to an empty list,
+/// from the lowest up. The first that cannot be read is told, behind all that were added.
+fn add_in_turn<R: Files, A: Allocator + Copy>(
+    rt: &R,
+    alloc: A,
+    first: usize,
+    paths: &[&str],
+    images: &mut Vec<Vec<u8, A>, A>,
+) -> Result<(), FilesFault>
+    requires empty { vec_len images.old ≡ 0 }
+    requires few { first + length paths.now < 2 ^ 64 }
+    ensures ok { OnOk result (vec_len images.new ≡ length paths.now) }
+    ensures err { IfErr result (IsNextUnread first (length paths.now) (vec_len images.new)) }
+{
     for (at, path) in paths.iter().enumerate() {
         images.push(read_image(rt, alloc, (first + at) as u64, path)?)?;
     }
-    Ok(images)
+    Ok(())
 }
 
 fn read_image<R: Files, A: Allocator>(
