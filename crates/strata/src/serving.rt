@@ -24,7 +24,8 @@ use std::thread::Threads;
 
 /// Checks the images, stacks them, and answers the requests of a file or else of the input over the
 /// stack, to a file or else to the output, as they come. Where an image is broken neither the input
-/// nor the output is touched. At the end of the stream it writes the balances, if a file is named for them.
+/// nor the output is touched. At the end of the stream it writes the balances, if a file is named
+/// for them.
 pub fn serve<R: Files + Threads + Sync, A: Allocator + Copy + Send + Sync, S: Source, K: Sink>(
     rt: &R,
     alloc: A,
