@@ -4,10 +4,11 @@
 use Rattle.std.specs.Borrow.{Bor}
 use Rattle.std.specs.Prelude.{Box}
 use Rattle.std.specs.Box.{box_value}
+use Rattle.std.specs.List.{All, find}
+use Rattle.std.specs.Str.{bytes_eq}
 use Rattle.std.proofs.lemmas.List.{length-map}
-use Rattle.std.proofs.Common.{◌≡◌, ◌≤◌, ◌∙◌, ◌⊎◌, ◌≢◌, ◌∷◌, ℕ, Bool, arith, codes, is_some, length, option_map, unwrap_or, Option, Some, None, Result, Ok, Err, IfOk, IfSome, MatchOption, true, false, true≢false, refl, sym, ap, ap₂, subst, List, [], inl, inr}
-use Rattle.work_gate.specs.declared.limits.TheConstants.{MAX_BATCH, MAX_WORKERS}
-use Rattle.command_line.specs.declared.options.TheConstants.{MAX_SESSIONS}
+use Rattle.std.proofs.lemmas.List.Elements.{All-head, All-tail}
+use Rattle.std.proofs.Common.{◌≡◌, ◌≤◌, ◌∙◌, ◌⊎◌, ◌≢◌, ◌∷◌, ℕ, Bool, arith, cond, codes, is_some, length, option_map, unwrap_or, Option, Some, None, Result, Ok, Err, IfOk, IfSome, MatchOption, true, false, true≢false, refl, sym, ap, ap₂, subst, List, [], inl, inr}
 use Rattle.clap.specs.Kinds.{HasKind, IsAmong, Kinds}
 use Rattle.clap.specs.Faults.{fault_of, is_simple_and_free}
 use Rattle.clap.specs.Simple.{App, HasMatchesOf, is_simple, subcommand_of, subcommand_rows, subcommand_rows_of}
@@ -17,9 +18,9 @@ use Rattle.clap.specs.declared.parser.matches.Found.{Found}
 use Rattle.clap.specs.declared.parser.matches.SubCommand.{SubCommand}
 use Rattle.clap.proofs.CallerLemmas.{some_of_text}
 use Rattle.clap.proofs.TakesLemmas.{some_rows}
-use Rattle.clap.proofs.WalkLemmas.{first_value-rows, one_text-rows, raw_values-rows}
+use Rattle.clap.proofs.WalkLemmas.{one_text-rows, raw_values-rows}
 use Rattle.clap.specs.Values.{bool_text, kind_of}
-use Rattle.clap.specs.Matches.{first_value, found_of, has_subcommand, matched_of, one_text, raw_values, subcommand_name_of}
+use Rattle.clap.specs.Matches.{found_of, has_subcommand, matched_of, one_text, raw_values, subcommand_name_of}
 use Rattle.clap.specs.Walk.{Row, Text, all_of, first_of, one_of, rows_of, texts}
 use Rattle.clap.specs.declared.error.Error.{Error}
 use Rattle.clap.specs.declared.error.kind.ErrorKind.TheVariants.{OutOfMemory}
@@ -31,7 +32,7 @@ use Rattle.command_line.specs.declared.options.Verb.{Verb}
 use Rattle.command_line.specs.declared.options.Verb.TheVariants as verbs
 use Rattle.command_line.proofs.Agreed.{one_name, one_word, same_rows}
 use Rattle.command_line.proofs.Taken.{taken_names}
-use Rattle.command_line.specs.CommandLine.{AreCrossed, GivesSocket, HoldsRows, IsFilled, IsFlagFilled, Says, names_both, names_both_of, parts_of, IsLineOf, IsLineFault, IsNumberOf, IsNumberTo, HaveNumbersInRange, IsTaken, command_in, faults_in, number_or, program, verb_word}
+use Rattle.command_line.specs.CommandLine.{AreCrossed, GivesSocket, HoldsRows, IsFilled, IsFlagFilled, Says, names_both, names_both_of, parts_of, IsLineOf, IsLineFault, IsNumberNamed, IsNumberTo, HaveNumbersInRange, Number, numbers, IsTaken, command_in, faults_in, program, verb_word}
 
 program_is_simple : is_simple program ≡ true
 program_is_simple = refl
@@ -164,50 +165,24 @@ some_command m words taken is =
 
 -- ---- the line
 
--- the numbers, as the rows give them
-pub numbers_are : (f : Found) (workers batch sessions : ℕ) → IsNumberOf MAX_WORKERS 4 (first_value f (codes "workers")) workers
-    → IsNumberOf MAX_BATCH 16 (first_value f (codes "batch")) batch
-    → IsNumberOf MAX_SESSIONS 1 (first_value f (codes "sessions")) sessions
-    → HaveNumbersInRange (rows_of f) × (workers ≡ number_or 4 (first_of (codes "workers") (rows_of f)))
-    × (batch ≡ number_or 16 (first_of (codes "batch") (rows_of f))) × (sessions ≡ number_or 1 (first_of (codes "sessions") (rows_of f)))
-numbers_are f workers batch sessions w b s =
-    let w_is = first_value-rows f (codes "workers") in
-    let b_is = first_value-rows f (codes "batch") in
-    let s_is = first_value-rows f (codes "sessions") in (
-      record {
-        workers = subst (λ o. IfSome o (IsNumberTo MAX_WORKERS)) w_is w.numbered;
-        batch = subst (λ o. IfSome o (IsNumberTo MAX_BATCH)) b_is b.numbered;
-        sessions = subst (λ o. IfSome o (IsNumberTo MAX_SESSIONS)) s_is s.numbered;
-      },
-      w.value ∙ ap (number_or 4) w_is,
-      b.value ∙ ap (number_or 16) b_is,
-      s.value ∙ ap (number_or 1) s_is,
-    )
+-- the first of two, or else what comes after it, passes
+first_passes : (P : Number → Type 0) (m n : Number) (o : Option Number) (b : Bool) → P m → (o ≡ Some n → P n)
+    → cond b (Some m) o ≡ Some n → P n
+first_passes P m n o true here later is = subst P (ap (λ o. unwrap_or o m) is) here
+first_passes P m n o false here later is = later is
 
--- a fault of the number of workers is want of memory, or one of the rows
-pub workers_fault : (f : Found) (fault : LineFault) → (fault ≡ Memory)
-    ⊎ (¬ IfSome (first_value f (codes "workers")) (IsNumberTo MAX_WORKERS))
-    → (fault ≡ Memory) ⊎ ((¬ HaveNumbersInRange (rows_of f)) ⊎ AreCrossed (rows_of f))
-workers_fault f fault (inl memory) = inl memory
-workers_fault f fault (inr bad) = inr (inl (λ numbered. bad
-    (subst (λ o. IfSome o (IsNumberTo MAX_WORKERS)) (sym (first_value-rows f (codes "workers")))
-    numbered.workers)))
+-- what is found in a list that all passes passes
+found_passes : (P : Number → Type 0) (test : Number → Bool) (ns : List Number) (n : Number) → All P ns → find test ns ≡ Some n → P n
+found_passes P test [] n all is = absurd (cc)
+found_passes P test (m ∷ ms) n all is =
+    first_passes P m n (find test ms) (test m) (All-head P m ms all) (found_passes P test ms n (All-tail P m ms all)) is
 
--- so is a fault of the size of a batch
-pub batch_fault : (f : Found) (fault : LineFault) → (fault ≡ Memory) ⊎ (¬ IfSome (first_value f (codes "batch")) (IsNumberTo MAX_BATCH))
-    → (fault ≡ Memory) ⊎ ((¬ HaveNumbersInRange (rows_of f)) ⊎ AreCrossed (rows_of f))
-batch_fault f fault (inl memory) = inl memory
-batch_fault f fault (inr bad) = inr (inl
-    (λ numbered. bad (subst (λ o. IfSome o (IsNumberTo MAX_BATCH)) (sym (first_value-rows f (codes "batch"))) numbered.batch)))
-
--- so is a fault of the number of sessions
-pub sessions_fault : (f : Found) (fault : LineFault) → (fault ≡ Memory)
-    ⊎ (¬ IfSome (first_value f (codes "sessions")) (IsNumberTo MAX_SESSIONS))
-    → (fault ≡ Memory) ⊎ ((¬ HaveNumbersInRange (rows_of f)) ⊎ AreCrossed (rows_of f))
-sessions_fault f fault (inl memory) = inl memory
-sessions_fault f fault (inr bad) = inr
-    (inl (λ numbered. bad (subst (λ o. IfSome o (IsNumberTo MAX_SESSIONS)) (sym (first_value-rows f (codes "sessions")))
-    numbered.sessions)))
+-- a number that is none, or is out of its range, is a fault of the rows
+pub number_fault : (rows : List Row) (name : Text) (most default : ℕ) → IsNumberNamed name most default
+    → ¬ IfSome (first_of name rows) (IsNumberTo most) → ¬ HaveNumbersInRange rows
+number_fault rows name most default named bad numbered =
+    bad (found_passes (λ number. IfSome (first_of number.name rows) (IsNumberTo number.most)) (λ number. bytes_eq number.name name) numbers
+    (record { name = name; most = most; default = default }) numbered named)
 
 -- an option that is given, as the line has it
 some_named : (o : Option (Bor Text)) (p : Option Text) → option_map (λ file. file.now) o ≡ p → is_some o ≡ is_some p

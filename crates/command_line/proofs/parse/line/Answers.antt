@@ -1,7 +1,8 @@
 use Rattle.std.proofs.Common.{◌≡◌, ◌∙◌, Some, map}
+use Rattle.std.proofs.lemmas.Result.{IfErr-weaker}
 use Rattle.clap.specs.Words.{found_of, rows_of}
 use Rattle.command_line.specs.CommandLine.{command_in}
-use Rattle.command_line.proofs.Parsed.{command_filled, command_gives, command_verb, line_is, met_command, some_command}
+use Rattle.command_line.proofs.Parsed.{command_filled, command_gives, command_verb, fault_is, line_is, met_command, some_command}
 use Rattle.command_line.proofs.parse.line.Given.{Over}
 use Rattle.command_line.proofs.parse.line.Goals.{After-unwrap}
 use Rattle.command_line.proofs.parse.line.Goals as goal
@@ -35,3 +36,9 @@ pub returns-clause-ok : goal.returns-clause-ok
 returns-clause-ok g c =
     line_is _ _ _ c.verb_of.result c.line_of.result c.in_ok-matches.ensures.taken (met g (goal.at.returns-clause-ok g c).After-unwrap)
     c.verb_of.ensures c.line_of.ensures.verb c.line_of.ensures.holds
+
+pub returns-clause-err : goal.returns-clause-err
+returns-clause-err g c =
+    IfErr-weaker c.line_of.result _ _
+    (λ fault told. fault_is _ _ _ fault c.in_ok-matches.ensures.taken (met g (goal.at.returns-clause-err g c).After-unwrap) told)
+    c.line_of.ensures.err
