@@ -8,7 +8,7 @@ use Rattle.std.specs.List.{All, find}
 use Rattle.std.specs.Str.{bytes_eq}
 use Rattle.std.proofs.lemmas.List.{length-map}
 use Rattle.std.proofs.lemmas.List.Elements.{All-head, All-tail}
-use Rattle.std.proofs.Common.{◌≡◌, ◌≤◌, ◌∙◌, ◌⊎◌, ◌≢◌, ◌∷◌, ℕ, Bool, arith, cond, codes, is_some, length, option_map, unwrap_or, Option, Some, None, Result, Ok, Err, IfOk, IfSome, MatchOption, true, false, true≢false, refl, sym, ap, ap₂, subst, List, [], inl, inr}
+use Rattle.std.proofs.Common.{◌≡◌, ◌≤◌, ◌∙◌, ◌⊎◌, ◌∷◌, ℕ, Bool, arith, cond, codes, is_some, length, option_map, unwrap_or, Option, Some, None, Result, Ok, Err, IfOk, IfSome, MatchOption, true, false, true≢false, refl, sym, ap, ap₂, subst, List, [], inl, inr}
 use Rattle.clap.specs.Kinds.{HasKind, IsAmong, Kinds}
 use Rattle.clap.specs.Faults.{fault_of, is_simple_and_free}
 use Rattle.clap.specs.Simple.{App, HasMatchesOf, is_simple, subcommand_of, subcommand_rows, subcommand_rows_of}
@@ -23,16 +23,19 @@ use Rattle.clap.specs.Values.{bool_text, kind_of}
 use Rattle.clap.specs.Matches.{found_of, has_subcommand, matched_of, one_text, raw_values, subcommand_name_of}
 use Rattle.clap.specs.Walk.{Row, Text, all_of, first_of, one_of, rows_of, texts}
 use Rattle.clap.specs.declared.error.Error.{Error}
-use Rattle.clap.specs.declared.error.kind.ErrorKind.TheVariants.{OutOfMemory}
+use Rattle.clap.specs.declared.error.kind.ErrorKind.{ErrorKind}
+use Rattle.clap.specs.declared.error.kind.ErrorKind.TheVariants.{DisplayVersion, OutOfMemory}
 use Rattle.clap.specs.declared.parser.matches.ArgMatches.{ArgMatches}
 use Rattle.command_line.specs.declared.options.Line.{Line}
 use Rattle.command_line.specs.declared.options.LineFault.{LineFault}
 use Rattle.command_line.specs.declared.options.LineFault.TheVariants.{Usage, Memory}
+use Rattle.command_line.specs.declared.options.NoLine.{NoLine}
+use Rattle.command_line.specs.declared.options.NoLine.TheVariants.{Version, Fault}
 use Rattle.command_line.specs.declared.options.Verb.{Verb}
 use Rattle.command_line.specs.declared.options.Verb.TheVariants as verbs
 use Rattle.command_line.proofs.Agreed.{one_name, one_word, same_rows}
 use Rattle.command_line.proofs.Taken.{taken_names}
-use Rattle.command_line.specs.CommandLine.{AreCrossed, GivesSocket, HoldsRows, IsFilled, IsFlagFilled, Says, names_both, names_both_of, parts_of, IsLineOf, IsLineFault, IsNumberNamed, IsNumberTo, HaveNumbersInRange, Number, numbers, IsTaken, command_in, faults_in, program, verb_word}
+use Rattle.command_line.specs.CommandLine.{AreCrossed, GivesSocket, HoldsRows, IsFilled, IsFlagFilled, Says, names_both, names_both_of, parts_of, IsLineOf, IsLineFault, IsNoLine, IsRefusedFor, TellsKind, IsNumberNamed, IsNumberTo, HaveNumbersInRange, Number, numbers, IsTaken, command_in, faults_in, program, verb_word}
 
 program_is_simple : is_simple program ≡ true
 program_is_simple = refl
@@ -51,22 +54,33 @@ pub parsed_command : (a : App) (words : List Text) (m : ArgMatches) → a ≡ pr
 unfolding command_in
 parsed_command a words m is matches = (matches (ap is_simple is ∙ program_is_simple)).1 ∙ ap (λ x. subcommand_of x words) is
 
--- where it gives another error than for want of memory, the words are none
-pub parsed_fault : (a : App) (words : List Text) (error : Error) (fault : LineFault) → a ≡ program
-    → (is_simple_and_free a ≡ true → HasKind (fault_of a words) error)
-    → (fault ≡ Memory) ⊎ (kind_of error ≢ OutOfMemory) → IsLineFault words fault
+-- an error has a kind that the words are refused for, or memory ran out
+parsed_kind : (a : App) (words : List Text) (error : Error) → a ≡ program → (is_simple_and_free a ≡ true → HasKind (fault_of a words) error)
+    → (kind_of error ≡ OutOfMemory) ⊎ IsRefusedFor (kind_of error) words
 unfolding faults_in
-parsed_fault a words error Memory is kinds told = tt
-parsed_fault a words error (Usage text) is kinds told = inl (λ taken. elim (kinds (ap is_simple_and_free is ∙ program_is_free)) [
-  | inl memory ↦ elim told [
-    | inl same ↦ cc
-    | inr other ↦ other memory
-  ]
+parsed_kind a words error is kinds = elim (kinds (ap is_simple_and_free is ∙ program_is_free)) [
+  | inl memory ↦ inl memory
   | inr among ↦
-      let none : fault_of a words ≡ [] = ap (λ x. fault_of x words) is ∙ taken in
       let P : Kinds → Type 0 = λ kinds. IsAmong (kind_of error) kinds in
-      subst P none among
-])
+      inr (subst P (ap (λ x. fault_of x words) is) among)
+]
+
+-- where it gives an error, the words are refused for its kind, or ask for the version
+pub parsed_fault : (a : App) (words : List Text) (error : Error) (told : NoLine) → a ≡ program
+    → (is_simple_and_free a ≡ true → HasKind (fault_of a words) error)
+    → TellsKind (kind_of error) told → IsNoLine words told
+unfolding faults_in
+parsed_fault a words error (Fault Memory) is kinds tells = tt
+parsed_fault a words error Version is kinds tells =
+    let P : ErrorKind → Type 0 = λ why. IsRefusedFor why words in
+    elim (parsed_kind a words error is kinds) [
+      | inl memory ↦ let bad : DisplayVersion ≡ OutOfMemory = sym tells ∙ memory in absurd (cc)
+      | inr among ↦ subst P tells among
+    ]
+parsed_fault a words error (Fault (Usage text)) is kinds tells = elim (parsed_kind a words error is kinds) [
+  | inl memory ↦ absurd (tells.0 memory)
+  | inr among ↦ inl (record { why = kind_of error; refused = among; other = tells.1 })
+]
 
 -- ---- what the matches give
 

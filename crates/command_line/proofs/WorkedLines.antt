@@ -199,6 +199,9 @@ pub refused_lines : RefusedLines
 unfolding clap_on_literals faults_in command_in told
 refused_lines = record {
   no_words = refl;
+  asks_version = refl;
+  asks_version_in_short = refl;
+  asks_version_of_serve = refl;
   asks_help = refl;
   asks_help_on_serve = refl;
   another_command = refl;

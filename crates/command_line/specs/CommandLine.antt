@@ -1,5 +1,5 @@
 -- The command line: the program as `clap` sees it, and what the words after its name say.
-use Rattle.std.specs.Prelude.{◌≡◌, ◌⊎◌, ℕ, Bool, true, false, List, [], ◌∷◌, ◌++◌, codes, is_some, ◌&&◌, ◌||◌}
+use Rattle.std.specs.Prelude.{◌≡◌, ◌≢◌, ◌⊎◌, ℕ, Bool, true, false, List, [], ◌∷◌, ◌++◌, codes, is_some, ◌&&◌, ◌||◌}
 use Rattle.std.specs.Prelude.{Option, Some, IfSome, MatchOption, option_map, unwrap_or}
 use Rattle.std.specs.Prelude.{Result, IfOk}
 use Rattle.std.specs.Int.{IsInRange}
@@ -14,17 +14,21 @@ use Rattle.clap.specs.Values.{bool_text}
 use Rattle.clap.specs.Walk.{Row, Rule, Text, all_of, first_of, one_of, texts}
 use Rattle.clap.specs.Simple.{App, app_of, new_app, new_rule, on_top, subcommand_of, with_subcommand}
 use Rattle.clap.specs.Takes.{is_given}
-use Rattle.clap.specs.Kinds.{Kinds}
+use Rattle.clap.specs.Kinds.{IsAmong, Kinds}
 use Rattle.clap.specs.Words.{found_of, rows_of}
 use Rattle.clap.specs.Faults.{fault_of}
 use Rattle.clap.specs.declared.builder.action.ArgAction.TheVariants.{Append, SetTrue}
 use Rattle.clap.specs.declared.builder.command.Command.{Command}
+use Rattle.clap.specs.declared.error.kind.ErrorKind.{ErrorKind}
+use Rattle.clap.specs.declared.error.kind.ErrorKind.TheVariants as kinds
 use Rattle.clap.specs.declared.parser.matches.ArgMatches.{ArgMatches}
 use Rattle.command_line.specs.declared.commands.Form.TheVariants as forms
 use Rattle.command_line.specs.declared.commands.Argument.{Argument}
 use Rattle.command_line.specs.declared.options.Line.{Line}
 use Rattle.command_line.specs.declared.options.LineFault.{LineFault}
 use Rattle.command_line.specs.declared.options.LineFault.TheVariants.{Usage, Memory}
+use Rattle.command_line.specs.declared.options.NoLine.{NoLine}
+use Rattle.command_line.specs.declared.options.NoLine.TheVariants.{Version, Fault}
 use Rattle.command_line.specs.declared.options.Verb.{Verb}
 use Rattle.command_line.specs.declared.options.Verb.TheVariants as verbs
 
@@ -95,9 +99,10 @@ images_command name = command_with name images
 abbrev pub IsApp : {E : Type 0} → Result Command E → App → Type 0
 IsApp made app = IfOk made (λ command. app_of command ≡ app)
 
--- the program's name, which is no word of the line; it wants a command
+-- the program's name, which is no word of the line; it wants a command, or tells its version
 abbrev pub top_command : App
-top_command = on_top (λ s. record s { no_binary_name = true; subcommand_required = true })
+top_command = on_top
+    (λ s. record s { no_binary_name = true; has_version = true; subcommand_required = true })
     (new_app (codes "strata"))
 
 -- the program, with its four commands
@@ -117,6 +122,20 @@ command_in words = subcommand_of program words
 -- the words are a command of the program
 abbrev pub IsTaken : List Text → Type 0
 IsTaken words = faults_in words ≡ []
+
+-- the words are refused for this: `clap` may answer them so
+abbrev pub IsRefusedFor : ErrorKind → List Text → Type 0
+IsRefusedFor why words = IsAmong why (faults_in words)
+
+-- the words ask for the version
+abbrev pub AsksVersion : List Text → Type 0
+AsksVersion = IsRefusedFor kinds.DisplayVersion
+
+-- the words are no command of the program, and refused for another reason than to tell the version
+pub record IsRefused (words : List Text) : Type 0 where
+  pub why : ErrorKind
+  pub refused : IsRefusedFor why words
+  pub other : why ≢ kinds.DisplayVersion
 
 -- ---- numbers
 
@@ -287,8 +306,19 @@ pub record IsCrossed (words : List Text) : Type 0 where
 -- the words are no command of the program, or misnumbered, or name a file beside the device, or
 -- memory ran out
 abbrev pub IsLineFault : List Text → LineFault → Type 0
-IsLineFault words (Usage text) = (¬ IsTaken words) ⊎ (IsMisnumbered words ⊎ IsCrossed words)
+IsLineFault words (Usage text) = IsRefused words ⊎ (IsMisnumbered words ⊎ IsCrossed words)
 IsLineFault words Memory = Unit {0}
+
+-- the words ask for the version, or have a fault
+abbrev pub IsNoLine : List Text → NoLine → Type 0
+IsNoLine words Version = AsksVersion words
+IsNoLine words (Fault fault) = IsLineFault words fault
+
+-- an error of `clap` of this kind is told as this
+abbrev pub TellsKind : ErrorKind → NoLine → Type 0
+TellsKind why Version = why ≡ kinds.DisplayVersion
+TellsKind why (Fault Memory) = Unit {0}
+TellsKind why (Fault (Usage text)) = (why ≢ kinds.OutOfMemory) × (why ≢ kinds.DisplayVersion)
 
 -- the flag of this name reads as whether it is given
 abbrev pub IsFlagFilled : Text → List Row → Type 0

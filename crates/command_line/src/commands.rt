@@ -9,6 +9,7 @@ ghost use Rattle.clap.specs.Words.{rule_of};
 ghost use Rattle.command_line.specs.CommandLine.{command_with, images_command, program, rule_for};
 ghost use Rattle.command_line.specs.CommandLine.{IsApp, serve_command, socket_command};
 
+use crate::version::VERSION;
 use clap::{Arg, ArgAction, Command};
 use std::alloc::{AllocError, Global};
 
@@ -107,6 +108,7 @@ pub(crate) fn program<'a>(alloc: Global) -> Result<Command<'a>, AllocError>
         .no_binary_name(true)
         .bin_name("strata")?
         .about("Serves stacked romfs images by the FUSE protocol")
+        .version(VERSION)
         .subcommand_required(true);
     let program = with_command(Ok(program), serve(alloc));
     let program = with_command(program, socket(alloc));

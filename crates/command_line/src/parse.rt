@@ -2,13 +2,13 @@
 //!
 //! `clap` keeps what it makes in the global allocator, so this module takes that one alone.
 
-ghost use Rattle.std.specs.Prelude.{◌≡◌, ◌≢◌, ◌≤◌, ◌⊎◌, [], codes, is_some, map, true};
+ghost use Rattle.std.specs.Prelude.{◌≡◌, ◌≤◌, ◌⊎◌, [], codes, is_some, map, true};
 ghost use Rattle.std.specs.Prelude.{IfOk, IfErr, option_map, unwrap_or, vec_len};
 ghost use Rattle.std.specs.Int.{IsInRange};
 ghost use Rattle.clap.specs.Takes.{is_given};
 ghost use Rattle.clap.specs.Walk.{all_of, first_of, texts};
 ghost use Rattle.clap.specs.Words.{kind_of, subcommand_rows_of};
-ghost use Rattle.command_line.specs.CommandLine.{IsLineFault, IsLineOf, IsTaken, command_in};
+ghost use Rattle.command_line.specs.CommandLine.{IsLineOf, IsNoLine, IsTaken, TellsKind, command_in};
 ghost use Rattle.command_line.specs.CommandLine.{HoldsRows, IsFilled, IsInLimits, names_both, verb_word};
 ghost use Rattle.command_line.specs.CommandLine.{AreCrossed, GivesSocket, NamesSocket, is_flag, rows_in};
 ghost use Rattle.command_line.specs.CommandLine.{HaveNumbersInRange, IsNumberNamed, IsNumberOf};
@@ -16,7 +16,7 @@ ghost use Rattle.command_line.specs.declared.options.LineFault.TheVariants.{Memo
 
 use crate::commands::program;
 use crate::numbers::number_to;
-use crate::options::{Line, LineFault, MAX_SESSIONS, Verb};
+use crate::options::{Line, LineFault, MAX_SESSIONS, NoLine, Verb};
 use clap::error::ErrorKind;
 use clap::{ArgMatches, Error};
 use std::alloc::{AllocError, Global};
@@ -47,27 +47,30 @@ pub fn words<R: Env + AllocGlobal>(rt: &R) -> Result<Vec<String>, LineFault> {
 /// from 1 to 64 (`--workers`), 256 (`--batch`) or 65,535 (`--sessions`). Of the verb `socket` it
 /// has the path of the socket.
 ///
-/// It is `Usage` only where the words are no command of the program, as where they ask for help,
-/// where they give another number, or where they name a file beside the device; `Memory` only where
-/// memory was refused.
-pub fn line<'a, S: AsStr>(alloc: Global, words: &'a [S]) -> Result<Line<'a>, LineFault>
+/// Words that ask for the version have no line, and are `Version`. It is `Usage` only where the
+/// words are no command of the program, as where they ask for help, where they give another number,
+/// or where they name a file beside the device; `Memory` only where memory was refused.
+pub fn line<'a, S: AsStr>(alloc: Global, words: &'a [S]) -> Result<Line<'a>, NoLine>
     ensures ok { IfOk result (λ line. IsLineOf (map S.text words.now) line) }
     ensures limits { IfOk result (λ line. IsInLimits line) }
     ensures some_image { IfOk result (λ line. 1 ≤ vec_len line.images) }
     ensures socket { IfOk result (λ line. NamesSocket line) }
-    ensures err { IfErr result (λ fault. IsLineFault (map S.text words.now) fault) }
+    ensures err { IfErr result (λ no_line. IsNoLine (map S.text words.now) no_line) }
 {
     let matches = matches_of(alloc, words)?;
     let (name, found) = matches.subcommand().unwrap();
-    line_of(alloc, verb_of(name), found)
+    match line_of(alloc, verb_of(name), found) {
+        Ok(line) => Ok(line),
+        Err(fault) => Err(NoLine::Fault(fault)),
+    }
 }
 
 // What `clap` makes of the words.
-fn matches_of<'a, S: AsStr>(alloc: Global, words: &'a [S]) -> Result<ArgMatches<'a>, LineFault>
+fn matches_of<'a, S: AsStr>(alloc: Global, words: &'a [S]) -> Result<ArgMatches<'a>, NoLine>
     ensures taken { IfOk result (λ _. IsTaken (map S.text words.now)) }
     ensures command { IfOk result (λ matches.
         subcommand_rows_of matches ≡ command_in (map S.text words.now)) }
-    ensures err { IfErr result (λ fault. IsLineFault (map S.text words.now) fault) }
+    ensures err { IfErr result (λ no_line. IsNoLine (map S.text words.now) no_line) }
 {
     match program(alloc)?.try_get_matches_from(words) {
         Ok(matches) => Ok(matches),
@@ -192,15 +195,16 @@ fn number(
 }
 
 // What `clap` answers in place of matches.
-fn refusal(alloc: Global, error: &Error) -> LineFault
-    ensures { (result ≡ Memory) ⊎ (kind_of error.now ≢ ErrorKind.OutOfMemory) }
+fn refusal(alloc: Global, error: &Error) -> NoLine
+    ensures { TellsKind (kind_of error.now) result }
 {
-    if error.kind() == ErrorKind::OutOfMemory {
-        return LineFault::Memory;
-    }
-    match error.to_string(alloc) {
-        Ok(text) => usage(alloc, text.as_str().trim_end()),
-        Err(_) => LineFault::Memory,
+    match error.kind() {
+        ErrorKind::OutOfMemory => NoLine::Fault(LineFault::Memory),
+        ErrorKind::DisplayVersion => NoLine::Version,
+        _ => NoLine::Fault(match error.to_string(alloc) {
+            Ok(text) => usage(alloc, text.as_str().trim_end()),
+            Err(_) => LineFault::Memory,
+        }),
     }
 }
 
