@@ -35,7 +35,7 @@ use Rattle.command_line.specs.declared.options.Verb.{Verb}
 use Rattle.command_line.specs.declared.options.Verb.TheVariants as verbs
 use Rattle.command_line.proofs.Agreed.{one_name, one_word, same_rows}
 use Rattle.command_line.proofs.Taken.{taken_names}
-use Rattle.command_line.specs.CommandLine.{AreCrossed, GivesSocket, HoldsRows, IsFilled, IsFlagFilled, Says, names_both, names_both_of, parts_of, IsLineOf, IsLineFault, IsNoLine, IsRefusedFor, TellsKind, IsNumberNamed, IsNumberTo, HaveNumbersInRange, Number, numbers, IsTaken, command_in, faults_in, program, verb_word}
+use Rattle.command_line.specs.CommandLine.{AreCrossed, GivesSocket, HoldsRows, IsFilled, IsFlagFilled, LineParts, Says, names_both, names_both_of, parts_of, IsLineOf, IsLineFault, IsNoLine, IsRefusedFor, TellsKind, IsNumberNamed, IsNumberTo, HaveNumbersInRange, Number, numbers, IsTaken, command_in, faults_in, program, verb_word}
 
 program_is_simple : is_simple program ≡ true
 program_is_simple = refl
@@ -211,11 +211,12 @@ names_socket verb rows listen gives listen_is is = some_named listen (first_of (
 -- the line names a file beside the device where the rows do
 pub names_as : (rows : List Row) (line : Line) → Says line (parts_of line.verb rows) → names_both line ≡ names_both_of rows
 names_as rows line says =
+    let parts = parts_of line.verb rows in
     rw (
-      says.device,
-      some_named line.requests _ says.requests,
-      some_named line.replies _ says.replies,
-      some_named line.balances _ says.balances,
+      ap (λ (p : LineParts). p.device) says,
+      some_named line.requests parts.requests (ap (λ (p : LineParts). p.requests) says),
+      some_named line.replies parts.replies (ap (λ (p : LineParts). p.replies) says),
+      some_named line.balances parts.balances (ap (λ (p : LineParts). p.balances) says),
     ) refl
 
 -- a line that says what the rows give, and names no file beside the device, holds them

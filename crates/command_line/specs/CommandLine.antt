@@ -229,20 +229,26 @@ parts_of verb rows = record {
   images = unwrap_or (all_of (codes "image") rows) [];
 }
 
+-- what a line says
+abbrev pub parts_in : Line → LineParts
+parts_in line = record {
+  verb = line.verb;
+  strict = line.strict;
+  device = line.device;
+  lasting = line.lasting;
+  workers = line.workers;
+  batch = line.batch;
+  requests = option_map (λ file. file.now) line.requests;
+  replies = option_map (λ file. file.now) line.replies;
+  balances = option_map (λ file. file.now) line.balances;
+  listen = option_map (λ path. path.now) line.listen;
+  sessions = line.sessions;
+  images = texts line.images.items;
+}
+
 -- the line says this
-pub record Says (line : Line) (parts : LineParts) : Type 0 where
-  pub verb : line.verb ≡ parts.verb
-  pub strict : line.strict ≡ parts.strict
-  pub device : line.device ≡ parts.device
-  pub lasting : line.lasting ≡ parts.lasting
-  pub workers : line.workers ≡ parts.workers
-  pub batch : line.batch ≡ parts.batch
-  pub requests : option_map (λ file. file.now) line.requests ≡ parts.requests
-  pub replies : option_map (λ file. file.now) line.replies ≡ parts.replies
-  pub balances : option_map (λ file. file.now) line.balances ≡ parts.balances
-  pub listen : option_map (λ path. path.now) line.listen ≡ parts.listen
-  pub sessions : line.sessions ≡ parts.sessions
-  pub images : texts line.images.items ≡ parts.images
+abbrev pub Says : Line → LineParts → Type 0
+Says line parts = parts_in line ≡ parts
 
 -- a line has the device, and names a file in place of one of its ends or for the balances
 abbrev pub names_both : Line → Bool
