@@ -34,6 +34,9 @@ pub(crate) enum Form {
     Words(&'static str),
 }
 
+/// Where mounting is told of.
+pub(crate) const MOUNTING: &str = "To mount, see strata-mount(1).";
+
 const WORKERS: Argument = Argument {
     name: "workers",
     form: Form::Value("N"),
@@ -108,6 +111,7 @@ pub(crate) fn program<'a>(alloc: Global) -> Result<Command<'a>, AllocError>
         .no_binary_name(true)
         .bin_name("strata")?
         .about("Serves stacked romfs images by the FUSE protocol")
+        .after_help(MOUNTING)
         .version(VERSION)
         .subcommand_required(true);
     let program = with_command(Ok(program), serve(alloc));

@@ -14,7 +14,7 @@ ghost use Rattle.command_line.specs.CommandLine.{AreCrossed, GivesSocket, NamesS
 ghost use Rattle.command_line.specs.CommandLine.{HaveNumbersInRange, IsNumberNamed, IsNumberOf};
 ghost use Rattle.command_line.specs.declared.options.LineFault.TheVariants.{Memory};
 
-use crate::commands::program;
+use crate::commands::{MOUNTING, program};
 use crate::numbers::number_to;
 use crate::options::{Line, LineFault, MAX_SESSIONS, NoLine, Verb};
 use clap::error::ErrorKind;
@@ -74,7 +74,7 @@ fn matches_of<'a, S: AsStr>(alloc: Global, words: &'a [S]) -> Result<ArgMatches<
 {
     match program(alloc)?.try_get_matches_from(words) {
         Ok(matches) => Ok(matches),
-        Err(error) => Err(refusal(alloc, &error)),
+        Err(error) => Err(refusal(alloc, words, &error)),
     }
 }
 
@@ -195,16 +195,34 @@ fn number(
 }
 
 // What `clap` answers in place of matches.
-fn refusal(alloc: Global, error: &Error) -> NoLine
+fn refusal<S: AsStr>(alloc: Global, words: &[S], error: &Error) -> NoLine
     ensures { TellsKind (kind_of error.now) result }
 {
     match error.kind() {
         ErrorKind::OutOfMemory => NoLine::Fault(LineFault::Memory),
         ErrorKind::DisplayVersion => NoLine::Version,
+        _ if asks_to_mount(words) => NoLine::Fault(no_mount(alloc)),
         _ => NoLine::Fault(match error.to_string(alloc) {
             Ok(text) => usage(alloc, text.as_str().trim_end()),
             Err(_) => LineFault::Memory,
         }),
+    }
+}
+
+// Whether the first word is `mount`, which is no command.
+fn asks_to_mount<S: AsStr>(words: &[S]) -> bool {
+    match words.first() {
+        Some(word) => word.as_str() == "mount",
+        None => false,
+    }
+}
+
+// What `mount` is answered, as `clap` words it, with where mounting is told of.
+fn no_mount(alloc: Global) -> LineFault {
+    let text = format!(in alloc; "error: unrecognized subcommand 'mount'\n\n{MOUNTING}");
+    match text {
+        Ok(text) => LineFault::Usage { text },
+        Err(_) => LineFault::Memory,
     }
 }
 
