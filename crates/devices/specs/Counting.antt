@@ -1,9 +1,10 @@
--- read(2), write(2): what calls of a device change in its counts.
+-- read(2), write(2), accept(2): what calls of a device change in its counts.
 use Rattle.std.specs.Prelude.{ℕ, ◌+◌, ◌-◌, ◌^◌, ◌==◌, min, Result, Ok, Err, Some, None, if◌then◌else◌}
 use Rattle.devices.specs.declared.failed.Failed.{Failed}
 use Rattle.devices.specs.declared.counts.LastPull.TheVariants.{Bytes, End, Failure}
 use Rattle.devices.specs.declared.counts.Pulls.{Pulls}
 use Rattle.devices.specs.declared.counts.Pushes.{Pushes}
+use Rattle.devices.specs.declared.counts.Accepts.{Accepts}
 
 -- the sum, held at 2^64 - 1
 abbrev pub held_sum : ℕ → ℕ → ℕ
@@ -52,3 +53,12 @@ abbrev pub flushed : Pushes → Result (Unit {0}) Failed → Pushes
 flushed p (Ok u) = record { flushes = up p.flushes; failures = p.failures; unflushed = 0 }
 flushed p (Err e) =
     record { flushes = up p.flushes; failures = up p.failures; unflushed = p.unflushed }
+
+-- the counts of what gave no client so far
+abbrev pub no_accepts : Accepts
+no_accepts = record { clients = 0; failures = 0 }
+
+-- the counts of what gives clients after an accept
+abbrev pub accepted : {X : Type 0} → Accepts → Result X Failed → Accepts
+accepted a (Ok client) = record { clients = up a.clients; failures = a.failures }
+accepted a (Err e) = record { clients = a.clients; failures = up a.failures }

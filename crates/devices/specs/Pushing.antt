@@ -1,9 +1,16 @@
 -- What pushing bytes to a sink until all are taken does.
-use Rattle.std.specs.Prelude.{◌≡◌, ℕ, ◌+◌, ◌≤◌, ◌⊎◌, List, [], ◌++◌, length, Result, Ok, Err}
+use Rattle.std.specs.Prelude.{◌≡◌, ℕ, ◌+◌, ◌≤◌, ◌⊎◌, List, [], ◌++◌, length, Option, Result, Ok, Err}
 use Rattle.std.specs.Io.KnownBytes.{Appends}
 use Rattle.devices.specs.declared.failed.Failed.{Failed}
 use Rattle.devices.specs.declared.counts.Pushes.{Pushes}
 use Rattle.devices.specs.States.{SinkState}
+
+-- what is held, where that is known, grew by the first of some bytes, and by nothing else
+pub record GainsFront (bytes : List ℕ) (old new : Option (List ℕ)) : Type 0 where
+  pub put : List ℕ
+  pub more : List ℕ
+  pub front : bytes ≡ put ++ more
+  pub gained : Appends old new put
 
 -- the first of some bytes, put, went to a sink; no byte but these is newly unflushed, and there was
 -- one flush at most

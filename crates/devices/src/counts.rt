@@ -2,7 +2,7 @@
 
 ghost use Rattle.std.specs.Prelude.{◌≡◌, ◌≤◌, length, IfOk};
 ghost use Rattle.std.specs.Io.KnownBytes.{Keeps, WriteAppends};
-ghost use Rattle.devices.specs.Counting.{no_pulls, no_pushes, pulled, pushed, flushed};
+ghost use Rattle.devices.specs.Counting.{no_pulls, no_pushes, no_accepts, pulled, pushed, flushed, accepted};
 
 use crate::failed::Failed;
 use std::io::Write;
@@ -40,6 +40,15 @@ pub struct Pushes {
     pub failures: u64,
     /// How many bytes it took since its last flush that succeeded, or since it was made.
     pub unflushed: u64,
+}
+
+/// The counts of what gives clients.
+#[derive(Debug, Clone, Copy, PartialEq, Eq)]
+pub struct Accepts {
+    /// How many clients it gave.
+    pub clients: u64,
+    /// How often no client could be accepted.
+    pub failures: u64,
 }
 
 impl Pulls {
@@ -136,6 +145,28 @@ impl Pushes {
         self.flushes = self.flushes.saturating_add(1);
         match done {
             Ok(_) => self.unflushed = 0,
+            Err(_) => self.failures = self.failures.saturating_add(1),
+        }
+    }
+}
+
+impl Accepts {
+    /// The counts of what gave no client.
+    pub fn none() -> Accepts
+        ensures { result ≡ no_accepts }
+    {
+        Accepts {
+            clients: 0,
+            failures: 0,
+        }
+    }
+
+    /// Counts a client, or that none could be accepted.
+    pub fn note<T>(&mut self, client: &Result<T, Failed>)
+        ensures { self.new ≡ accepted self.old client.now }
+    {
+        match client {
+            Ok(_) => self.clients = self.clients.saturating_add(1),
             Err(_) => self.failures = self.failures.saturating_add(1),
         }
     }

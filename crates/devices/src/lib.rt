@@ -4,19 +4,23 @@
 //!   are known, and keep counts of their calls, ends and failures, so that a promise can say of a
 //!   failure that it was the device's.
 //! - [`Tap`] is a source over any reader of std, [`Spout`] a sink over any writer.
+//! - [`Clients`] give one client after another, and count them and their failures; [`Listening`]
+//!   is those of a listener of std.
 //! - [`hand_on`] pushes all of some bytes to a sink, and then flushes it.
 //!
 //! What a call changes is said in `specs/Counting`, one function a call: a count stays at 2^64 - 1.
 //! No call takes memory beyond what the reader or writer takes. The crate stands on std alone.
 #![tactic(auto)]
 
+mod clients;
 pub mod counts;
 pub mod failed;
 mod push;
 mod sink;
 mod source;
 
-pub use counts::{LastPull, Pulls, Pushes};
+pub use clients::{Clients, Listening};
+pub use counts::{Accepts, LastPull, Pulls, Pushes};
 pub use failed::Failed;
 pub use push::hand_on;
 pub use sink::{Sink, Spout};

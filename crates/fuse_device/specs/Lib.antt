@@ -1,3 +1,4 @@
+pub mod Ends
 pub mod FirstReply
 pub mod Spouts
 pub mod Taps

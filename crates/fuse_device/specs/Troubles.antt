@@ -1,7 +1,7 @@
 -- errno(3), fuse(4): what an error number of /dev/fuse says, where an error has one.
 use Rattle.std.specs.Prelude.{ℕ, ℤ, pos, negsuc, Bool, true, Option, Some, None, Result, Ok, Err, if◌then◌else◌, ◌==◌}
 use Rattle.fuse_device.specs.declared.trouble.Trouble.{Trouble}
-use Rattle.fuse_device.specs.declared.trouble.Trouble.TheVariants.{Again, Gone, Fault}
+use Rattle.fuse_device.specs.declared.trouble.Trouble.TheVariants.{Again, Unwanted, Gone, Fault}
 
 -- of a read: ENOENT (2), EINTR (4), EAGAIN (11) and ECONNABORTED (103) are tried again, and ENODEV
 -- (19) comes once the mount was taken away
@@ -17,10 +17,10 @@ abbrev pub read_trouble : Option ℤ → Trouble
 read_trouble (Some number) = read_number number
 read_trouble None = Fault
 
--- of a write: at ENOENT (2) nobody waits for a reply, and ENODEV (19) comes once the mount was
+-- of a write: at ENOENT (2) nobody waits for this reply, and ENODEV (19) comes once the mount was
 -- taken away
 abbrev pub write_number : ℤ → Trouble
-write_number (pos n) = if n == 2 then Gone else (if n == 19 then Gone else Fault)
+write_number (pos n) = if n == 2 then Unwanted else (if n == 19 then Gone else Fault)
 write_number (negsuc n) = Fault
 
 -- what an error of a write says; one that has no number is a fault
@@ -32,5 +32,6 @@ write_trouble None = Fault
 abbrev pub gone_after : Bool → Result ℕ Trouble → Bool
 gone_after gone (Ok n) = gone
 gone_after gone (Err Again) = gone
+gone_after gone (Err Unwanted) = gone
 gone_after gone (Err Gone) = true
 gone_after gone (Err Fault) = gone

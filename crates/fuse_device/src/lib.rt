@@ -5,10 +5,12 @@
 //! source and a sink promise, over any reader and writer of std, whatever sizes the reads and the
 //! pulls have and however often a read is interrupted. Both know where the kernel has ended the
 //! connection, as when the mount was taken away: the call fails, and the device then says that it
-//! is gone, which it is only after a failure. That a pull of an empty room reads once, and a push
-//! writes once, no contract can say: it is tested. The crate stands on `devices` and `byteorder`.
+//! is gone, which it is only after a failure. A reply for which nobody waits any more is let go.
+//! That a pull of an empty room reads once, and a push writes once, no contract can say: it is
+//! tested. The crate stands on `devices` and `byteorder`.
 #![tactic(auto)]
 
+pub mod examples;
 pub mod laws;
 mod sink;
 mod source;

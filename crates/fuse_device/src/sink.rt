@@ -1,10 +1,10 @@
 //! The sink of replies.
 
-ghost use Rattle.std.specs.Prelude.{◌≡◌, ◌<◌, ◌≤◌, length, false, IfOk, OnOk, IsTrue, MatchOption};
+ghost use Rattle.std.specs.Prelude.{◌≡◌, ◌<◌, ◌≤◌, length, false, None, IfOk, OnOk, IsTrue, MatchOption};
 ghost use Rattle.std.specs.Io.KnownBytes.{WriteAppends};
 ghost use Rattle.devices.specs.Counting.{no_pushes, pushed};
 ghost use Rattle.devices.specs.States.{sink_state};
-ghost use Rattle.fuse_device.specs.FirstReply.{BeginsReply, BeginsNone, IsWithinFirst};
+ghost use Rattle.fuse_device.specs.FirstReply.{BeginsReply, BeginsNone, IsWithinFirst, PutsReply};
 
 use crate::trouble::{Trouble, note_gone, trouble_of_write};
 use byteorder::{ByteOrder, LittleEndian};
@@ -17,9 +17,11 @@ const HEADER_SIZE: usize = 16;
 /// A sink over a writer that takes one whole reply a write.
 ///
 /// A push takes the first whole reply of its bytes, by the length in the first four of them, in one
-/// write, and no more. Where the writer takes less of it, the push says how much. Bytes that begin
-/// with no whole reply fail, and so does any error of a write, an interrupted one too: nothing was
-/// taken then. There is no buffer and no copy.
+/// write, and no more. Where the writer takes less of it, the push says how much. A reply for which
+/// nobody waits any more (a write answered ENOENT) is let go: it counts as taken, as a kernel that
+/// knows no such request wants nothing of it. So what the other side holds is not known. Bytes that
+/// begin with no whole reply fail, and so does any other error of a write, an interrupted one too:
+/// nothing was taken then. There is no buffer and no copy.
 #[derive(Drop)]
 pub struct ReplySpout<W> {
     writer: W,
@@ -29,12 +31,12 @@ pub struct ReplySpout<W> {
 }
 
 impl<W: Write> ReplySpout<W> {
-    ghost use Rattle.fuse_device.specs.Spouts.{spout_gone};
+    ghost use Rattle.fuse_device.specs.Spouts.{spout_gone, writer_of};
 
-    /// A sink with the bytes that the writer holds, to which nothing was pushed so far.
+    /// A sink to which nothing was pushed so far, over this writer.
     pub fn new(writer: W) -> ReplySpout<W>
-        ensures state { ⟦<ReplySpout<W> as Sink>⟧.state result
-            ≡ sink_state (W.contents writer) no_pushes }
+        ensures state { ⟦<ReplySpout<W> as Sink>⟧.state result ≡ sink_state None no_pushes }
+        ensures over { writer_of result ≡ writer }
         ensures there { spout_gone result ≡ false }
     {
         ReplySpout {
@@ -44,8 +46,7 @@ impl<W: Write> ReplySpout<W> {
         }
     }
 
-    /// Whether a push failed since nobody waits for its reply any more, or since the mount was
-    /// taken away: a write answered ENOENT or ENODEV. It stays so.
+    /// Whether a push failed since the mount was taken away: a write answered ENODEV. It stays so.
     pub fn is_gone(&self) -> bool
         ensures gone { result ≡ spout_gone self.now }
         ensures failed { IsTrue result
@@ -56,9 +57,9 @@ impl<W: Write> ReplySpout<W> {
 }
 
 impl<W: Write> Sink for ReplySpout<W> {
-    ghost use Rattle.fuse_device.specs.Spouts.{spout_gone};
+    ghost use Rattle.fuse_device.specs.Spouts.{spout_gone, writer_of};
 
-    ghost state = { λ spout. sink_state (W.contents spout.writer) spout.counts };
+    ghost state = { λ spout. sink_state None spout.counts };
 
     fn push(&mut self, bytes: &[u8]) -> Result<usize, Failed>
         ensures bound { IfOk result (λ n. n ≤ length bytes.now) }
@@ -67,6 +68,8 @@ impl<W: Write> Sink for ReplySpout<W> {
         ensures counts { (⟦<ReplySpout<W> as Sink>⟧.state self.new).counts
             ≡ pushed (⟦<ReplySpout<W> as Sink>⟧.state self.old).counts (length bytes.now) result }
         ensures first { IfOk result (IsWithinFirst bytes.now) }
+        ensures put { PutsReply (W.contents (writer_of self.old)) (W.contents (writer_of self.new))
+            result bytes.now }
         ensures stays { IsTrue (spout_gone self.old) → IsTrue (spout_gone self.new) }
         ensures there { OnOk result (spout_gone self.new ≡ spout_gone self.old) }
     {
@@ -85,17 +88,28 @@ impl<W: Write> Sink for ReplySpout<W> {
     }
 }
 
-// Writes the first reply of the bytes, once.
+// Writes the first reply of the bytes, once, and says how much of it is done with: all of it, where
+// nobody waits for it.
 fn write_first<W: Write>(writer: &mut W, bytes: &[u8]) -> Result<usize, Trouble>
     ensures first { IfOk result (IsWithinFirst bytes.now) }
-    ensures bytes { WriteAppends (W.contents writer.old) (W.contents writer.new) result bytes.now }
+    ensures put { PutsReply (W.contents writer.old) (W.contents writer.new) result bytes.now }
 {
     match first_reply(bytes) {
         Some(len) => match writer.write(&bytes[..len]) {
             Ok(n) => Ok(n),
-            Err(error) => Err(trouble_of_write(&error)),
+            Err(error) => let_go(len, trouble_of_write(&error)),
         },
         None => Err(Trouble::Fault),
+    }
+}
+
+// Lets a reply of this length go where nobody waits for it.
+fn let_go(len: usize, trouble: Trouble) -> Result<usize, Trouble>
+    ensures { IfOk result (λ n. n ≡ len) }
+{
+    match trouble {
+        Trouble::Unwanted => Ok(len),
+        other => Err(other),
     }
 }
 

@@ -1,11 +1,11 @@
 //! The files of images, of a long list some at the same time.
 //!
 //! A list is cut in two, and each half once more; each part is read from its lowest image up, and
-//! what two halves found is put together: memory that ran out or an image that cannot be read in
-//! the lower half is told first.
+//! what two halves found is put together: a fault of the lower half, of memory or of an image that
+//! cannot be read, is told before one of the upper.
 
 ghost use Rattle.std.specs.Prelude.{◌≡◌, ◌⊎◌, ◌+◌, ◌<◌, ◌^◌, ℕ, length, vec_len, IfOk, IfErr};
-ghost use Rattle.image_files.specs.Unread.{IsUnread};
+ghost use Rattle.image_files.specs.Unread.{IsOfBoth, IsUnread};
 ghost use Rattle.image_files.specs.declared.images.FilesFault.TheVariants.{Unread, Memory};
 ghost use denote.Param.Send.{IsSync, IsSend, Frees};
 
@@ -51,7 +51,7 @@ impl<T: Drop> From<AllocFailed<T>> for FilesFault {
 /// beginning to its end.
 ///
 /// Of a long list at most four parts are read at the same time; of several files that cannot be
-/// read the lowest is told.
+/// read the lowest is told, if there was memory for all below it.
 pub fn read_images<R: Files + Threads + Sync, A: Allocator + Copy + Send + Sync>(
     rt: &R,
     alloc: A,
@@ -107,9 +107,24 @@ where
             ensures err { IfErr result (IsUnread first (length lows.entry.now)) }
         { read_from(rt, alloc, first, lows, less) },
     );
-    let mut images = low?;
-    images.append(&mut high?)?;
-    Ok(images)
+    both(low, high)
+}
+
+/// The images of both halves, the lower ones first; or the fault of the lower half, or else of the
+/// upper one.
+fn both<A: Allocator>(
+    low: Result<Vec<Vec<u8, A>, A>, FilesFault>,
+    high: Result<Vec<Vec<u8, A>, A>, FilesFault>,
+) -> Result<Vec<Vec<u8, A>, A>, FilesFault>
+    ensures { IsOfBoth (λ images. images.items) low high result }
+{
+    match (low, high) {
+        (Ok(mut lows), Ok(mut highs)) => {
+            lows.append(&mut highs)?;
+            Ok(lows)
+        }
+        (Err(fault), _) | (Ok(_), Err(fault)) => Err(fault),
+    }
 }
 
 /// The bytes of a run of images, of which the lowest has the number `first`, read from the lowest

@@ -13,6 +13,6 @@ pub record Lists (table : Stacked) (old new : SinkState) : Type 0 where
   pub flushed : new.counts.unflushed ≤ old.counts.unflushed
 
 -- the list stopped: memory ran out and the sink is as it was, or the sink failed once more
-abbrev pub IsBrokenOff : SinkState → SinkState → ListFault → Type 0
-IsBrokenOff old new Memory = new ≡ old
-IsBrokenOff old new Write = new.counts.failures ≡ old.counts.failures + 1
+abbrev pub IsBrokenOff : Stacked → SinkState → SinkState → ListFault → Type 0
+IsBrokenOff table old new Memory = new ≡ old
+IsBrokenOff table old new Write = new.counts.failures ≡ old.counts.failures + 1

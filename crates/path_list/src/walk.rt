@@ -146,7 +146,7 @@ pub fn write_list<A: Allocator + Copy, B: Allocator, K: Sink>(
 ) -> Result<(), ListFault>
     requires { (K.state sink.old).counts.failures < 2 ^ 63 }
     ensures ok { OnOk result (Lists table.now (K.state sink.old) (K.state sink.new)) }
-    ensures err { IfErr result (IsBrokenOff (K.state sink.old) (K.state sink.new)) }
+    ensures err { IfErr result (IsBrokenOff table.now (K.state sink.old) (K.state sink.new)) }
 {
     let mut room = Room::new(alloc, PIECE)?;
     let mut path = PathText::new(alloc)?;

@@ -6,22 +6,15 @@ use Rattle.std.proofs.lemmas.List.{length-map}
 use Rattle.serve_loop.specs.declared.stop.Stop.{Stop}
 use Rattle.serve_loop.specs.declared.stop.Stop.TheVariants as stops
 use Rattle.command_line.specs.declared.options.Line.{Line}
-use Rattle.command_line.specs.declared.options.LineFault.{LineFault}
 use Rattle.command_line.specs.declared.options.Verb.{Verb}
-use Rattle.command_line.specs.CommandLine.{IsLineOf, IsLineFault}
+use Rattle.command_line.specs.CommandLine.{IsLineOf}
 use Rattle.devices.specs.States.{Devices}
 use Rattle.image_files.specs.declared.images.FilesFault.{FilesFault}
 use Rattle.image_files.specs.declared.images.FilesFault.TheVariants as files
 use Rattle.strata.specs.declared.faults.Fault.{Fault}
 use Rattle.strata.specs.declared.faults.Fault.TheVariants.{Usage, ImageFile, RequestsFile, RepliesFile, BalancesFile, Bind, Accept, Broken, InSession, Stopped}
 use Rattle.strata.specs.Faults.{status_of, stop_status, files_told_of}
-use Rattle.strata.specs.Ending.{NamesAsMany, IsDoneOver, IsStoppedOver, IsReadAs, IsDone, EndsInFault, IsOverWith}
-
--- words that were read are told by a line of theirs or a fault of theirs
-pub read_as : (words : List (List ℕ)) (line : Result Line LineFault) → IfOk line (IsLineOf words) → IfErr line (IsLineFault words)
-    → IsReadAs words line
-read_as words (Ok line) is fault = is
-read_as words (Err told) is fault = fault
+use Rattle.strata.specs.Ending.{NamesAsMany, IsDoneOver, IsStoppedOver, IsDone, EndsInFault, IsOverWith}
 
 -- as many images as paths
 pub all_named : {X Y Z : Type 0} (line : Line) (bytes : X → List ℕ) (images : Vec X Z) (paths : List Y) → vec_len images ≡ length paths

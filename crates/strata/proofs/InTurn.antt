@@ -1,19 +1,26 @@
 -- Sessions that are served one after another. `none_so_far` to `none_accepted` are how the loop
--- begins, goes on and ends. The main lemma is `sessions_tell`: the status says whether all were
--- served whole, which was the first that stopped, or that fewer were served.
-use Rattle.std.proofs.Common.{◌≡◌, ◌≢◌, ◌∙◌, sym, ap, subst, refl, ℕ, ◌+◌, ◌<◌, ◌⊎◌, inl, inr, List, [], ◌∷◌, ◌++◌, length, Option, Some, None, Result, Ok, Err, arith}
+-- begins, goes on and ends, `none_come` to `none_comes` how clients are counted. The main lemma is
+-- `tells`: the fault and the status say whether all were served whole, which was the first that
+-- stopped, or that fewer were served.
+use Rattle.std.proofs.Common.{◌≡◌, ◌≢◌, ◌∙◌, sym, ap, subst, refl, ℕ, ◌+◌, ◌-◌, ◌^◌, ◌<◌, ◌⊎◌, inl, inr, List, [], ◌∷◌, ◌++◌, length, Option, Some, None, Result, Ok, Err, arith}
 use Rattle.std.specs.List.{AllByRecursion}
 use Rattle.std.proofs.lemmas.List.{length-append}
+use Rattle.devices.specs.declared.failed.Failed.{Failed}
+use Rattle.devices.specs.declared.counts.Accepts.{Accepts}
+use Rattle.devices.specs.declared.counts.Pulls.{Pulls}
+use Rattle.devices.specs.declared.counts.Pushes.{Pushes}
+use Rattle.devices.specs.Counting.{up, accepted}
 use Rattle.stack_table.specs.Stacked.{Stacked}
 use Rattle.reply_model.specs.declared.session.Session.{Session}
 use Rattle.serve_loop.specs.declared.stop.Stop.{Stop}
+use Rattle.serve_loop.specs.declared.stop.Stop.TheVariants.{Read, Write}
 use Rattle.serve_loop.specs.declared.done.Done.{Done}
 use Rattle.serve_loop.specs.Serving.{Trace}
 use Rattle.strata.specs.declared.faults.Fault.{Fault}
 use Rattle.strata.specs.declared.faults.Fault.TheVariants.{Accept, InSession}
 use Rattle.strata.specs.Faults.{status_of}
-use Rattle.strata.specs.Laws.{IsFirstStopped, IsWhole, TellsOfSessions}
-use Rattle.strata.specs.Sessions.{fault_of, first_fault, or_later, status_at, AreServed, EndWith, IsSession, Served}
+use Rattle.strata.specs.Laws.{IsWhole, HasMetItsEnd, TellsOfSessions}
+use Rattle.strata.specs.Sessions.{accepting, accept_failures, fault_of, first_fault, or_later, status_at, Accepting, AreServed, EndWith, IsSession, Served}
 use Rattle.strata.proofs.Ended.{fault_status}
 
 -- sessions so far, and the status of the first that stopped
@@ -21,6 +28,40 @@ pub record AreSoFar (A : Type 0) (first : Session) (stack : Stacked) (count stat
   pub served : List (Served A first stack)
   pub count_is : length served ≡ count
   pub status_is : status ≡ status_at (first_fault 1 served)
+
+-- so many clients were accepted, and no accept failed
+pub record HaveCome (count : ℕ) (before now : Accepts) : Type 0 where
+  pub clients : now.clients ≡ before.clients + count
+  pub failures : now.failures ≡ before.failures
+
+-- before the first accept no client was accepted
+pub none_come : (before : Accepts) → HaveCome 0 before before
+none_come before = record { clients = omega arith; failures = refl }
+
+up_small : (n : ℕ) → n < 2 ^ 64 - 1 → up n ≡ n + 1
+up_small n small = omega (arith, small)
+
+-- with one accept more there is one client more
+pub one_comes : {X : Type 0} (count : ℕ) (r : Result X Failed) (client : X) (before now after : Accepts) → r ≡ Ok client
+    → after ≡ accepted now r → before.clients < 2 ^ 63 → count < 2 ^ 32 → HaveCome count before now → HaveCome (count + 1) before after
+one_comes count (Ok c) client before now after is e few less come = record {
+  clients =
+      ap (λ (x : Accepts). x.clients) e
+      ∙ up_small now.clients (let k = come.clients in omega (arith, k, few, less))
+      ∙ (let k = come.clients in omega (arith, k));
+  failures = ap (λ (x : Accepts). x.failures) e ∙ come.failures;
+}
+one_comes count (Err f) client before now after is e few less come = absurd (cc)
+
+-- and a failed accept is one failure more, and no client
+pub none_comes : {X : Type 0} (r : Result X Failed) (failed : Failed) (before now after : Accepts) → r ≡ Err failed
+    → after ≡ accepted now r → before.failures < 2 ^ 63 → now.failures ≡ before.failures
+    → (after.clients ≡ now.clients) × (after.failures ≡ before.failures + 1)
+none_comes (Ok c) failed before now after is e few same = absurd (cc)
+none_comes (Err f) failed before now after is e few same = (
+  ap (λ (x : Accepts). x.clients) e,
+  ap (λ (x : Accepts). x.failures) e ∙ up_small now.failures (omega (arith, few, same)) ∙ ap (λ n. n + 1) same,
+)
 
 or_none : (fault : Option Fault) → or_later fault None ≡ fault
 or_none None = refl
@@ -84,21 +125,45 @@ module _ {A : Type 0} {first : Session} {stack : Stacked} where
             ∙ ap status_at (sym (first_more 1 so_far.served s));
       }
 
+  -- no session is to blame for an accept
+  none_failed : (n : ℕ) (served : List (Served A first stack)) → accept_failures (first_fault n served) ≡ 0
+  unfolding first_fault
+  none_failed n [] = refl
+  none_failed n (s ∷ more) = go s.result (none_failed (n + 1) more)
+    where
+      go : (r : Result (Done A) Stop) → accept_failures (first_fault (n + 1) more) ≡ 0
+          → accept_failures (or_later (fault_of n r) (first_fault (n + 1) more)) ≡ 0
+      go (Ok done) e = e
+      go (Err stop) e = refl
+
   -- once all are served the sessions end with the status so far
-  pub all_served : (count status : ℕ) → AreSoFar A first stack count status → EndWith A first stack count status
-  all_served count status so_far = record {
+  pub all_served : (at count status : ℕ) (before now : Accepts) → at ≡ count → AreSoFar A first stack at status
+      → HaveCome at before now → EndWith A first stack count status (accepting before now)
+  all_served at count status before now all so_far come = record {
     fault = first_fault 1 so_far.served;
     status_is = so_far.status_is;
-    served = record { served = so_far.served; ends = inl (so_far.count_is, refl) };
+    served = record {
+      served = so_far.served;
+      ends = inl (so_far.count_is ∙ all, refl);
+      have = record {
+        accepted = come.clients ∙ ap (λ k. before.clients + k) (sym so_far.count_is);
+        failures = (let none = none_failed 1 so_far.served in let e = come.failures in omega (arith, none, e));
+      };
+    };
   }
 
   -- where no client comes they end with the status of that
-  pub none_accepted : (at count status ended : ℕ) → AreSoFar A first stack at status → at < count → ended ≡ status_of Accept
-      → EndWith A first stack count ended
-  none_accepted at count status ended so_far less e = record {
+  pub none_accepted : (at count status ended : ℕ) (before now after : Accepts) → AreSoFar A first stack at status → at < count
+      → ended ≡ status_of Accept → HaveCome at before now → (after.clients ≡ now.clients) × (after.failures ≡ before.failures + 1)
+      → EndWith A first stack count ended (accepting before after)
+  none_accepted at count status ended before now after so_far less e come (same, failed) = record {
     fault = Some Accept;
     status_is = e;
-    served = record { served = so_far.served; ends = inr (subst (λ k. k < count) (sym so_far.count_is) less, refl) };
+    served = record {
+      served = so_far.served;
+      ends = inr (subst (λ k. k < count) (sym so_far.count_is) less, refl);
+      have = record { accepted = same ∙ come.clients ∙ ap (λ k. before.clients + k) (sym so_far.count_is); failures = failed };
+    };
   }
 
   none_stopped : (n : ℕ) (served : List (Served A first stack)) → first_fault n served ≡ None → AllByRecursion IsWhole served
@@ -111,17 +176,27 @@ module _ {A : Type 0} {first : Session} {stack : Stacked} where
       go None is rest e = (whole_of n s.result is, rest e)
       go (Some fault) is rest e = absurd (cc)
 
+  -- of sessions that are numbered from n on the first that stopped has this number
+  record IsFirstFrom (n : ℕ) (served : List (Served A first stack)) (number : ℕ) (stop : Stop) : Type 0 where
+    before : List (Served A first stack)
+    stopped : Served A first stack
+    after : List (Served A first stack)
+    served_are : served ≡ before ++ stopped ∷ after
+    number_is : number ≡ n + length before
+    whole : AllByRecursion IsWhole before
+    result_is : stopped.result ≡ Err stop
+
   stopped_first : (fault : Fault) (n : ℕ) (served : List (Served A first stack)) → first_fault n served ≡ Some fault
-      → (number : ℕ) × (stop : Stop) × (fault ≡ InSession number stop) × IsFirstStopped served stop
+      → (number : ℕ) × (stop : Stop) × (fault ≡ InSession number stop) × IsFirstFrom n served number stop
   unfolding first_fault
   stopped_first fault n [] e = absurd (cc)
   stopped_first fault n (s ∷ more) e = go (fault_of n s.result) refl (stopped_first fault (n + 1) more) e
     where
       go : (o : Option Fault) → fault_of n s.result ≡ o
           → (first_fault (n + 1) more ≡ Some fault → (number : ℕ) × (stop : Stop) × (fault ≡ InSession number stop)
-          × IsFirstStopped more stop)
+          × IsFirstFrom (n + 1) more number stop)
           → or_later o (first_fault (n + 1) more) ≡ Some fault
-          → (number : ℕ) × (stop : Stop) × (fault ≡ InSession number stop) × IsFirstStopped (s ∷ more) stop
+          → (number : ℕ) × (stop : Stop) × (fault ≡ InSession number stop) × IsFirstFrom n (s ∷ more) number stop
       go None is rest e =
           let later = rest e in
           let at = later.3 in (
@@ -133,6 +208,7 @@ module _ {A : Type 0} {first : Session} {stack : Stacked} where
               stopped = at.stopped;
               after = at.after;
               served_are = ap (λ xs. s ∷ xs) at.served_are;
+              number_is = at.number_is ∙ omega arith;
               whole = (whole_of n s.result is, at.whole);
               result_is = at.result_is;
             },
@@ -147,13 +223,14 @@ module _ {A : Type 0} {first : Session} {stack : Stacked} where
               stopped = s;
               after = more;
               served_are = refl;
+              number_is = omega arith;
               whole = tt;
               result_is = its.1;
             },
           )
 
   -- the fault that sessions end with is that of one of them, or that no client could be accepted
-  pub of_sessions : (count : ℕ) (fault : Fault) → AreServed A first stack count (Some fault)
+  pub of_sessions : {clients : Accepting} (count : ℕ) (fault : Fault) → AreServed A first stack count (Some fault) clients
       → (fault ≡ Accept) ⊎ ((number : ℕ) × (stop : Stop) × (fault ≡ InSession number stop) × (t : Trace) × IsSession {A = A} first stack t
       (Err stop))
   of_sessions count fault a =
@@ -165,24 +242,59 @@ module _ {A : Type 0} {first : Session} {stack : Stacked} where
         | inr e ↦ inl (cc)
       ]
 
-  tells : (count status : ℕ) (fault : Option Fault) → status ≡ status_at fault → AreServed A first stack count fault
-      → TellsOfSessions A first stack count status
+  -- what sessions that end with this fault, or none, tell
+  pub tells : {clients : Accepting} (count status : ℕ) (fault : Option Fault) → status ≡ status_at fault
+      → AreServed A first stack count fault clients → TellsOfSessions A first stack count fault status
   tells count status None e a =
       elim a.ends [
-        | inl s ↦ record { served = a.served; which = inl (s.0, e, none_stopped 1 a.served (sym s.1)) }
+        | inl s ↦ record { served = a.served; which = inl (s.0, refl, e, none_stopped 1 a.served (sym s.1)) }
         | inr s ↦ absurd (cc)
       ]
   tells count status (Some fault) e a =
       elim a.ends [
         | inl s ↦
             let at = stopped_first fault 1 a.served (sym s.1) in
-            record { served = a.served; which = inr (inl (s.0, at.1, e ∙ ap status_of at.2, at.3)) }
+            let f = at.3 in
+            record {
+              served = a.served;
+              which = inr (inl (
+                s.0,
+                at.0,
+                at.1,
+                ap Some at.2,
+                e ∙ ap status_of at.2,
+                record {
+                  before = f.before;
+                  stopped = f.stopped;
+                  after = f.after;
+                  served_are = f.served_are;
+                  number_is = f.number_is;
+                  whole = f.whole;
+                  result_is = f.result_is;
+                },
+              ));
+            }
         | inr s ↦
             let is : fault ≡ Accept = cc in
-            record { served = a.served; which = inr (inr (s.0, e ∙ ap status_of is)) }
+            record { served = a.served; which = inr (inr (s.0, s.1, e ∙ ap status_of is)) }
       ]
 
+  -- a session that was served to its end met it once, and neither side of it failed
+  pub met_its_end : (t : Trace) (done : Done A) → IsSession first stack t (Ok done) → HasMetItsEnd t
+  met_its_end t done s = record {
+    ends = s.run.counted.ends ∙ ap (λ (p : Pulls). p.ends + 1) s.first_pull;
+    reads = s.run.counted.read ∙ ap (λ (p : Pulls). p.failures + 0) s.first_pull;
+    writes = s.run.counted.write ∙ ap (λ (p : Pushes). p.failures + 0) s.first_push;
+  }
+
+  -- one that a failed read or write ended counts that one failure
+  pub failed_to_read : (t : Trace) → IsSession {A = A} first stack t (Err Read) → t.source.failures ≡ 1
+  failed_to_read t s = s.run.counted.read ∙ ap (λ (p : Pulls). p.failures + 1) s.first_pull
+
+  pub failed_to_write : (t : Trace) → IsSession {A = A} first stack t (Err Write) → t.sink.failures ≡ 1
+  failed_to_write t s = s.run.counted.write ∙ ap (λ (p : Pushes). p.failures + 1) s.first_push
+
 -- what the status of sessions tells, whatever they end with
-pub sessions_tell : (A : Type 0) (first : Session) (stack : Stacked) (count status : ℕ) → EndWith A first stack count status
-    → TellsOfSessions A first stack count status
-sessions_tell A first stack count status e = tells count status e.fault e.status_is e.served
+pub sessions_tell : (A : Type 0) (first : Session) (stack : Stacked) (count status : ℕ) (clients : Accepting)
+    → EndWith A first stack count status clients → (fault : Option Fault) × TellsOfSessions A first stack count fault status
+sessions_tell A first stack count status clients e = (e.fault, tells count status e.fault e.status_is e.served)

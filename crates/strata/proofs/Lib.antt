@@ -8,3 +8,4 @@ pub mod Listed
 pub mod Statuses
 pub mod Mounts
 pub mod Blames
+pub mod Told

@@ -16,10 +16,10 @@ use Rattle.strata.specs.Ending.{IsNotListed}
 -- a list that was broken off did not list the stack, and its fault tells why
 pub list_stopped : {profile : Profile} {images : List (List ℕ)} {stack : Stacked} (old new : SinkState) (r : Result (Unit {0}) Fault)
     (fault : ListFault)
-    → AreStacked profile images stack → IsBrokenOff old new fault → IsErrAnd r (λ told. told ≡ list_told_of fault)
+    → AreStacked profile images stack → IsBrokenOff stack old new fault → IsErrAnd r (λ told. told ≡ list_told_of fault)
     → IfErr r (λ told. IsNotListed profile images told old new)
 list_stopped old new (Ok u) fault s b e = absurd e
-list_stopped old new (Err told) Write s b e = inr (record { told = e; failed = b })
+list_stopped {stack = stack} old new (Err told) Write s b e = inr (record { told = e; stack = stack; stacked = s; broken = b })
 list_stopped old new (Err told) Memory s b e = inl (
   record { stop = stops.Memory; told = e; refused = s.layers.few },
   b,

@@ -85,7 +85,7 @@ work_other A verbs.Check line images fault old new s =
         ]
         | inr m ↦ told_as fault out_of_memory m five_is_other
       ]
-      | inr l ↦ told_as fault (Stopped stops.Write) l.told one_is_other
+      | inr l ↦ told_as fault (Stopped stops.Write) l.lost.told one_is_other
     ]
 work_other A verbs.List line images fault old new s =
     elim s.1 [
@@ -204,7 +204,7 @@ work_bad A verbs.Check line images fault old new s e =
         ]
         | inr m ↦ absurd (five_is_more (three_of fault out_of_memory m e))
       ]
-      | inr l ↦ absurd (one_is_less (three_of fault (Stopped stops.Write) l.told e))
+      | inr l ↦ absurd (one_is_less (three_of fault (Stopped stops.Write) l.lost.told e))
     ]
 work_bad A verbs.List line images fault old new s e =
     elim s.1 [

@@ -1,10 +1,10 @@
 -- What a command leaves behind: its status, and what its output gained.
-use Rattle.std.specs.Prelude.{◌≡◌, ◌≢◌, ◌<◌, ◌+◌, ◌⊎◌, ◌||◌, ℕ, List, true, Option, Some, None, is_some, length, vec_len, Result, Ok, Err, OnOk, MatchResult, if◌then◌else◌}
+use Rattle.std.specs.Prelude.{◌≡◌, ◌≢◌, ◌<◌, ◌+◌, ◌⊎◌, ◌||◌, ℕ, List, true, Option, Some, None, is_some, length, vec_len, Result, Ok, Err, OnOk, if◌then◌else◌}
 use Rattle.std.specs.Io.KnownBytes.{Appends, Consumes, IsAtEnd}
 use Rattle.romfs_format.specs.declared.rule.Profile.{Profile}
 use Rattle.romfs_format.specs.declared.rule.Profile.TheVariants.{Usual, Strict}
-use Rattle.devices.specs.Counting.{no_pulls, no_pushes}
-use Rattle.devices.specs.Pushing.{HasFlushed}
+use Rattle.devices.specs.Counting.{no_pulls, no_pushes, no_accepts}
+use Rattle.devices.specs.Pushing.{HasFlushed, GainsFront}
 use Rattle.devices.specs.States.{SourceState, SinkState, Devices}
 use Rattle.fuse_wire.specs.declared.limits.TheConstants.{MAX_TURNS}
 use Rattle.stack_table.specs.Stacked.{Stacked}
@@ -16,7 +16,8 @@ use Rattle.serve_loop.specs.Serving.{Trace}
 use Rattle.reply_model.specs.declared.session.Session.{Session}
 use Rattle.reply_model.specs.declared.session.Session.TheVariants.{Fresh, LastingFresh}
 use Rattle.serve_core.specs.Headline.{Serves}
-use Rattle.path_list.specs.Faults.{Lists}
+use Rattle.path_list.specs.declared.walk.ListFault.TheVariants.{Write}
+use Rattle.path_list.specs.Faults.{Lists, IsBrokenOff}
 use Rattle.command_line.specs.declared.options.Line.{Line}
 use Rattle.command_line.specs.declared.options.LineFault.{LineFault}
 use Rattle.command_line.specs.declared.options.Verb.{Verb}
@@ -26,7 +27,7 @@ use Rattle.strata.specs.declared.faults.Fault.{Fault}
 use Rattle.strata.specs.declared.faults.Fault.TheVariants.{ImageFile, RequestsFile, RepliesFile, BalancesFile, Bind, Accept, InSession, Stopped}
 use Rattle.strata.specs.Faults.{AreSizes, IsFirstFault, line_told_of, status_of, out_of_memory, write_failed}
 use Rattle.strata.specs.Texts.{size_lines}
-use Rattle.strata.specs.Sessions.{AreServed, status_at}
+use Rattle.strata.specs.Sessions.{Accepting, AreServed, status_at}
 
 -- the rules that a line holds images to
 abbrev pub profile_of : Line → Profile
@@ -51,14 +52,17 @@ pub record ArePut (lines : List ℕ) (old new : SinkState) : Type 0 where
   pub written : Appends old.held new.held lines
   pub flushed : HasFlushed lines old.counts new.counts
 
--- a fault of the output is told, and the output failed once more
-pub record IsLost (fault : Fault) (old new : SinkState) : Type 0 where
+-- a fault of the output is told: the output failed once more, and gained the first bytes of these
+-- lines at most
+pub record IsLost (fault : Fault) (lines : List ℕ) (old new : SinkState) : Type 0 where
   pub told : fault ≡ write_failed
   pub failed : new.counts.failures ≡ old.counts.failures + 1
+  pub gained : GainsFront lines old.held new.held
 
 -- lines were not put: the output failed, or memory ran out and it is as it was
-abbrev pub AreNotPut : SinkState → SinkState → Fault → Type 0
-AreNotPut old new fault = IsLost fault old new ⊎ ((fault ≡ out_of_memory) × (new ≡ old))
+abbrev pub AreNotPut : List ℕ → SinkState → SinkState → Fault → Type 0
+AreNotPut lines old new fault =
+    IsLost fault lines old new ⊎ ((fault ≡ out_of_memory) × (new ≡ old))
 
 -- ---- check
 
@@ -68,11 +72,18 @@ pub record AreGood (profile : Profile) (images : List (List ℕ)) (old new : Sin
   pub sizes_are : AreSizes profile images sizes
   pub put : ArePut (size_lines 0 sizes) old new
 
+-- these images are good, but the output failed as it took the lines of their sizes
+pub record AreUntold (profile : Profile) (images : List (List ℕ)) (fault : Fault)
+    (old new : SinkState) : Type 0 where
+  pub sizes : List ℕ
+  pub sizes_are : AreSizes profile images sizes
+  pub lost : IsLost fault (size_lines 0 sizes) old new
+
 -- a check stopped: one of the images is to blame or memory ran out, and the output is as it was; or
 -- the output failed
 abbrev pub AreNotGood : Profile → List (List ℕ) → Fault → SinkState → SinkState → Type 0
 AreNotGood profile images fault old new =
-    (IsFirstFault profile images fault × (new ≡ old)) ⊎ IsLost fault old new
+    (IsFirstFault profile images fault × (new ≡ old)) ⊎ AreUntold profile images fault old new
 
 -- ---- list
 
@@ -91,10 +102,19 @@ pub record AreNotStacked (profile : Profile) (images : List (List ℕ))
   pub told : fault ≡ Stopped stop
   pub refused : AreRefused profile images stop
 
+-- the images are good, but the output failed as it took the lines of their paths
+pub record IsListLost (profile : Profile) (images : List (List ℕ)) (fault : Fault)
+    (old new : SinkState) : Type 0 where
+  pub told : fault ≡ write_failed
+  pub stack : Stacked
+  pub stacked : AreStacked profile images stack
+  pub broken : IsBrokenOff stack old new Write
+
 -- a list stopped: so, and the output is as it was; or the output failed
 abbrev pub IsNotListed : Profile → List (List ℕ) → Fault → SinkState → SinkState → Type 0
 IsNotListed profile images fault old new =
-    (AreNotStacked profile images fault × (new ≡ old)) ⊎ IsLost fault old new
+    (AreNotStacked profile images fault × (new ≡ old))
+    ⊎ IsListLost profile images fault old new
 
 -- ---- serve
 
@@ -175,13 +195,15 @@ IsNotServed A line images fault old new =
 
 -- ---- socket
 
--- the images are good, and sessions were served over their stack, which end with this fault, or
--- with none
+-- the images are good, and sessions were served over their stack to clients of a socket that had
+-- none before, which end with this fault, or with none
 pub record IsServedAtSocket (A : Type 0) (line : Line) (images : List (List ℕ))
     (fault : Option Fault) : Type 0 where
   pub stack : Stacked
   pub stacked : AreStacked (profile_of line) images stack
-  pub served : AreServed A (first_of line) stack line.sessions fault
+  pub clients : Accepting
+  pub first_client : clients.before ≡ no_accepts
+  pub served : AreServed A (first_of line) stack line.sessions fault clients
 
 -- and this is their status
 pub record EndsAtSocket (A : Type 0) (line : Line) (images : List (List ℕ))
@@ -262,10 +284,6 @@ pub record AreNotTaken (words : List (List ℕ)) (fault : Fault) : Type 0 where
 pub record IsEarly (words : List (List ℕ)) (fault : Fault) (old new : Devices) : Type 0 where
   pub kept : new ≡ old
   pub which : AreNotTaken words fault ⊎ (HasUnreadImage words fault ⊎ (fault ≡ out_of_memory))
-
--- these words were read: their line, or the fault of them
-abbrev pub IsReadAs : List (List ℕ) → Result Line LineFault → Type 0
-IsReadAs words line = MatchResult line (IsLineOf words) (IsLineFault words)
 
 -- the program stopped with a fault, before its work or in it
 abbrev pub EndsInFault : (A : Type 0) → List (List ℕ) → Fault → Devices → Devices → Type 0

@@ -1,5 +1,5 @@
 -- What the exit statuses mean to a caller.
-use Rattle.std.specs.Prelude.{◌≡◌, ◌<◌, ℕ, ◌⊎◌, ⊤, List, ◌∷◌, ◌++◌, length, All, Ok, Err}
+use Rattle.std.specs.Prelude.{◌≡◌, ◌<◌, ◌+◌, ℕ, ◌⊎◌, ⊤, List, ◌∷◌, ◌++◌, length, All, Option, Some, None, Ok, Err}
 use Rattle.std.specs.List.{AllByRecursion}
 use Rattle.romfs_format.specs.declared.rule.Profile.{Profile}
 use Rattle.romfs_format.specs.Rules.{IsSoundAs}
@@ -9,6 +9,7 @@ use Rattle.romfs_format.specs.declared.rule.ImageFault.{ImageFault}
 use Rattle.serve_loop.specs.declared.stop.Stop.{Stop}
 use Rattle.serve_loop.specs.declared.stop.Stop.TheVariants.{Layer, Layers, BadLength, CutOff, Read, Write, Turns, Memory}
 use Rattle.serve_loop.specs.declared.done.Done.{Done}
+use Rattle.serve_loop.specs.Serving.{Trace}
 use Rattle.layer_check.specs.Layers.{IsFew}
 use Rattle.command_line.specs.declared.options.Line.{Line}
 use Rattle.command_line.specs.CommandLine.{IsLineOf}
@@ -35,26 +36,34 @@ abbrev pub IsWhole : {A : Type 0} {first : Session} {stack : Stacked} → Served
     → Type 0
 IsWhole {A} s = (done : Done A) × (s.result ≡ Ok done)
 
--- of these sessions the first that stopped did so for this
+-- of these sessions the first that stopped has this number, counted from 1, and did so for this
 pub record IsFirstStopped {A : Type 0} {first : Session} {stack : Stacked}
-    (served : List (Served A first stack)) (stop : Stop) : Type 0 where
+    (served : List (Served A first stack)) (number : ℕ) (stop : Stop) : Type 0 where
   pub before : List (Served A first stack)
   pub stopped : Served A first stack
   pub after : List (Served A first stack)
   pub served_are : served ≡ before ++ stopped ∷ after
+  pub number_is : number ≡ 1 + length before
   pub whole : AllByRecursion IsWhole before
   pub result_is : stopped.result ≡ Err stop
 
--- what the status of sessions tells: all were served, and to their end; or all were served, and it
--- is that of the first that stopped; or fewer were
+-- what the fault and the status of sessions tell: all were served, and to their end; or all were
+-- served, and they are those of the first that stopped; or fewer were
 pub record TellsOfSessions (A : Type 0) (first : Session) (stack : Stacked)
-    (count status : ℕ) : Type 0 where
+    (count : ℕ) (fault : Option Fault) (status : ℕ) : Type 0 where
   pub served : List (Served A first stack)
   pub which :
-      ((length served ≡ count) × (status ≡ 0) × AllByRecursion IsWhole served)
-      ⊎ (((length served ≡ count) × (stop : Stop) × (status ≡ stop_status stop)
-      × IsFirstStopped served stop)
-      ⊎ ((length served < count) × (status ≡ 1)))
+      ((length served ≡ count) × (fault ≡ None) × (status ≡ 0) × AllByRecursion IsWhole served)
+      ⊎ (((length served ≡ count) × (number : ℕ) × (stop : Stop)
+      × (fault ≡ Some (InSession number stop)) × (status ≡ stop_status stop)
+      × IsFirstStopped served number stop)
+      ⊎ ((length served < count) × (fault ≡ Some Accept) × (status ≡ 1)))
+
+-- a session met its end once, and neither side of it failed
+pub record HasMetItsEnd (t : Trace) : Type 0 where
+  pub ends : t.source.ends ≡ 1
+  pub reads : t.source.failures ≡ 0
+  pub writes : t.sink.failures ≡ 0
 
 -- ---- which faults have which status
 

@@ -1,5 +1,6 @@
 -- What sessions at a socket come to, served one after another.
 use Rattle.std.specs.Prelude.{◌≡◌, ◌<◌, ◌+◌, ◌⊎◌, ℕ, List, [], ◌∷◌, length, Option, Some, None, Result, Ok, Err}
+use Rattle.devices.specs.declared.counts.Accepts.{Accepts}
 use Rattle.devices.specs.Counting.{no_pulls, no_pushes}
 use Rattle.fuse_wire.specs.declared.limits.TheConstants.{MAX_TURNS}
 use Rattle.stack_table.specs.Stacked.{Stacked}
@@ -49,11 +50,35 @@ EndsSessions count served fault =
     ((length served ≡ count) × (fault ≡ first_fault 1 served))
     ⊎ ((length served < count) × (fault ≡ Some Accept))
 
--- so many sessions were asked for, and they end with this fault, or with none
+-- the counts of what gives clients, before sessions and after them
+pub record Accepting : Type 0 where
+  pub before : Accepts
+  pub after : Accepts
+
+-- the same, of these two
+abbrev pub accepting : Accepts → Accepts → Accepting
+accepting before after = record { before = before; after = after }
+
+-- how often no client could be accepted
+abbrev pub accept_failures : Option Fault → ℕ
+accept_failures (Some Accept) = 1
+accept_failures _ = 0
+
+-- as many clients were accepted as sessions were served; and an accept failed where that is the
+-- fault, and nowhere else
+pub record HaveClients {A : Type 0} {first : Session} {stack : Stacked}
+    (served : List (Served A first stack)) (fault : Option Fault)
+    (clients : Accepting) : Type 0 where
+  pub accepted : clients.after.clients ≡ clients.before.clients + length served
+  pub failures : clients.after.failures ≡ clients.before.failures + accept_failures fault
+
+-- so many sessions were asked for, each of a client of its own, and they end with this fault, or
+-- with none
 pub record AreServed (A : Type 0) (first : Session) (stack : Stacked) (count : ℕ)
-    (fault : Option Fault) : Type 0 where
+    (fault : Option Fault) (clients : Accepting) : Type 0 where
   pub served : List (Served A first stack)
   pub ends : EndsSessions count served fault
+  pub have : HaveClients served fault clients
 
 -- the exit status of a fault, or of none
 abbrev pub status_at : Option Fault → ℕ
@@ -62,7 +87,7 @@ status_at (Some fault) = status_of fault
 
 -- so many sessions were asked for, and they end with this status
 pub record EndWith (A : Type 0) (first : Session) (stack : Stacked)
-    (count status : ℕ) : Type 0 where
+    (count status : ℕ) (clients : Accepting) : Type 0 where
   pub fault : Option Fault
   pub status_is : status ≡ status_at fault
-  pub served : AreServed A first stack count fault
+  pub served : AreServed A first stack count fault clients

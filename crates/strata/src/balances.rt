@@ -36,7 +36,8 @@ fn put_balances<K: Sink, A: Allocator>(
     requires { (K.state sink.old).counts.failures < 2 ^ 63 }
     ensures ok { OnOk result (ArePut (balance_lines 1 balances.now)
         (K.state sink.old) (K.state sink.new)) }
-    ensures err { IfErr result (AreNotPut (K.state sink.old) (K.state sink.new)) }
+    ensures err { IfErr result (AreNotPut (balance_lines 1 balances.now)
+        (K.state sink.old) (K.state sink.new)) }
 {
     let lines = lines_of(alloc, balances)?;
     put_lines(sink, lines.as_bytes())

@@ -3,12 +3,14 @@
 //! A session is the stream of one client: it begins with a new connection, and the connection is
 //! closed where it ends. All sessions are served over one table, each as a stream of its own.
 
-ghost use Rattle.std.specs.Prelude.{◌≡◌};
+ghost use Rattle.std.specs.Prelude.{◌≡◌, ◌<◌, ◌^◌};
+ghost use Rattle.devices.specs.Counting.{no_accepts};
+ghost use Rattle.devices.specs.declared.counts.Accepts.{Accepts};
 ghost use Rattle.serve_loop.specs.Serving.{Trace};
-ghost use Rattle.strata.specs.Sessions.{fault_of, status_at, EndWith, IsSession, Served};
+ghost use Rattle.strata.specs.Sessions.{accepting, fault_of, status_at, EndWith, IsSession, Served};
 
 use crate::faults::Fault;
-use devices::{Spout, Tap};
+use devices::{Clients, Listening, Spout, Tap};
 use serve_core::{Done, FreePass, MAX_TURNS, Plan, Session, Stop, Terms, run};
 use stack_table::Table;
 use std::alloc::Allocator;
@@ -32,36 +34,42 @@ pub fn sessions<R: Threads + Sync, A: Allocator + Copy + Send + Sync, E: Write>(
     plan: Plan,
     faults: &mut E,
 ) -> u8
-    ensures { EndWith A Session.Fresh table.now count result }
+    ensures { (after : Accepts)
+        × EndWith A Session.Fresh table.now count result (accepting no_accepts after) }
 {
+    let mut clients = Listening::new(listener);
     sessions_from(
         rt,
         alloc,
         table,
         Session::Fresh,
-        listener,
+        &mut clients,
         count,
         plan,
         faults,
     )
 }
 
-/// The same, of streams that begin in the session `first`, as [`serve_core::run`] serves them.
-pub fn sessions_from<R: Threads + Sync, A: Allocator + Copy + Send + Sync, E: Write>(
+/// The same of any clients, in streams that begin in the session `first`, as [`serve_core::run`]
+/// serves them. A session is one client, and none but these is accepted.
+pub fn sessions_from<R: Threads + Sync, A: Allocator + Copy + Send + Sync, C: Clients, E: Write>(
     rt: &R,
     alloc: A,
     table: &Table<A>,
     first: Session,
-    listener: &UnixListener,
+    clients: &mut C,
     count: u32,
     plan: Plan,
     faults: &mut E,
 ) -> u8
-    ensures { EndWith A first table.now count result }
+    requires clients { (C.counts clients.old).clients < 2 ^ 63 }
+    requires failures { (C.counts clients.old).failures < 2 ^ 63 }
+    ensures { EndWith A first table.now count result
+        (accepting (C.counts clients.old) (C.counts clients.new)) }
 {
     let mut status = 0;
     for served in 0..count {
-        let Ok((client, _)) = listener.accept() else {
+        let Ok(client) = clients.accept() else {
             return Fault::Accept.end(faults);
         };
         let ended = serve_session(rt, alloc, table, first, client, served + 1, plan, faults);

@@ -1,18 +1,25 @@
 //! What can go wrong in the program: a line for standard error and an exit status each.
 
-ghost use Rattle.std.specs.Prelude.{◌≡◌, ◌++◌, ◌∷◌, [], OnOk};
+ghost use Rattle.std.specs.Prelude.{◌≡◌, ◌++◌, ◌∷◌, [], OnOk, IfSome};
 ghost use Rattle.std.specs.Io.KnownBytes.{Appends};
+ghost use Rattle.devices.specs.Pushing.{GainsFront};
 ghost use Rattle.strata.specs.Faults.{status_of, stop_status};
 ghost use Rattle.strata.specs.Texts.{fault_text, stop_text};
 
+use crate::lines::write_bytes;
+use arrayvec::ArrayString;
 use command_line::LineFault;
 use image_files::FilesFault;
 use path_list::ListFault;
 use romfs_check::ImageFault;
 use serve_core::Stop;
 use std::alloc::{AllocError, AllocFailed};
+use std::fmt::Write as _;
 use std::io::Write;
 use std::{fmt, io};
+
+/// How many bytes a line has room for before it is written: as many as a pipe takes at once.
+const LINE: usize = 4096;
 
 /// Why the program stopped. Its `Display` is the line for standard error.
 #[derive(Debug, Drop)]
@@ -56,22 +63,65 @@ impl Fault {
         }
     }
 
-    /// Writes its line, and flushes. An error is the writer's.
+    /// Writes its line, and flushes. A line goes out in one write, so that no other program's text
+    /// stands inside it; longer text of the command line in two. An error is the writer's: it has
+    /// the first bytes of the line at most.
     pub fn tell<W: Write>(&self, writer: &mut W) -> io::Result<()>
-        ensures { OnOk result (Appends (W.contents writer.old) (W.contents writer.new)
+        ensures whole { OnOk result (Appends (W.contents writer.old) (W.contents writer.new)
             (fault_text self.now ++ 10 ∷ [])) }
+        ensures front { GainsFront (fault_text self.now ++ 10 ∷ [])
+            (W.contents writer.old) (W.contents writer.new) }
     {
-        writeln!(writer, "{self}")?;
+        self.write_line(writer)?;
         writer.flush()
     }
 
-    /// Writes its line, whatever comes of that, and gives the exit status.
+    /// Writes its line, or as much of it as the writer takes, and gives the exit status.
     pub fn end<W: Write>(&self, writer: &mut W) -> u8
-        ensures { result ≡ status_of self.now }
+        ensures status { result ≡ status_of self.now }
+        ensures told { GainsFront (fault_text self.now ++ 10 ∷ [])
+            (W.contents writer.old) (W.contents writer.new) }
     {
         let _ = self.tell(writer);
         self.status()
     }
+
+    // Writes its line.
+    fn write_line<W: Write>(&self, writer: &mut W) -> io::Result<()>
+        ensures whole { OnOk result (Appends (W.contents writer.old) (W.contents writer.new)
+            (fault_text self.now ++ 10 ∷ [])) }
+        ensures front { GainsFront (fault_text self.now ++ 10 ∷ [])
+            (W.contents writer.old) (W.contents writer.new) }
+    {
+        match (self.line(), self) {
+            (Some(line), _) => write_bytes(writer, line.as_str().as_bytes()),
+            (None, Fault::Usage { text }) => write_long(writer, text.as_bytes()),
+            (None, _) => Err(io::Error::from(io::ErrorKind::InvalidData)),
+        }
+    }
+
+    // Its line with its end, where there is room for it: only the text of the command line may be
+    // longer.
+    fn line(&self) -> Option<ArrayString<LINE>>
+        ensures { IfSome result (λ line. line.bytes ≡ fault_text self.now ++ 10 ∷ []) }
+    {
+        let mut line = ArrayString::new();
+        match writeln!(line, "{self}") {
+            Ok(()) => Some(line),
+            Err(_) => None,
+        }
+    }
+}
+
+// Writes a text and the end of its line.
+fn write_long<W: Write>(writer: &mut W, text: &[u8]) -> io::Result<()>
+    ensures whole { OnOk result (Appends (W.contents writer.old) (W.contents writer.new)
+        (text.now ++ 10 ∷ [])) }
+    ensures front { GainsFront (text.now ++ 10 ∷ [])
+        (W.contents writer.old) (W.contents writer.new) }
+{
+    write_bytes(writer, text)?;
+    write_bytes(writer, b"\n")
 }
 
 // The exit status where serving stopped.

@@ -1,6 +1,6 @@
 //! What the exit statuses mean, by what [`crate::command`] and [`crate::sessions_from`] promise.
 
-ghost use Rattle.std.specs.Prelude.{◌≡◌, ◌≤◌, ◌⊎◌, ℕ, List, Bool, true, false, is_some};
+ghost use Rattle.std.specs.Prelude.{◌≡◌, ◌≢◌, ◌≤◌, ◌⊎◌, ℕ, List, Bool, true, false, is_some, Option, Ok, Err};
 ghost use Rattle.command_line.specs.CommandLine.{IsTaken, IsMisnumbered, IsCrossed};
 ghost use Rattle.command_line.specs.declared.options.Line.{Line};
 ghost use Rattle.command_line.specs.declared.options.Verb.TheVariants as verbs;
@@ -10,11 +10,14 @@ ghost use Rattle.strata.specs.Ending.{EndsWith, IsServedWhole, IsFileFault, IsDo
 ghost use Rattle.stack_table.specs.Stacked.{Stacked};
 ghost use Rattle.reply_model.specs.declared.session.Session.{Session};
 ghost use Rattle.reply_model.specs.declared.session.Session.TheVariants.{Fresh, LastingFresh};
-ghost use Rattle.strata.specs.Sessions.{EndWith};
+ghost use Rattle.serve_loop.specs.declared.done.Done.{Done};
+ghost use Rattle.serve_loop.specs.Serving.{Trace};
+ghost use Rattle.fuse_device.specs.Ends.{MountEnds};
+ghost use Rattle.strata.specs.Sessions.{status_at, Accepting, AreServed, EndWith, IsSession};
 ghost use Rattle.strata.specs.declared.faults.Fault.{Fault};
 ghost use Rattle.strata.specs.declared.faults.Fault.TheVariants.{Stopped};
-ghost use Rattle.strata.specs.Laws.{AreToBlame, HasStatusOf, TellsOfSessions};
-ghost use Rattle.strata.specs.Mounts.{is_taken_away};
+ghost use Rattle.strata.specs.Laws.{AreToBlame, HasMetItsEnd, HasStatusOf, TellsOfSessions};
+ghost use Rattle.strata.specs.Mounts.{is_taken_away, IsRunOnDevice, IsTakenAway, StopsWhere};
 
 use std::alloc::Allocator;
 
@@ -38,12 +41,37 @@ pub fn each_status_has_its_faults()
     ensures { (fault : Fault) → HasStatusOf fault }
 {}
 
-/// Sessions end with 0 where all of them were served to their end; else with the status of the
-/// first that stopped; or with 1 after fewer sessions than were asked for.
-#[tactic(auto, using(crate::proofs::InTurn::sessions_tell))]
+/// Sessions end with no fault and 0 where all of them were served to their end; else with the fault
+/// of the first that stopped, which has its number, and with its status; or with 1 after fewer
+/// sessions than were asked for, since no client could be accepted.
 pub fn sessions_tell<A: Allocator>()
-    ensures { (first : Session) (stack : Stacked) (count status : ℕ) →
-        EndWith A first stack count status → TellsOfSessions A first stack count status }
+    ensures faults { (first : Session) (stack : Stacked) (count : ℕ) (fault : Option Fault)
+        (clients : Accepting) → AreServed A first stack count fault clients →
+        TellsOfSessions A first stack count fault (status_at fault) }
+    ensures statuses { (first : Session) (stack : Stacked) (count status : ℕ)
+        (clients : Accepting) → EndWith A first stack count status clients →
+        (fault : Option Fault) × TellsOfSessions A first stack count fault status }
+{}
+
+/// A session counts by itself: one that was served whole met its end once, and nothing failed; one
+/// that a failed read or write stopped has that one failure.
+pub fn sessions_begin_anew<A: Allocator>()
+    ensures whole { (first : Session) (stack : Stacked) (t : Trace) (done : Done A) →
+        IsSession first stack t (Ok done) → HasMetItsEnd t }
+    ensures read { (first : Session) (stack : Stacked) (t : Trace) →
+        IsSession {A = A} first stack t (Err Read) → t.source.failures ≡ 1 }
+    ensures write { (first : Session) (stack : Stacked) (t : Trace) →
+        IsSession {A = A} first stack t (Err Write) → t.sink.failures ≡ 1 }
+{}
+
+/// Over an open `/dev/fuse` a status other than 0 means what it means over streams; and where the
+/// mount was taken away the status is 0, and a read or a write had failed.
+pub fn statuses_tell_of_mounts<A: Allocator>()
+    ensures there { (words : List (List ℕ)) (n : ℕ) (old new : MountEnds) →
+        IsRunOnDevice A words n old new → n ≢ 0 → EndsWith A words n old.devices new.devices }
+    ensures taken_away { (words : List (List ℕ)) (n : ℕ) (old new : MountEnds) →
+        StopsWhere A words true n old new →
+        (n ≡ 0) × IsTakenAway A words old.devices new.devices }
 {}
 
 /// Over a device, and where the line asks for it, the client is told that the tree lasts; else not.

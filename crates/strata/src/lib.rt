@@ -1,12 +1,15 @@
 //! The program `strata`: FUSE requests answered over a stack of romfs images.
 //!
-//! [`command`] is the whole program over its command line and its three standard streams,
-//! [`command_on_device`] the same over an open `/dev/fuse`; [`sessions`] serves the clients of a
-//! Unix socket that is already bound, one after another; [`faults`] has a line and an exit status
-//! for each thing that can go wrong. `command_line` reads the words, `image_files` the files of
-//! images; `serve_core` checks images, stacks them and serves a stream over them, `path_list`
-//! writes the paths that a stack shows, and `fuse_device` knows where a mount was taken away.
-//! `checking`, `listing`, `serving` and `listening` are the four commands.
+//! [`command`] is the whole program over its command line and its three standard streams: it reads
+//! the line once, and runs it by [`command_on_device`] where that says that the streams are an open
+//! `/dev/fuse`, else by [`command_on_streams`]. [`sessions`] serves the clients of a Unix socket
+//! that is already bound, one after another, and [`sessions_from`] those of anything that gives
+//! clients. [`faults`] has a line and an exit status for each thing that can go wrong.
+//!
+//! `command_line` reads the words, `image_files` the files of images; `serve_core` checks images,
+//! stacks them and serves a stream over them, `path_list` writes the paths that a stack shows, and
+//! `fuse_device` knows where a mount was taken away. `checking`, `listing`, `serving` and
+//! `listening` are the four commands.
 #![tactic(auto)]
 
 mod balances;
@@ -25,4 +28,4 @@ mod settings;
 pub use clients::{sessions, sessions_from};
 pub use command_line::{Line, LineFault, line};
 pub use faults::Fault;
-pub use program::{command, command_on_device};
+pub use program::{command, command_on_device, command_on_streams};

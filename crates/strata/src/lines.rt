@@ -1,17 +1,39 @@
 //! Lines that are put whole.
 
 ghost use Rattle.std.specs.Prelude.{◌<◌, ◌^◌, OnOk, IfErr};
+ghost use Rattle.std.specs.Io.KnownBytes.{Appends};
+ghost use Rattle.devices.specs.Pushing.{GainsFront};
 ghost use Rattle.strata.specs.Ending.{ArePut, IsLost};
 
 use crate::faults::Fault;
 use devices::{Sink, hand_on};
 use serve_core::Stop;
+use std::io::{self, Error, ErrorKind, Write};
 
-/// Puts lines to a sink, and flushes it where there are any.
+/// Puts lines to a sink, and flushes it where there are any. Where the sink fails it holds the
+/// first of their bytes, and is not called again.
 pub fn put_lines<K: Sink>(sink: &mut K, lines: &[u8]) -> Result<(), Fault>
     requires { (K.state sink.old).counts.failures < 2 ^ 63 }
     ensures ok { OnOk result (ArePut lines.now (K.state sink.old) (K.state sink.new)) }
-    ensures err { IfErr result (λ fault. IsLost fault (K.state sink.old) (K.state sink.new)) }
+    ensures err { IfErr result (λ fault.
+        IsLost fault lines.now (K.state sink.old) (K.state sink.new)) }
 {
     hand_on(sink, lines).map_err(|_| Fault::Stopped(Stop::Write))
+}
+
+/// Writes bytes, in one write where the writer takes them all. Where a write fails, or takes none,
+/// the writer holds the first of them, and is not called again.
+pub fn write_bytes<W: Write>(writer: &mut W, bytes: &[u8]) -> io::Result<()>
+    ensures whole { OnOk result (Appends (W.contents writer.old) (W.contents writer.new)
+        bytes.now) }
+    ensures front { GainsFront bytes.now (W.contents writer.old) (W.contents writer.new) }
+{
+    let mut rest = bytes;
+    while !rest.is_empty() {
+        match writer.write(rest)? {
+            0 => return Err(Error::from(ErrorKind::WriteZero)),
+            n => rest = &rest[n..],
+        }
+    }
+    Ok(())
 }

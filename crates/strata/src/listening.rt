@@ -9,6 +9,7 @@ use crate::clients::sessions_from;
 use crate::faults::Fault;
 use crate::settings::{first_of, plan_of, profile_of};
 use command_line::Line;
+use devices::Listening;
 use serve_core::{FreePass, prepare_as};
 use std::alloc::Allocator;
 use std::fs::{self, Files};
@@ -37,12 +38,13 @@ pub fn listen<R: Files + Net + Threads + Sync, A: Allocator + Copy + Send + Sync
     let path = line.listen.unwrap();
     let table = prepare_as(rt, alloc, images, profile_of(line), &FreePass)?;
     let listener = bind(rt, path)?;
+    let mut clients = Listening::new(&listener);
     let status = sessions_from(
         rt,
         alloc,
         &table,
         first_of(line),
-        &listener,
+        &mut clients,
         line.sessions,
         plan_of(line),
         faults,

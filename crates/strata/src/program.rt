@@ -6,13 +6,12 @@
 //!
 //! Its functions write the same bounds out: no trait can stand for those on `R::File` and `R::Dir`.
 
-ghost use Rattle.std.specs.Prelude.{◌≡◌, ℕ, List, map, Ok, Err, IfOk, IfErr, MatchResult};
-ghost use Rattle.command_line.specs.CommandLine.{IsInLimits, NamesSocket};
+ghost use Rattle.std.specs.Prelude.{◌≡◌, ℕ, List, map, true, false, Ok, Err, IfOk, IfErr, MatchResult};
+ghost use Rattle.command_line.specs.CommandLine.{IsInLimits, IsLineOf, NamesSocket};
 ghost use Rattle.devices.specs.States.{devices};
-ghost use Rattle.fuse_device.specs.Spouts.{spout_gone};
-ghost use Rattle.fuse_device.specs.Taps.{tap_gone};
-ghost use Rattle.strata.specs.Ending.{AreNew, EndsInFault, IsOverWith, IsReadAs, IsRunOf};
-ghost use Rattle.strata.specs.Mounts.{status_on_device, IsRunOnDevice};
+ghost use Rattle.fuse_device.specs.Ends.{ends, MountEnds};
+ghost use Rattle.strata.specs.Ending.{AreNew, EndsInFault, IsOverWith, IsRunOf};
+ghost use Rattle.strata.specs.Mounts.{mounted, status_on_device, IsRunAsSaid, IsRunBy, IsRunOnDevice};
 
 use crate::checking::check;
 use crate::faults::Fault;
@@ -20,8 +19,8 @@ use crate::listening::listen;
 use crate::listing::list;
 use crate::serving::serve;
 use crate::settings::profile_of;
-use command_line::{Line, LineFault, Verb, line};
-use devices::{Sink, Source};
+use command_line::{Line, Verb, line};
+use devices::{Sink, Source, Spout, Tap};
 use fuse_device::{MessageTap, ReplySpout};
 use image_files::read_images;
 use serve_core::Stop;
@@ -32,49 +31,118 @@ use std::io::{Read, Write};
 use std::net::Net;
 use std::thread::Threads;
 
-/// Runs the program on the words after its name, and gives its exit status.
+/// Runs the program on the words after its name, over a reader and a writer that were not used
+/// before, and gives its exit status. They are the two ends of an open `/dev/fuse` where the line
+/// says `--device`, and nowhere else. A fault of the words, or memory that is refused as they are
+/// read, ends it before either is touched.
 ///
-/// The status is 0 only where the words are a command of the program and its work was done: the
-/// whole stream was answered over the images, and `output` gained all replies, unless a file is
-/// named for them; or all sessions at a socket were served to their end; or `output` gained the
-/// sizes of all images, or the paths that they show. Else the status is that of a [`Fault`], whose
-/// line goes to `faults`; `output` then holds the replies that stand, or is as it was; only where
-/// lines are lost, since `output` failed, nothing is promised of what it holds. `input` is read by
-/// `serve` alone, and only where no file of requests is named.
-///
-/// It asks that neither `input` nor `output` was used before. Memory comes from `alloc`, but for
-/// the command line: `clap` takes the global allocator alone.
+/// What it then does is said of [`command_on_device`] and [`command_on_streams`]. Memory comes from
+/// `alloc`, but for the command line: `clap` takes the global allocator alone.
 pub fn command<
     R: Files + Net + Threads + Sync,
     A: Allocator + Copy + Send + Sync,
     S: AsStr,
-    T: Source,
-    K: Sink,
+    I: Read + Drop,
+    O: Write + Drop,
     E: Write,
->(
-    rt: &R,
-    alloc: A,
-    global: Global,
-    words: &[S],
-    input: &mut T,
-    output: &mut K,
-    faults: &mut E,
-) -> u8
+>(rt: &R, alloc: A, global: Global, words: &[S], reader: I, writer: O, faults: &mut E) -> u8
 where
     R::File: Send,
     R::Dir: Send,
-    requires { AreNew (devices (T.state input.old) (K.state output.old)) }
-    ensures { IsRunOf A (map S.text words.now) result
+    ensures { IsRunAsSaid A (map S.text words.now) result
+        (I.remaining reader) (O.contents writer) }
+{
+    match line(global, words) {
+        Ok(line) => command_of_line(rt, alloc, &line, reader, writer, faults),
+        Err(fault) => Fault::from(fault).end(faults),
+    }
+}
+
+// Runs the program by its line, over the devices that this says.
+fn command_of_line<
+    R: Files + Net + Threads + Sync,
+    A: Allocator + Copy + Send + Sync,
+    I: Read + Drop,
+    O: Write + Drop,
+    E: Write,
+>(rt: &R, alloc: A, line: &Line<'_>, reader: I, writer: O, faults: &mut E) -> u8
+where
+    R::File: Send,
+    R::Dir: Send,
+    requires limits { IsInLimits line.now }
+    requires socket { NamesSocket line.now }
+    ensures { (words : List (List ℕ)) → IsLineOf words line.now →
+        IsRunBy A words result (I.remaining reader) (O.contents writer) line.now }
+{
+    if line.device {
+        return mount(rt, alloc, line, reader, writer, faults);
+    }
+    let mut output = Spout::new(writer);
+    command_on_streams(rt, alloc, line, &mut Tap::new(reader), &mut output, faults)
+}
+
+// Runs the program over an open `/dev/fuse`, once there is room for a message.
+fn mount<
+    R: Files + Net + Threads + Sync,
+    A: Allocator + Copy + Send + Sync,
+    I: Read + Drop,
+    O: Write + Drop,
+    E: Write,
+>(rt: &R, alloc: A, line: &Line<'_>, reader: I, writer: O, faults: &mut E) -> u8
+where
+    R::File: Send,
+    R::Dir: Send,
+    requires device { line.now.device ≡ true }
+    requires limits { IsInLimits line.now }
+    requires socket { NamesSocket line.now }
+    ensures { (words : List (List ℕ)) → IsLineOf words line.now →
+        (new : MountEnds) × IsRunOnDevice A words result (mounted (I.remaining reader)) new }
+{
+    match MessageTap::new(alloc, reader) {
+        Ok(mut input) => {
+            let mut output = ReplySpout::new(writer);
+            command_on_device(rt, alloc, line, &mut input, &mut output, faults)
+        }
+        Err(refused) => Fault::from(refused).end(faults),
+    }
+}
+
+/// Runs the program by a line that does not say `--device`, over a source and a sink.
+///
+/// The status is 0 only where the work of the line was done: the whole stream was answered over the
+/// images, and `output` gained all replies, unless a file is named for them; or all sessions at a
+/// socket were served to their end; or `output` gained the sizes of all images, or the paths that
+/// they show. Else the status is that of a [`Fault`], whose line goes to `faults`; `output` then
+/// holds the replies that stand, or the first bytes of the lines where it failed as it took these,
+/// or is as it was. `input` is read by `serve` alone, and only where no file of requests is named.
+///
+/// It asks that neither `input` nor `output` was used before.
+pub fn command_on_streams<
+    R: Files + Net + Threads + Sync,
+    A: Allocator + Copy + Send + Sync,
+    T: Source,
+    K: Sink,
+    E: Write,
+>(rt: &R, alloc: A, line: &Line<'_>, input: &mut T, output: &mut K, faults: &mut E) -> u8
+where
+    R::File: Send,
+    R::Dir: Send,
+    requires streams { line.now.device ≡ false }
+    requires limits { IsInLimits line.now }
+    requires socket { NamesSocket line.now }
+    requires new { AreNew (devices (T.state input.old) (K.state output.old)) }
+    ensures { (words : List (List ℕ)) → IsLineOf words line.now → IsRunOf A words result
         (devices (T.state input.old) (K.state output.old))
         (devices (T.state input.new) (K.state output.new)) }
 {
-    match run(rt, alloc, line(global, words), input, output, faults) {
+    match run(rt, alloc, line, input, output, faults) {
         Ok(status) => status,
         Err(fault) => fault.end(faults),
     }
 }
 
-/// Runs the program as [`command`] does, over the two devices of an open `/dev/fuse`.
+/// Runs the program as [`command_on_streams`] does, by a line that says `--device`, over the two
+/// devices of an open `/dev/fuse`.
 ///
 /// The status is 0 also where the mount was taken away: a pull failed, and `input` says that it is
 /// gone; or a push failed, and one of both says so. No line is written then, and what `output` took
@@ -82,15 +150,13 @@ where
 pub fn command_on_device<
     R: Files + Net + Threads + Sync,
     A: Allocator + Copy + Send + Sync,
-    S: AsStr,
     I: Read + Drop,
     O: Write,
     E: Write,
 >(
     rt: &R,
     alloc: A,
-    global: Global,
-    words: &[S],
+    line: &Line<'_>,
     input: &mut MessageTap<I, A>,
     output: &mut ReplySpout<O>,
     faults: &mut E,
@@ -98,16 +164,15 @@ pub fn command_on_device<
 where
     R::File: Send,
     R::Dir: Send,
-    requires { AreNew (devices (⟦<MessageTap<I, A> as Source>⟧.state input.old)
+    requires device { line.now.device ≡ true }
+    requires limits { IsInLimits line.now }
+    requires socket { NamesSocket line.now }
+    requires new { AreNew (devices (⟦<MessageTap<I, A> as Source>⟧.state input.old)
         (⟦<ReplySpout<O> as Sink>⟧.state output.old)) }
-    ensures { IsRunOnDevice A (map S.text words.now)
-        (tap_gone input.new) (spout_gone output.new) result
-        (devices (⟦<MessageTap<I, A> as Source>⟧.state input.old)
-        (⟦<ReplySpout<O> as Sink>⟧.state output.old))
-        (devices (⟦<MessageTap<I, A> as Source>⟧.state input.new)
-        (⟦<ReplySpout<O> as Sink>⟧.state output.new)) }
+    ensures { (words : List (List ℕ)) → IsLineOf words line.now → IsRunOnDevice A words result
+        (ends I.remaining input.old output.old) (ends I.remaining input.new output.new) }
 {
-    match run(rt, alloc, line(global, words), input, output, faults) {
+    match run(rt, alloc, line, input, output, faults) {
         Ok(status) => status,
         Err(fault) => end_on_device(&fault, input.is_gone(), output.is_gone(), faults),
     }
@@ -124,7 +189,7 @@ fn run<
 >(
     rt: &R,
     alloc: A,
-    line: Result<Line<'_>, LineFault>,
+    line: &Line<'_>,
     input: &mut T,
     output: &mut K,
     faults: &mut E,
@@ -133,24 +198,23 @@ where
     R::File: Send,
     R::Dir: Send,
     requires new { AreNew (devices (T.state input.old) (K.state output.old)) }
-    requires limits { IfOk line (λ line. IsInLimits line) }
-    requires socket { IfOk line (λ line. NamesSocket line) }
-    ensures over { (words : List (List ℕ)) → IsReadAs words line.entry →
+    requires limits { IsInLimits line.now }
+    requires socket { NamesSocket line.now }
+    ensures over { (words : List (List ℕ)) → IsLineOf words line.now →
         IfOk result (λ status. IsOverWith A words status
         (devices (T.state input.old) (K.state output.old))
         (devices (T.state input.new) (K.state output.new))) }
-    ensures stopped { (words : List (List ℕ)) → IsReadAs words line.entry →
+    ensures stopped { (words : List (List ℕ)) → IsLineOf words line.now →
         IfErr result (λ fault. EndsInFault A words fault
         (devices (T.state input.old) (K.state output.old))
         (devices (T.state input.new) (K.state output.new))) }
 {
-    let line = line?;
     let images = read_images(rt, alloc, line.images.as_slice())?;
     match line.verb {
-        Verb::Serve => as_status(serve(rt, alloc, &line, images, input, output)),
-        Verb::Socket => listen(rt, alloc, &line, images, faults),
-        Verb::Check => as_status(check(alloc, images, profile_of(&line), output)),
-        Verb::List => as_status(list(rt, alloc, &line, images, output)),
+        Verb::Serve => as_status(serve(rt, alloc, line, images, input, output)),
+        Verb::Socket => listen(rt, alloc, line, images, faults),
+        Verb::Check => as_status(check(alloc, images, profile_of(line), output)),
+        Verb::List => as_status(list(rt, alloc, line, images, output)),
     }
 }
 

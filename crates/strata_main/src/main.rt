@@ -1,17 +1,12 @@
 //! The program `strata`, over the process's own words and streams.
 #![tactic(auto)]
 
-use command_line::{line, words};
-use devices::{Spout, Tap};
-use fuse_device::{MessageTap, ReplySpout};
-use std::alloc::{Allocator, Global};
+use command_line::words;
+use std::alloc::Allocator;
 use std::fs;
 use std::fs::Files;
-use std::io::{Read, Write};
-use std::net::Net;
 use std::process::ExitCode;
-use std::thread::Threads;
-use strata::{Fault, command, command_on_device};
+use strata::{Fault, command};
 
 /// Freed blocks of up to this size are kept for whoever asks next.
 const KEPT: usize = 0x40_0000;
@@ -42,8 +37,9 @@ fn main(rt: HostRuntime) -> ExitCode {
     keep_freed_blocks(alloc);
     let mut faults = rt.stderr();
     let status = match words(&rt) {
-        Ok(words) => run(
+        Ok(words) => command(
             &rt,
+            alloc,
             alloc,
             words.as_slice(),
             rt.stdin(),
@@ -53,46 +49,4 @@ fn main(rt: HostRuntime) -> ExitCode {
         Err(fault) => Fault::from(fault).end(&mut faults),
     };
     ExitCode::from(status)
-}
-
-// Runs the program over a reader and a writer, which are both an open `/dev/fuse` where the words
-// say so.
-fn run<R: Files + Net + Threads + Sync, I: Read + Drop, O: Write + Drop, E: Write>(
-    rt: &R,
-    alloc: Global,
-    words: &[String],
-    reader: I,
-    writer: O,
-    faults: &mut E,
-) -> u8
-where
-    R::File: Send,
-    R::Dir: Send,
-{
-    if !is_on_device(alloc, words) {
-        let mut output = Spout::new(writer);
-        return command(
-            rt,
-            alloc,
-            alloc,
-            words,
-            &mut Tap::new(reader),
-            &mut output,
-            faults,
-        );
-    }
-    match MessageTap::new(alloc, reader) {
-        Ok(mut input) => {
-            let mut output = ReplySpout::new(writer);
-            command_on_device(rt, alloc, alloc, words, &mut input, &mut output, faults)
-        }
-        Err(refused) => Fault::from(refused).end(faults),
-    }
-}
-
-// Whether the words say that the streams are an open `/dev/fuse`. Words that hold no such option
-// are not read here.
-fn is_on_device(alloc: Global, words: &[String]) -> bool {
-    words.iter().any(|word| word.as_str() == "--device")
-        && line(alloc, words).is_ok_and(|line| line.device)
 }

@@ -1,14 +1,13 @@
 //! The program over devices like those of an open `/dev/fuse`.
 
 use super::program::image_file;
-use fuse_device::{MessageTap, ReplySpout};
 use std::alloc::{Allocator, Global};
 use std::fs::{self, Files};
 use std::io::{self, Error, Read, Write};
 use std::net::Net;
 use std::test::Fail;
 use std::thread::Threads;
-use strata::command_on_device;
+use strata::command;
 use test_kit::memories::{Memories, refuse_in_turn};
 use test_kit::messages::REQUESTS;
 
@@ -54,8 +53,7 @@ impl Write for Replies {
 }
 
 /// The status of the program over two requests, in memory of `alloc`; none where standard error has
-/// anything but this line, or anything at all where the status is 0. Status 5 too, where memory for
-/// the device itself is refused.
+/// anything but this line, or anything at all where the status is 0.
 fn status_of<R: Files + Net + Threads + Sync, A: Allocator + Copy + Send + Sync>(
     rt: &R,
     global: Global,
@@ -68,21 +66,9 @@ where
     R::File: Send,
     R::Dir: Send,
 {
-    let Ok(mut input) = MessageTap::new(alloc, Messages(&REQUESTS)) else {
-        return Some(5);
-    };
-    let mut output = ReplySpout::new(replies);
+    let input = Messages(&REQUESTS);
     let mut faults = Vec::new(global);
-    let status = command_on_device(
-        rt,
-        alloc,
-        global,
-        words,
-        &mut input,
-        &mut output,
-        &mut faults,
-    );
-    drop(input);
+    let status = command(rt, alloc, global, words, input, replies, &mut faults);
     let told: &[u8] = if status == 0 { &[] } else { line };
     (faults.as_slice() == told).then_some(status)
 }
@@ -146,17 +132,61 @@ where
     (status, replies.taken.len())
 }
 
-/// The first replies have 80 and 120 bytes. Of a write ENODEV and ENOENT say that the mount was
-/// taken away, EIO and EINTR a fault.
+/// The status of the program over a device that takes all replies, where it tells a failed read
+/// alone.
+fn end_at<R: Files + Net + Threads + Sync>(rt: &R, global: Global, words: &[&str]) -> Option<u8>
+where
+    R::File: Send,
+    R::Dir: Send,
+{
+    let mut replies = replies_of(global, None, ENODEV);
+    let line = b"read fault\n";
+    status_of(rt, global, global, words, &mut replies, line)
+}
+
+/// The first replies have 80 and 120 bytes. Of a write ENODEV says that the mount was taken away,
+/// EIO and EINTR a fault.
 #[test]
 fn a_failed_write_ends_a_mount(rt: HostRuntime) -> Result<(), Fail> {
     let image = image_file(&rt, "unwritten")?;
     let words = ["serve", "--device", image.as_str()];
-    let told = [(ENODEV, 0), (2, 0), (5, 1), (4, 1)].map(|(number, status)| {
+    let told = [(ENODEV, 0), (5, 1), (4, 1)].map(|(number, status)| {
         end_of(&rt, rt.alloc(), &words, 0, number) == (Some(status), 0)
             && end_of(&rt, rt.alloc(), &words, 1, number) == (Some(status), 80)
     });
     fs::remove_file(&rt, image.as_str())?;
-    assert_eq!(rt; told, [true; 4]);
+    assert_eq!(rt; told, [true; 3]);
+    Ok(())
+}
+
+/// Of a write ENOENT says that nobody waits for this reply: it is let go, the other one is written,
+/// and the mount ends where it is taken away.
+#[test]
+fn a_mount_goes_on_where_nobody_waits(rt: HostRuntime) -> Result<(), Fail> {
+    let image = image_file(&rt, "unwanted")?;
+    let words = ["serve", "--device", image.as_str()];
+    let ends = [0, 1, 2].map(|left| end_of(&rt, rt.alloc(), &words, left, 2));
+    fs::remove_file(&rt, image.as_str())?;
+    drop(image);
+    assert_eq!(rt; ends, [(Some(0), 120), (Some(0), 80), (Some(0), 200)]);
+    Ok(())
+}
+
+/// The device is heard wherever it stands in the line: over these messages its reader is taken away
+/// at last, which ends well over a device alone.
+#[test]
+fn a_device_is_heard_anywhere(rt: HostRuntime) -> Result<(), Fail> {
+    let image = image_file(&rt, "anywhere")?;
+    let path = image.as_str();
+    let lines = [
+        ["serve", "--device", "--lasting", path],
+        ["serve", "--lasting", "--device", path],
+        ["serve", "--lasting", path, "--device"],
+        ["serve", path, "--lasting", "--strict"],
+    ];
+    let ends = lines.map(|words| end_at(&rt, rt.alloc(), &words));
+    fs::remove_file(&rt, path)?;
+    drop(image);
+    assert_eq!(rt; ends, [Some(0), Some(0), Some(0), Some(1)]);
     Ok(())
 }

@@ -1,11 +1,13 @@
 //! The plan of a line: how many workers answer, and how many requests a batch has.
 
-use super::program::{status_of, written};
+use super::program::{file_path, status_of, written};
 use std::alloc::Global;
 use std::fs::{self, Files};
-use std::net::Net;
+use std::io::{Read, Write};
+use std::net::{Net, Shutdown};
+use std::os::unix::net::UnixStream;
 use std::test::Fail;
-use std::thread::Threads;
+use std::thread::{Threads, join};
 use test_kit::long::{Long, image, stream};
 use test_kit::refusing::Refusing;
 
@@ -30,20 +32,99 @@ where
     (status == Some(0)).then_some(memory.requests())
 }
 
+/// A client that is connected to the socket at a path; it tries until a socket is there.
+fn connected<R: Net>(rt: &R, socket: &str) -> Option<UnixStream> {
+    for _ in 0..u64::MAX {
+        if let Ok(client) = UnixStream::connect(rt, socket) {
+            return Some(client);
+        }
+    }
+    None
+}
+
+/// How many bytes a client of the socket at a path is answered that writes this stream.
+fn answered<R: Net>(rt: &R, global: Global, socket: &str, stream: &[u8]) -> Option<usize> {
+    let mut client = connected(rt, socket)?;
+    let written = client.write_all(stream);
+    let ended = written.and_then(|()| client.shutdown(Shutdown::Write));
+    let mut replies = Vec::new(global);
+    let read = ended.and_then(|()| client.read_to_end(&mut replies));
+    read.is_ok().then_some(replies.len())
+}
+
+/// The status of the program that serves one session at a socket.
+fn status_at<R: Files + Net + Threads + Sync>(
+    rt: &R,
+    global: Global,
+    memory: &Refusing<Global>,
+    words: &[&str],
+) -> Option<u8>
+where
+    R::File: Send,
+    R::Dir: Send,
+{
+    let mut output = Vec::new(global);
+    status_of(rt, global, memory, words, b"".as_slice(), &mut output, b"")
+}
+
+/// The same number of requests for memory where a client of a socket asks for the replies.
+fn requests_at<R: Files + Net + Threads + Sync>(
+    rt: &R,
+    global: Global,
+    path: &str,
+    socket: &str,
+    stream: &[u8],
+    plan: (&str, &str),
+) -> Option<u64>
+where
+    R::File: Send,
+    R::Dir: Send,
+{
+    let memory = Refusing::new(global, 0);
+    let (workers, batch) = plan;
+    let words = [
+        "socket",
+        "--workers",
+        workers,
+        "--batch",
+        batch,
+        "--listen",
+        socket,
+        path,
+    ];
+    let (status, replies) = join(
+        rt,
+        || status_at(rt, global, &memory, &words),
+        || answered(rt, global, socket, stream),
+    );
+    (status == Some(0) && replies.is_some()).then_some(memory.requests())
+}
+
 /// What three plans ask for over 120 pages of the directory of the image at a path: one worker, two
-/// with the largest batches, and two with the smallest.
+/// with the largest batches, and two with the smallest; by `serve`, and at a socket.
 fn requests_of_plans<R: Files + Net + Threads + Sync>(
     rt: &R,
     global: Global,
     path: &str,
-) -> Result<[u64; 3], Fail>
+    socket: &str,
+) -> Result<[[u64; 3]; 2], Fail>
 where
     R::File: Send,
     R::Dir: Send,
 {
     let stream = stream(global, Long::Readdir, 120)?;
     let plans = [("1", "1"), ("2", "256"), ("2", "1")];
-    Ok(plans.map(|plan| requests_by(rt, global, path, &stream, plan).unwrap_or(0)))
+    Ok([
+        plans.map(|plan| requests_by(rt, global, path, &stream, plan).unwrap_or(0)),
+        plans.map(|plan| requests_at(rt, global, path, socket, &stream, plan).unwrap_or(0)),
+    ])
+}
+
+/// Whether one worker asks for less memory than two, and these for less in batches of 256 than in
+/// batches of one.
+fn have_their_plans(requests: [u64; 3]) -> bool {
+    let [alone, even, small] = requests;
+    0 < alone && alone < even && even.saturating_add(60) < small
 }
 
 /// Of 120 pages of a directory workers have a board and pieces, and each batch asks for memory of
@@ -52,12 +133,14 @@ where
 #[test]
 fn a_line_has_its_plan(rt: HostRuntime) -> Result<(), Fail> {
     let path = written(&rt, "plans", &image(rt.alloc())?)?;
-    let [alone, even, small] = requests_of_plans(&rt, rt.alloc(), path.as_str())?;
+    let socket = file_path(&rt, "plans", "socket")?;
+    let [served, at_socket] = requests_of_plans(&rt, rt.alloc(), path.as_str(), socket.as_str())?;
     fs::remove_file(&rt, path.as_str())?;
     drop(path);
+    drop(socket);
     assert!(rt;
-        0 < alone && alone < even && even.saturating_add(60) < small,
-        "{alone}, {even}, {small}"
+        have_their_plans(served) && have_their_plans(at_socket),
+        "{served:?} {at_socket:?}"
     );
     Ok(())
 }

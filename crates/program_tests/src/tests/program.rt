@@ -1,6 +1,5 @@
 //! Runs of the program, and files of a test's own.
 
-use devices::{Spout, Tap};
 use std::alloc::{Allocator, Global};
 use std::fs::Files;
 use std::io::{Read, Write};
@@ -24,15 +23,7 @@ where
     R::Dir: Send,
 {
     let mut faults = Vec::new(global);
-    let status = command(
-        rt,
-        alloc,
-        global,
-        words,
-        &mut Tap::new(input),
-        &mut Spout::new(output),
-        &mut faults,
-    );
+    let status = command(rt, alloc, global, words, input, output, &mut faults);
     let told: &[u8] = if status == 0 { &[] } else { line };
     (faults.as_slice() == told).then_some(status)
 }

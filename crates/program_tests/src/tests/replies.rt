@@ -158,7 +158,7 @@ fn bytes_without_a_whole_reply(rt: HostRuntime) -> Result<(), Fail> {
 #[test]
 fn writes_that_fail(rt: HostRuntime) -> Result<(), Fail> {
     let bytes = bytes_of(rt.alloc(), &[16, 80, 120])?;
-    for (number, taken_away) in [(2, true), (19, true), (4, false), (5, false), (11, false)] {
+    for (number, taken_away) in [(19, true), (4, false), (5, false), (11, false)] {
         for (sizes, taken) in [([16].as_slice(), 0), ([16, 80, 120].as_slice(), 96)] {
             let writer = replies_of(rt.alloc(), usize::MAX, sizes.len() - 1, number);
             let seen = pushes_of(writer, &bytes, true, sizes);
@@ -171,6 +171,26 @@ fn writes_that_fail(rt: HostRuntime) -> Result<(), Fail> {
             };
             assert!(rt; seen == told, "{number}");
         }
+    }
+    Ok(())
+}
+
+/// A reply for which nobody waits is let go, once it was written: after each of them the next one
+/// comes, and the bytes that the writer took are those before the first.
+#[test]
+fn replies_that_nobody_waits_for(rt: HostRuntime) -> Result<(), Fail> {
+    let bytes = bytes_of(rt.alloc(), &[16, 80, 120])?;
+    for (writes, taken) in [(0, 0), (1, 16), (2, 96)] {
+        let writer = replies_of(rt.alloc(), usize::MAX, writes, 2);
+        let seen = pushes_of(writer, &bytes, true, &[16, 80, 120]);
+        let told = Seen {
+            pushed: Some(216),
+            taken: Some(taken),
+            sized: true,
+            flushes: 1,
+            gone: (false, false),
+        };
+        assert!(rt; seen == told, "{writes}");
     }
     Ok(())
 }

@@ -1,7 +1,7 @@
 use Rattle.std.proofs.Common.{List, ℕ, refl, subst}
 use Rattle.std.proofs.lemmas.Result.{IfOk-from_err}
 use Rattle.layer_check.specs.Layers.{contents_of}
-use Rattle.strata.specs.Ending.{AreGood, AreNotGood, IsReadAs}
+use Rattle.strata.specs.Ending.{AreGood, AreNotGood}
 use Rattle.command_line.specs.CommandLine.{IsLineOf}
 use Rattle.strata.proofs.Ended.{all_named, ended, unread}
 use Rattle.strata.proofs.AtSocket.{over_there, stopped_there}
@@ -10,39 +10,34 @@ use Rattle.strata.proofs.program.run.Goals as goal
 
 pub returns-in_err-images-clause-stopped : goal.returns-in_err-images-clause-stopped
 returns-in_err-images-clause-stopped g c = λ words read.
-    let is : IsLineOf words c.in_ok-line.line = rw c.in_ok-line.was at read in
-    unread g.row.A.Denot _ is c.in_err-images.field-0.0 (rw c.as_slice.ensures.len at c.in_err-images.ensures.err)
-    c.from_residual-in_err-images.result c.from_residual-in_err-images.ensures.1
+    unread g.row.A.Denot _ read c.in_err-images.field-0.0 (rw c.as_slice.ensures.len at c.in_err-images.ensures.err)
+    c.from_residual.result c.from_residual.ensures.1
 
 pub returns-in-Serve : goal.returns-in-Serve
 returns-in-Serve g c =
-    let line = c.in_ok-line.line in
-    let both = λ (words : List (List ℕ)) (read : IsReadAs words c.args.line).
-    let is : IsLineOf words line = rw c.in_ok-line.was at read in
+    let line = c.args.line.now in
+    let both = λ (words : List (List ℕ)) (is : IsLineOf words c.args.line.now).
     let named = all_named line _ c.in_ok-images.images _ c.in_ok-images.ensures.ok c.as_slice.ensures.len in
     ended g.row.A.Denot words line _ verbs.Serve _ _ is named c.in-Serve.is c.serve.result c.as_status.result c.as_status.ensures
     c.serve.ensures.done c.serve.ensures.stopped (λ d. d) (λ fault s. s) in
     record { over = λ words read. (both words read).0; stopped = λ words read. (both words read).1 }
 
 pub returns-in-Socket-clause-over : goal.returns-in-Socket-clause-over
-returns-in-Socket-clause-over g c = λ words read.
-    let line = c.in_ok-line.line in
-    let is : IsLineOf words line = rw c.in_ok-line.was at read in
+returns-in-Socket-clause-over g c = λ words is.
+    let line = c.args.line.now in
     let named = all_named line _ c.in_ok-images.images _ c.in_ok-images.ensures.ok c.as_slice.ensures.len in
     over_there g.row.A.Denot _ line _ _ is named c.in-Socket.is c.listen.result c.listen.ensures.ended
 
 pub returns-in-Socket-clause-stopped : goal.returns-in-Socket-clause-stopped
-returns-in-Socket-clause-stopped g c = λ words read.
-    let line = c.in_ok-line.line in
-    let is : IsLineOf words line = rw c.in_ok-line.was at read in
+returns-in-Socket-clause-stopped g c = λ words is.
+    let line = c.args.line.now in
     let named = all_named line _ c.in_ok-images.images _ c.in_ok-images.ensures.ok c.as_slice.ensures.len in
     stopped_there g.row.A.Denot _ line _ _ is named c.in-Socket.is c.listen.result c.listen.ensures.stopped
 
 pub returns-in-Check : goal.returns-in-Check
 returns-in-Check g c =
-    let line = c.in_ok-line.line in
-    let both = λ (words : List (List ℕ)) (read : IsReadAs words c.args.line).
-    let is : IsLineOf words line = rw c.in_ok-line.was at read in
+    let line = c.args.line.now in
+    let both = λ (words : List (List ℕ)) (is : IsLineOf words c.args.line.now).
     let named = all_named line _ c.in_ok-images.images _ c.in_ok-images.ensures.ok c.as_slice.ensures.len in
     ended g.row.A.Denot words line _ verbs.Check _ _ is named c.in-Check.is c.check.result
     c.as_status-in-Check.result c.as_status-in-Check.ensures
@@ -57,32 +52,16 @@ returns-in-Check g c =
     )) in
     record { over = λ words read. (both words read).0; stopped = λ words read. (both words read).1 }
 
-pub returns : goal.returns
-returns g c =
-    let line = c.in_ok-line.line in
-    let both = λ (words : List (List ℕ)) (read : IsReadAs words c.args.line).
-    let is : IsLineOf words line = rw c.in_ok-line.was at read in
+pub returns-in-List : goal.returns-in-List
+returns-in-List g c =
+    let line = c.args.line.now in
+    let both = λ (words : List (List ℕ)) (is : IsLineOf words c.args.line.now).
     let named = all_named line _ c.in_ok-images.images _ c.in_ok-images.ensures.ok c.as_slice.ensures.len in
     ended g.row.A.Denot words line _ verbs.List _ _ is named c.in-List.is c.list.result
     c.as_status-in-List.result c.as_status-in-List.ensures
     c.list.ensures.done c.list.ensures.stopped (λ d. (refl, d)) (λ fault s. (refl, s)) in
     record { over = λ words read. (both words read).0; stopped = λ words read. (both words read).1 }
 
-pub returns-in_err-line-clause-over : goal.returns-in_err-line-clause-over
-returns-in_err-line-clause-over g c = λ words read. IfOk-from_err c.from_residual.result _ c.from_residual.ensures.0
-
 pub returns-in_err-images-clause-over : goal.returns-in_err-images-clause-over
 returns-in_err-images-clause-over g c =
-    λ words read. IfOk-from_err c.from_residual-in_err-images.result _ c.from_residual-in_err-images.ensures.0
-
-pub serve-requires-clause-limits : goal.serve-requires-clause-limits
-serve-requires-clause-limits g c κs within = rw c.in_ok-line.was at c.requires.limits
-
-pub serve-requires-clause-new : goal.serve-requires-clause-new
-serve-requires-clause-new g c κs within = c.requires.new
-
-pub listen-requires-clause-limits : goal.listen-requires-clause-limits
-listen-requires-clause-limits g c κs within = rw c.in_ok-line.was at c.requires.limits
-
-pub listen-requires-clause-socket : goal.listen-requires-clause-socket
-listen-requires-clause-socket g c κs within = (rw c.in_ok-line.was at c.requires.socket) c.in-Socket.is
+    λ words read. IfOk-from_err c.from_residual.result _ c.from_residual.ensures.0

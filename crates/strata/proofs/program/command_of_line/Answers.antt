@@ -1,0 +1,25 @@
+use Rattle.std.proofs.Common.{◌∙◌, sym, subst, ap₂, true≢false}
+use Rattle.devices.specs.States.{devices, source_state, sink_state}
+use Rattle.strata.specs.Ending.{IsRunOf}
+use Rattle.strata.proofs.program.command_of_line.Goals as goal
+
+pub returns-then-line : goal.returns-then-line
+returns-then-line g c = λ words is. record {
+  device = λ e. c.mount.ensures words is;
+  streams = λ e. absurd (true≢false (sym c.if-line.true ∙ e));
+}
+
+pub returns : goal.returns
+returns g c = λ words is.
+    let input = c.command_on_streams.new.input in
+    let output = c.command_on_streams.new.output in
+    let new = devices (source_state (g.I.Read.remaining input.reader) input.counts)
+    (sink_state (g.O.Write.contents output.writer) output.counts) in
+    record {
+      device = λ e. absurd (true≢false (sym e ∙ c.if-line.false));
+      streams = λ e. (
+        new,
+        subst (λ d. IsRunOf g.row.A.Denot words c.command_on_streams.result d new) (ap₂ devices c.new.ensures c.new-output.ensures)
+            (c.command_on_streams.ensures words is),
+      );
+    }
