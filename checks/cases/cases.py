@@ -21,6 +21,7 @@ counts M beside N.
       stack N                       so many KiB of stack
       files N                       so many files may be open
       pipes                         the images are named pipes, which give their bytes once they are opened
+      terminal                      the input is a terminal at which nobody types
       gone > [2>]                   the output, or standard error, is a pipe that nobody reads any more
       closed < [>] [2>]             these streams are closed before the program begins
     client [meanwhile]              who connects to the socket that the run listens at, once the client above it has ended or,
@@ -71,7 +72,7 @@ from checks.shared.text import Words, Wrong, plain_bytes, words_of
 from mount import called, libc
 
 
-LIMITS = ("fed", "waits", "room", "disk", "memory", "stack", "files", "pipes", "gone", "closed")
+LIMITS = ("fed", "waits", "terminal", "room", "disk", "memory", "stack", "files", "pipes", "gone", "closed")
 
 
 class Started:
@@ -98,7 +99,7 @@ class Started:
             if name in ("gone", "closed"):
                 self.limits[name] = [limit.next() for _ in list(limit.words)]
             else:
-                self.limits[name] = limit.number() if name not in ("waits", "pipes") else None
+                self.limits[name] = limit.number() if name not in ("waits", "terminal", "pipes") else None
             limit.end()
         self.names = {part for word in self.words for part in (word, word.partition("=")[2])}
         self.names |= set(self.streams.values())
@@ -151,11 +152,14 @@ def sink(room, name, is_gone):
 
 
 def open_streams(started, room):
-    """The input, the output and standard error of a run, and the pipe that feeds the input."""
+    """The input, the output and standard error of a run, and the pipe or the terminal's other end behind the input."""
     names = started.streams
     pair = [sink(room, names.get(it), it in started.limits.get("gone", ())) for it in (">", "2>")]
     if "fed" in started.limits or "waits" in started.limits:
         end, pipe = os.pipe()
+        return end, pair, pipe
+    if "terminal" in started.limits:
+        pipe, end = os.openpty()
         return end, pair, pipe
     return os.open(os.path.join(room, names["<"]) if "<" in names else "/dev/null", os.O_RDONLY), pair, None
 
@@ -236,13 +240,15 @@ def ran(program, started, run, source, pair, pipe, room):
     done = subprocess.Popen(words, cwd=room, stdin=source, stdout=pair[0], stderr=pair[1],
                             preexec_fn=limited(started.limits), restore_signals=False)
     came = b""
+    is_fed = "fed" in started.limits or "waits" in started.limits
     if pipe is not None:
         os.close(source)
+    if is_fed:
         data = started.case.data_of(started.streams["<"])[1]
     if "waits" in started.limits:
         came = converse(done.stdout.fileno(), pipe, split(data)[0], replies.single(run.replies[None]))
         os.close(pipe)
-    elif pipe is not None:
+    elif is_fed:
         size = started.limits["fed"]
         runs.feed((data[at:at + size] for at in range(0, len(data), size)), pipe)
     told = told_of_opened(run.opened, started.pipes(), room)
@@ -282,6 +288,8 @@ def tried(program, case, run):
         if pipe is None:
             position = position_of(source)
             os.close(source)
+        elif "terminal" in started.limits:
+            os.close(pipe)
         for stream in pair:
             if stream is not subprocess.PIPE:
                 stream.close()

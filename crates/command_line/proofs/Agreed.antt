@@ -1,15 +1,20 @@
 -- What the words of a line settle. Words name one command, and each verb has its own word; so two
 -- lines of the same words say the same (`lines_agree`), and words with a line have no fault
--- (`lines_are_faultless`).
-use Rattle.std.proofs.Common.{◌≡◌, ◌∙◌, ◌==◌, ℕ, cond, ap, refl, sym, subst, List, Option, Some, unwrap_or, option_map, slice_index, inl, inr}
+-- (`lines_are_faultless`), nor have words that ask for the version (`version_is_faultless`).
+use Rattle.std.proofs.Common.{◌≡◌, ◌∙◌, ◌==◌, ℕ, cond, ap, refl, sym, subst, List, [], ◌∷◌, Option, Some, unwrap_or, option_map, slice_index, inl, inr}
+use Rattle.clap.specs.Kinds.{IsAmong, Kinds}
 use Rattle.clap.specs.Walk.{Row, Text}
+use Rattle.clap.specs.declared.error.kind.ErrorKind.{ErrorKind}
+use Rattle.clap.specs.declared.error.kind.ErrorKind.TheVariants.{DisplayVersion}
 use Rattle.command_line.specs.declared.options.Line.{Line}
 use Rattle.command_line.specs.declared.options.LineFault.{LineFault}
 use Rattle.command_line.specs.declared.options.LineFault.TheVariants.{Memory, Usage}
+use Rattle.command_line.specs.declared.options.NoLine.{NoLine}
+use Rattle.command_line.specs.declared.options.NoLine.TheVariants.{Version, Fault}
 use Rattle.command_line.specs.declared.options.Verb.{Verb}
 use Rattle.command_line.specs.declared.options.Verb.TheVariants as verbs
-use Rattle.command_line.specs.CommandLine.{AreCrossed, IsLineFault, IsLineOf, HaveNumbersInRange, Says, command_in, parts_of, verb_word}
-use Rattle.command_line.specs.LineLaws.{LinesAgree, LinesAreFaultless}
+use Rattle.command_line.specs.CommandLine.{AreCrossed, IsLineFault, IsLineOf, IsNoLine, IsRefusedFor, IsTaken, HaveNumbersInRange, Says, command_in, faults_in, parts_of, verb_word}
+use Rattle.command_line.specs.LineLaws.{LinesAgree, LinesAreFaultless, VersionIsFaultless}
 
 -- the verb whose word has this second letter
 verb_by : ℕ → Verb
@@ -47,10 +52,17 @@ lines_agree = record {
       );
 }
 
-faultless : (words : List Text) (line : Line) (fault : LineFault) → IsLineOf words line → IsLineFault words fault → fault ≡ Memory
-faultless words line Memory is told = refl
-faultless words line (Usage text) is told = elim told [
-  | inl refused ↦ absurd (refused is.taken)
+-- words that have a line are not refused
+not_refused : (words : List Text) (why : ErrorKind) → IsTaken words → IsRefusedFor why words → ⊥
+not_refused words why taken refused =
+    let P : Kinds → Type 0 = λ faults. IsAmong why faults in
+    subst P taken refused
+
+faultless : (words : List Text) (line : Line) (fault : NoLine) → IsLineOf words line → IsNoLine words fault → fault ≡ Fault Memory
+faultless words line Version is told = absurd (not_refused words DisplayVersion is.taken told)
+faultless words line (Fault Memory) is told = refl
+faultless words line (Fault (Usage text)) is told = elim told [
+  | inl refused ↦ absurd (not_refused words refused.why is.taken refused.refused)
   | inr (inl bad) ↦ absurd (bad.wrong (subst HaveNumbersInRange (same_rows (command_in words) _ _ is.rows bad.rows is.command bad.command)
       is.holds.numbered))
   | inr (inr bad) ↦ absurd (is.holds.apart (subst AreCrossed (same_rows (command_in words) _ _ bad.rows is.rows bad.command is.command)
@@ -60,3 +72,27 @@ faultless words line (Usage text) is told = elim told [
 -- words that have a line meet no fault but want of memory
 pub lines_are_faultless : LinesAreFaultless
 lines_are_faultless = record { only_memory = faultless }
+
+-- what is refused for one reason alone is refused for that
+one_reason : (a b : ErrorKind) → IsAmong a (b ∷ []) → a ≡ b
+one_reason a b (inl same) = same
+one_reason a b (inr none) = absurd none
+
+-- words that are refused are no command
+not_taken : (words : List Text) → faults_in words ≡ DisplayVersion ∷ [] → IsTaken words → ⊥
+not_taken words is taken = let bad : [] ≡ DisplayVersion ∷ [] = sym taken ∙ is in cc
+
+version_faultless : (words : List Text) (fault : LineFault) → faults_in words ≡ DisplayVersion ∷ [] → IsLineFault words fault
+    → fault ≡ Memory
+version_faultless words Memory is told = refl
+version_faultless words (Usage text) is told = elim told [
+  | inl refused ↦
+      let P : Kinds → Type 0 = λ faults. IsAmong refused.why faults in
+      absurd (refused.other (one_reason refused.why DisplayVersion (subst P is refused.refused)))
+  | inr (inl bad) ↦ absurd (not_taken words is bad.taken)
+  | inr (inr bad) ↦ absurd (not_taken words is bad.taken)
+]
+
+-- words that ask for the version alone meet no fault but want of memory
+pub version_is_faultless : VersionIsFaultless
+version_is_faultless = record { only_memory = version_faultless }

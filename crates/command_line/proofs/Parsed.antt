@@ -4,10 +4,11 @@
 use Rattle.std.specs.Borrow.{Bor}
 use Rattle.std.specs.Prelude.{Box}
 use Rattle.std.specs.Box.{box_value}
+use Rattle.std.specs.List.{All, find}
+use Rattle.std.specs.Str.{bytes_eq}
 use Rattle.std.proofs.lemmas.List.{length-map}
-use Rattle.std.proofs.Common.{◌≡◌, ◌≤◌, ◌∙◌, ◌⊎◌, ◌≢◌, ◌∷◌, ℕ, Bool, arith, codes, is_some, length, option_map, unwrap_or, Option, Some, None, Result, Ok, Err, IfOk, IfSome, MatchOption, true, false, true≢false, refl, sym, ap, ap₂, subst, List, [], inl, inr}
-use Rattle.work_gate.specs.declared.limits.TheConstants.{MAX_BATCH, MAX_WORKERS}
-use Rattle.command_line.specs.declared.options.TheConstants.{MAX_SESSIONS}
+use Rattle.std.proofs.lemmas.List.Elements.{All-head, All-tail}
+use Rattle.std.proofs.Common.{◌≡◌, ◌≤◌, ◌∙◌, ◌⊎◌, ◌∷◌, ℕ, Bool, arith, cond, codes, is_some, length, option_map, unwrap_or, Option, Some, None, Result, Ok, Err, IfOk, IfSome, MatchOption, true, false, true≢false, refl, sym, ap, ap₂, subst, List, [], inl, inr}
 use Rattle.clap.specs.Kinds.{HasKind, IsAmong, Kinds}
 use Rattle.clap.specs.Faults.{fault_of, is_simple_and_free}
 use Rattle.clap.specs.Simple.{App, HasMatchesOf, is_simple, subcommand_of, subcommand_rows, subcommand_rows_of}
@@ -17,21 +18,24 @@ use Rattle.clap.specs.declared.parser.matches.Found.{Found}
 use Rattle.clap.specs.declared.parser.matches.SubCommand.{SubCommand}
 use Rattle.clap.proofs.CallerLemmas.{some_of_text}
 use Rattle.clap.proofs.TakesLemmas.{some_rows}
-use Rattle.clap.proofs.WalkLemmas.{first_value-rows, one_text-rows, raw_values-rows}
+use Rattle.clap.proofs.WalkLemmas.{one_text-rows, raw_values-rows}
 use Rattle.clap.specs.Values.{bool_text, kind_of}
-use Rattle.clap.specs.Matches.{first_value, found_of, has_subcommand, matched_of, one_text, raw_values, subcommand_name_of}
+use Rattle.clap.specs.Matches.{found_of, has_subcommand, matched_of, one_text, raw_values, subcommand_name_of}
 use Rattle.clap.specs.Walk.{Row, Text, all_of, first_of, one_of, rows_of, texts}
 use Rattle.clap.specs.declared.error.Error.{Error}
-use Rattle.clap.specs.declared.error.kind.ErrorKind.TheVariants.{OutOfMemory}
+use Rattle.clap.specs.declared.error.kind.ErrorKind.{ErrorKind}
+use Rattle.clap.specs.declared.error.kind.ErrorKind.TheVariants.{DisplayVersion, OutOfMemory}
 use Rattle.clap.specs.declared.parser.matches.ArgMatches.{ArgMatches}
 use Rattle.command_line.specs.declared.options.Line.{Line}
 use Rattle.command_line.specs.declared.options.LineFault.{LineFault}
 use Rattle.command_line.specs.declared.options.LineFault.TheVariants.{Usage, Memory}
+use Rattle.command_line.specs.declared.options.NoLine.{NoLine}
+use Rattle.command_line.specs.declared.options.NoLine.TheVariants.{Version, Fault}
 use Rattle.command_line.specs.declared.options.Verb.{Verb}
 use Rattle.command_line.specs.declared.options.Verb.TheVariants as verbs
 use Rattle.command_line.proofs.Agreed.{one_name, one_word, same_rows}
 use Rattle.command_line.proofs.Taken.{taken_names}
-use Rattle.command_line.specs.CommandLine.{AreCrossed, GivesSocket, HoldsRows, IsFilled, IsFlagFilled, Says, names_both, names_both_of, parts_of, IsLineOf, IsLineFault, IsNumberOf, IsNumberTo, HaveNumbersInRange, IsTaken, command_in, faults_in, number_or, program, verb_word}
+use Rattle.command_line.specs.CommandLine.{AreCrossed, GivesSocket, HoldsRows, IsFilled, IsFlagFilled, LineParts, Says, names_both, names_both_of, parts_of, IsLineOf, IsLineFault, IsNoLine, IsRefusedFor, TellsKind, IsNumberNamed, IsNumberTo, HaveNumbersInRange, Number, numbers, IsTaken, command_in, faults_in, program, verb_word}
 
 program_is_simple : is_simple program ≡ true
 program_is_simple = refl
@@ -50,22 +54,33 @@ pub parsed_command : (a : App) (words : List Text) (m : ArgMatches) → a ≡ pr
 unfolding command_in
 parsed_command a words m is matches = (matches (ap is_simple is ∙ program_is_simple)).1 ∙ ap (λ x. subcommand_of x words) is
 
--- where it gives another error than for want of memory, the words are none
-pub parsed_fault : (a : App) (words : List Text) (error : Error) (fault : LineFault) → a ≡ program
-    → (is_simple_and_free a ≡ true → HasKind (fault_of a words) error)
-    → (fault ≡ Memory) ⊎ (kind_of error ≢ OutOfMemory) → IsLineFault words fault
+-- an error has a kind that the words are refused for, or memory ran out
+parsed_kind : (a : App) (words : List Text) (error : Error) → a ≡ program → (is_simple_and_free a ≡ true → HasKind (fault_of a words) error)
+    → (kind_of error ≡ OutOfMemory) ⊎ IsRefusedFor (kind_of error) words
 unfolding faults_in
-parsed_fault a words error Memory is kinds told = tt
-parsed_fault a words error (Usage text) is kinds told = inl (λ taken. elim (kinds (ap is_simple_and_free is ∙ program_is_free)) [
-  | inl memory ↦ elim told [
-    | inl same ↦ cc
-    | inr other ↦ other memory
-  ]
+parsed_kind a words error is kinds = elim (kinds (ap is_simple_and_free is ∙ program_is_free)) [
+  | inl memory ↦ inl memory
   | inr among ↦
-      let none : fault_of a words ≡ [] = ap (λ x. fault_of x words) is ∙ taken in
       let P : Kinds → Type 0 = λ kinds. IsAmong (kind_of error) kinds in
-      subst P none among
-])
+      inr (subst P (ap (λ x. fault_of x words) is) among)
+]
+
+-- where it gives an error, the words are refused for its kind, or ask for the version
+pub parsed_fault : (a : App) (words : List Text) (error : Error) (told : NoLine) → a ≡ program
+    → (is_simple_and_free a ≡ true → HasKind (fault_of a words) error)
+    → TellsKind (kind_of error) told → IsNoLine words told
+unfolding faults_in
+parsed_fault a words error (Fault Memory) is kinds tells = tt
+parsed_fault a words error Version is kinds tells =
+    let P : ErrorKind → Type 0 = λ why. IsRefusedFor why words in
+    elim (parsed_kind a words error is kinds) [
+      | inl memory ↦ let bad : DisplayVersion ≡ OutOfMemory = sym tells ∙ memory in absurd (cc)
+      | inr among ↦ subst P tells among
+    ]
+parsed_fault a words error (Fault (Usage text)) is kinds tells = elim (parsed_kind a words error is kinds) [
+  | inl memory ↦ absurd (tells.0 memory)
+  | inr among ↦ inl (record { why = kind_of error; refused = among; other = tells.1 })
+]
 
 -- ---- what the matches give
 
@@ -164,50 +179,24 @@ some_command m words taken is =
 
 -- ---- the line
 
--- the numbers, as the rows give them
-pub numbers_are : (f : Found) (workers batch sessions : ℕ) → IsNumberOf MAX_WORKERS 4 (first_value f (codes "workers")) workers
-    → IsNumberOf MAX_BATCH 16 (first_value f (codes "batch")) batch
-    → IsNumberOf MAX_SESSIONS 1 (first_value f (codes "sessions")) sessions
-    → HaveNumbersInRange (rows_of f) × (workers ≡ number_or 4 (first_of (codes "workers") (rows_of f)))
-    × (batch ≡ number_or 16 (first_of (codes "batch") (rows_of f))) × (sessions ≡ number_or 1 (first_of (codes "sessions") (rows_of f)))
-numbers_are f workers batch sessions w b s =
-    let w_is = first_value-rows f (codes "workers") in
-    let b_is = first_value-rows f (codes "batch") in
-    let s_is = first_value-rows f (codes "sessions") in (
-      record {
-        workers = subst (λ o. IfSome o (IsNumberTo MAX_WORKERS)) w_is w.numbered;
-        batch = subst (λ o. IfSome o (IsNumberTo MAX_BATCH)) b_is b.numbered;
-        sessions = subst (λ o. IfSome o (IsNumberTo MAX_SESSIONS)) s_is s.numbered;
-      },
-      w.value ∙ ap (number_or 4) w_is,
-      b.value ∙ ap (number_or 16) b_is,
-      s.value ∙ ap (number_or 1) s_is,
-    )
+-- the first of two, or else what comes after it, passes
+first_passes : (P : Number → Type 0) (m n : Number) (o : Option Number) (b : Bool) → P m → (o ≡ Some n → P n)
+    → cond b (Some m) o ≡ Some n → P n
+first_passes P m n o true here later is = subst P (ap (λ o. unwrap_or o m) is) here
+first_passes P m n o false here later is = later is
 
--- a fault of the number of workers is want of memory, or one of the rows
-pub workers_fault : (f : Found) (fault : LineFault) → (fault ≡ Memory)
-    ⊎ (¬ IfSome (first_value f (codes "workers")) (IsNumberTo MAX_WORKERS))
-    → (fault ≡ Memory) ⊎ ((¬ HaveNumbersInRange (rows_of f)) ⊎ AreCrossed (rows_of f))
-workers_fault f fault (inl memory) = inl memory
-workers_fault f fault (inr bad) = inr (inl (λ numbered. bad
-    (subst (λ o. IfSome o (IsNumberTo MAX_WORKERS)) (sym (first_value-rows f (codes "workers")))
-    numbered.workers)))
+-- what is found in a list that all passes passes
+found_passes : (P : Number → Type 0) (test : Number → Bool) (ns : List Number) (n : Number) → All P ns → find test ns ≡ Some n → P n
+found_passes P test [] n all is = absurd (cc)
+found_passes P test (m ∷ ms) n all is =
+    first_passes P m n (find test ms) (test m) (All-head P m ms all) (found_passes P test ms n (All-tail P m ms all)) is
 
--- so is a fault of the size of a batch
-pub batch_fault : (f : Found) (fault : LineFault) → (fault ≡ Memory) ⊎ (¬ IfSome (first_value f (codes "batch")) (IsNumberTo MAX_BATCH))
-    → (fault ≡ Memory) ⊎ ((¬ HaveNumbersInRange (rows_of f)) ⊎ AreCrossed (rows_of f))
-batch_fault f fault (inl memory) = inl memory
-batch_fault f fault (inr bad) = inr (inl
-    (λ numbered. bad (subst (λ o. IfSome o (IsNumberTo MAX_BATCH)) (sym (first_value-rows f (codes "batch"))) numbered.batch)))
-
--- so is a fault of the number of sessions
-pub sessions_fault : (f : Found) (fault : LineFault) → (fault ≡ Memory)
-    ⊎ (¬ IfSome (first_value f (codes "sessions")) (IsNumberTo MAX_SESSIONS))
-    → (fault ≡ Memory) ⊎ ((¬ HaveNumbersInRange (rows_of f)) ⊎ AreCrossed (rows_of f))
-sessions_fault f fault (inl memory) = inl memory
-sessions_fault f fault (inr bad) = inr
-    (inl (λ numbered. bad (subst (λ o. IfSome o (IsNumberTo MAX_SESSIONS)) (sym (first_value-rows f (codes "sessions")))
-    numbered.sessions)))
+-- a number that is none, or is out of its range, is a fault of the rows
+pub number_fault : (rows : List Row) (name : Text) (most default : ℕ) → IsNumberNamed name most default
+    → ¬ IfSome (first_of name rows) (IsNumberTo most) → ¬ HaveNumbersInRange rows
+number_fault rows name most default named bad numbered =
+    bad (found_passes (λ number. IfSome (first_of number.name rows) (IsNumberTo number.most)) (λ number. bytes_eq number.name name) numbers
+    (record { name = name; most = most; default = default }) numbered named)
 
 -- an option that is given, as the line has it
 some_named : (o : Option (Bor Text)) (p : Option Text) → option_map (λ file. file.now) o ≡ p → is_some o ≡ is_some p
@@ -222,11 +211,12 @@ names_socket verb rows listen gives listen_is is = some_named listen (first_of (
 -- the line names a file beside the device where the rows do
 pub names_as : (rows : List Row) (line : Line) → Says line (parts_of line.verb rows) → names_both line ≡ names_both_of rows
 names_as rows line says =
+    let parts = parts_of line.verb rows in
     rw (
-      says.device,
-      some_named line.requests _ says.requests,
-      some_named line.replies _ says.replies,
-      some_named line.balances _ says.balances,
+      ap (λ (p : LineParts). p.device) says,
+      some_named line.requests parts.requests (ap (λ (p : LineParts). p.requests) says),
+      some_named line.replies parts.replies (ap (λ (p : LineParts). p.replies) says),
+      some_named line.balances parts.balances (ap (λ (p : LineParts). p.balances) says),
     ) refl
 
 -- a line that says what the rows give, and names no file beside the device, holds them

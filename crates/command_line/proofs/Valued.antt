@@ -23,17 +23,13 @@ use Rattle.clap.specs.declared.error.kind.ErrorKind.TheVariants as kind
 use Rattle.clap.specs.declared.parser.matches.ValueSource.{ValueSource}
 use Rattle.clap.specs.declared.parser.matches.ValueSource.TheVariants.{CommandLine, DefaultValue}
 use Rattle.clap.proofs.WalkLemmas.{both}
-use Rattle.command_line.specs.CommandLine.{IsFilled}
+use Rattle.command_line.specs.CommandLine.{IsFilled, is_flag}
 use Rattle.command_line.proofs.Walked.{neither}
 
 and_true : (a b : Bool) → a ≡ true → b ≡ true → (a && b) ≡ true
 and_true a b p q = rw (p, q) refl
 
 -- ---- filled rows
-
--- the row is that of a flag
-abbrev names_flag : Text → Bool
-names_flag id = bytes_eq id (codes "strict") || (bytes_eq id (codes "device") || bytes_eq id (codes "lasting"))
 
 -- there is a value
 abbrev some_text : List Text → Bool
@@ -56,7 +52,7 @@ is_as_written _ = false
 
 -- the row of a flag holds its truth, and another row has a value
 abbrev is_filled : Row → Bool
-is_filled r = cond (names_flag r.id) (is_as_written r.reading && is_only (bool_text (explicit_source r.source)) r.values)
+is_filled r = cond (is_flag r.id) (is_as_written r.reading && is_only (bool_text (explicit_source r.source)) r.values)
     (some_text r.values)
 
 -- each row is filled
@@ -101,12 +97,12 @@ some_more [] v vs = refl
 some_more (w ∷ ws) v vs = refl
 
 -- another row than that of a flag is filled by a value
-value_filled : (r : Row) (id : Text) → names_flag id ≡ false → bytes_eq r.id id ≡ true → some_text r.values ≡ true → is_filled r ≡ true
+value_filled : (r : Row) (id : Text) → is_flag id ≡ false → bytes_eq r.id id ≡ true → some_text r.values ≡ true → is_filled r ≡ true
 value_filled r id other same value =
     let id_is : r.id ≡ id = (bytes_eq-Decides r.id id).0 same in
-    rw (ap (λ t. names_flag t) id_is ∙ other) value
+    rw (ap (λ t. is_flag t) id_is ∙ other) value
 
-module _ (id : Text) (how : Reading) (s : ValueSource) (v : Text) (vs : List Text) (other : names_flag id ≡ false) where
+module _ (id : Text) (how : Reading) (s : ValueSource) (v : Text) (vs : List Text) (other : is_flag id ≡ false) where
   -- more values keep all filled
   more_filled : (rows : List Row) → all_filled rows ≡ true → all_filled (with_values id how s (v ∷ vs) rows) ≡ true
   more_filled [] filled = and_true _ _ (rw other refl) refl
@@ -144,12 +140,12 @@ is_flag_rule a = (least a == 0 && most_values a == 0) && (is_as_written (reading
 
 -- a use of the argument fills its row, or adds none
 abbrev pub fills : Rule → Bool
-fills a = is_help (action_of a) || cond (names_flag a.id) (is_set_true (action_of a) && is_flag_rule a)
+fills a = is_help (action_of a) || cond (is_flag a.id) (is_set_true (action_of a) && is_flag_rule a)
     (keeps_values (action_of a) && nat_lt 0 (least a))
 
 -- its default values, if any, are those of the flag
 abbrev pub fills_default : Rule → Bool
-fills_default a = not_some a.defaults || (names_flag a.id && (is_as_written (reading_by a) && is_only (codes "false") a.defaults))
+fills_default a = not_some a.defaults || (is_flag a.id && (is_as_written (reading_by a) && is_only (codes "false") a.defaults))
 
 no_values : (n : ℕ) → range_kinds 0 0 n ≡ [] → n ≡ 0
 no_values n e = sym (eqb-true 0 n (go (0 == n) e))
@@ -171,7 +167,7 @@ pub used_filled : (a : Rule) (vs : List Text) (rows : List Row) → fills a ≡ 
 used_filled a vs rows fit e filled =
     let parts = neither (range_kinds (least a) (most_values a) (length vs))
     (action_fault (action_of a) false a (values_or_missing a vs) rows) e in
-    go (action_of a) (names_flag a.id) refl fit parts.0 parts.1
+    go (action_of a) (is_flag a.id) refl fit parts.0 parts.1
   where
     no_range : (vs : List Text) → (least a == 0 && most_values a == 0) ≡ true → range_kinds (least a) (most_values a) (length vs) ≡ []
         → length vs ≡ 0
@@ -181,7 +177,7 @@ used_filled a vs rows fit e filled =
         let high_is : P (least a) 0 = subst (λ high. P (least a) high) (eqb-true (most_values a) 0 tests.1) range in
         no_values (length vs) (subst (λ low. P low 0) (eqb-true (least a) 0 tests.0) high_is)
 
-    flag : (vs : List Text) → names_flag a.id ≡ true → is_flag_rule a ≡ true → range_kinds (least a) (most_values a) (length vs) ≡ []
+    flag : (vs : List Text) → is_flag a.id ≡ true → is_flag_rule a ≡ true → range_kinds (least a) (most_values a) (length vs) ≡ []
         → has_row a.id rows ≡ false → all_filled (with_values a.id (reading_by a) CommandLine (values_or_missing a vs) (without a.id rows))
         ≡ true
     flag [] is fit range none = set_filled a.id (reading_by a) CommandLine a.missing rows none
@@ -195,13 +191,13 @@ used_filled a vs rows fit e filled =
         let bad : range_kinds (least a) (most_values a) 0 ≡ kind.InvalidValue ∷ [] = rw asks refl in
         cc
 
-    set : (vs : List Text) → names_flag a.id ≡ false → nat_lt 0 (least a) ≡ true → range_kinds (least a) (most_values a) (length vs) ≡ []
+    set : (vs : List Text) → is_flag a.id ≡ false → nat_lt 0 (least a) ≡ true → range_kinds (least a) (most_values a) (length vs) ≡ []
         → has_row a.id rows ≡ false → all_filled (with_values a.id (reading_by a) CommandLine (values_or_missing a vs) (without a.id rows))
         ≡ true
     set [] is asks range none = absurd (no_value asks range)
     set (v ∷ vs) is asks range none = set_filled a.id (reading_by a) CommandLine (v ∷ vs) rows none (rw is refl) filled
 
-    append : (vs : List Text) → names_flag a.id ≡ false → nat_lt 0 (least a) ≡ true → range_kinds (least a) (most_values a) (length vs) ≡ []
+    append : (vs : List Text) → is_flag a.id ≡ false → nat_lt 0 (least a) ≡ true → range_kinds (least a) (most_values a) (length vs) ≡ []
         → all_filled (with_values a.id (reading_by a) CommandLine (values_or_missing a vs) rows) ≡ true
     append [] is asks range = absurd (no_value asks range)
     append (v ∷ vs) is asks range = more_filled a.id (reading_by a) CommandLine v vs is rows filled
@@ -209,7 +205,7 @@ used_filled a vs rows fit e filled =
     repeats : repeat_fault false a.id rows ≡ [] → has_row a.id rows ≡ false
     repeats e = not_repeated a.id rows e
 
-    go : (x : ArgAction) (b : Bool) → names_flag a.id ≡ b
+    go : (x : ArgAction) (b : Bool) → is_flag a.id ≡ b
         → (is_help x || cond b (is_set_true x && is_flag_rule a) (keeps_values x && nat_lt 0 (least a))) ≡ true
         → range_kinds (least a) (most_values a) (length vs) ≡ [] → action_fault x false a (values_or_missing a vs) rows ≡ []
         → all_filled (used_as x a.id (reading_by a) (values_or_missing a vs) rows) ≡ true
@@ -228,12 +224,12 @@ default_filled : (a : Rule) (rows : List Row) → fills_default a ≡ true → a
 default_filled a rows fit filled = go (has_row a.id rows) refl a.defaults fit
   where
     go : (b : Bool) → has_row a.id rows ≡ b → (ds : List Text)
-        → (not_some ds || (names_flag a.id && (is_as_written (reading_by a) && is_only (codes "false") ds))) ≡ true
+        → (not_some ds || (is_flag a.id && (is_as_written (reading_by a) && is_only (codes "false") ds))) ≡ true
         → all_filled (cond b rows (default_rows a.id (reading_by a) ds rows)) ≡ true
     go true is ds fit = filled
     go false is [] fit = filled
     go false is (d ∷ ds) fit =
-        let tests = both (names_flag a.id) _ fit in
+        let tests = both (is_flag a.id) _ fit in
         added_filled a.id (reading_by a) DefaultValue (d ∷ ds) rows is (rw tests.0 tests.1) filled
 
 -- the default values keep each row filled
@@ -258,18 +254,18 @@ found_filled id (r ∷ rest) filled = go (bytes_eq r.id id) refl (found_filled i
     go false same later = later
 
 -- a filled row with this id holds what the id asks: the truth of a flag, or else a value
-held_by : (id : Text) (r : Row) (b : Bool) → names_flag id ≡ b → (bytes_eq r.id id && is_filled r) ≡ true
+held_by : (id : Text) (r : Row) (b : Bool) → is_flag id ≡ b → (bytes_eq r.id id && is_filled r) ≡ true
     → cond b (is_as_written r.reading && is_only (bool_text (explicit_source r.source)) r.values) (some_text r.values) ≡ true
 held_by id r b flag passes =
     let tests = both (bytes_eq r.id id) _ passes in
     let id_is : r.id ≡ id = (bytes_eq-Decides r.id id).0 tests.0 in
-    let is : names_flag r.id ≡ b = ap (λ t. names_flag t) id_is ∙ flag in
+    let is : is_flag r.id ≡ b = ap (λ t. is_flag t) id_is ∙ flag in
     let P : Bool → Type 0 = λ b. cond b (is_as_written r.reading && is_only (bool_text (explicit_source r.source)) r.values)
     (some_text r.values) ≡ true in
     subst P is tests.1
 
 -- the values of another row than that of a flag
-given_value : (id : Text) → names_flag id ≡ false → (o : Option Row) → option_map_or (λ r. bytes_eq r.id id && is_filled r) o true ≡ true
+given_value : (id : Text) → is_flag id ≡ false → (o : Option Row) → option_map_or (λ r. bytes_eq r.id id && is_filled r) o true ≡ true
     → option_map_or (λ r. explicit_source r.source) o false ≡ true
     → (first : Text) × (rest : List Text) × (option_map (λ (r : Row). r.values) o ≡ Some (first ∷ rest))
 given_value id other None passes given = absurd (true≢false (sym given))
@@ -285,7 +281,7 @@ first_value None first rest e = ap (λ o. is_some o) e
 first_value (Some r) first rest e = ap (λ o. is_some (slice_get (unwrap_or o []) 0)) e
 
 -- another option than a flag has a value, where it is given
-pub some_value : (id : Text) (rows : List Row) → names_flag id ≡ false → all_filled rows ≡ true → is_given id rows ≡ true
+pub some_value : (id : Text) (rows : List Row) → is_flag id ≡ false → all_filled rows ≡ true → is_given id rows ≡ true
     → is_some (first_of id rows) ≡ true
 some_value id rows other filled given =
     let value = given_value id other (find (λ r. bytes_eq r.id id) rows) (found_filled id rows filled) given in
@@ -296,7 +292,7 @@ abbrev ReadsFlag : Option Row → Type 0
 ReadsFlag o = MatchOption (option_and_then row_text o) (option_map_or (λ r. explicit_source r.source) o false ≡ false)
     (λ text. text ≡ bool_text (option_map_or (λ r. explicit_source r.source) o false))
 
-flag_text : (id : Text) → names_flag id ≡ true → (o : Option Row) → option_map_or (λ r. bytes_eq r.id id && is_filled r) o true ≡ true
+flag_text : (id : Text) → is_flag id ≡ true → (o : Option Row) → option_map_or (λ r. bytes_eq r.id id && is_filled r) o true ≡ true
     → ReadsFlag o
 flag_text id flag None passes = refl
 flag_text id flag (Some r) passes = text r.reading r.values (explicit_source r.source) (held_by id r true flag passes)
@@ -317,10 +313,5 @@ rows_filled rows filled given =
       first = image.0;
       rest = image.1;
       images = image.2;
-      strict = flag_text (codes "strict") refl (find (λ r. bytes_eq r.id (codes "strict")) rows)
-          (found_filled (codes "strict") rows filled);
-      device = flag_text (codes "device") refl (find (λ r. bytes_eq r.id (codes "device")) rows)
-          (found_filled (codes "device") rows filled);
-      lasting = flag_text (codes "lasting") refl (find (λ r. bytes_eq r.id (codes "lasting")) rows)
-          (found_filled (codes "lasting") rows filled);
+      flags = λ id flag. flag_text id flag (find (λ r. bytes_eq r.id id) rows) (found_filled id rows filled);
     }

@@ -1,19 +1,19 @@
 -- The worked command lines, by computation. What words come to is one value (`told`), so that each
 -- example computes once: what is wrong with them, the command that they name, and what is seen of its
 -- rows. The numbers of a line are tested by a function that computes (`is_numbered`).
-use Rattle.std.proofs.Common.{◌≡◌, ◌∙◌, ◌&&◌, ℕ, Bool, refl, ap, sym, subst, codes, true, false, true≢false, nat_lt, nat_le, length, unwrap_or, option_map, List, [], ◌∷◌, Option, Some, None, IfSome}
+use Rattle.std.proofs.Common.{◌≡◌, ◌∙◌, ◌&&◌, ℕ, Bool, refl, ap, sym, subst, true, false, true≢false, nat_lt, nat_le, length, unwrap_or, option_map, List, [], ◌∷◌, Option, Some, None, IfSome}
 use Rattle.std.specs.Char.{digit_value}
+use Rattle.std.specs.List.{All, list_all}
 use Rattle.std.specs.Str.Parse.{AllDigits, digits_value}
 use Rattle.std.proofs.lemmas.Bool.{le-leb, leb-true, lt-ltb, ltb-true}
-use Rattle.work_gate.specs.declared.limits.TheConstants.{MAX_BATCH, MAX_WORKERS}
-use Rattle.command_line.specs.declared.options.TheConstants.{MAX_SESSIONS}
+use Rattle.std.proofs.lemmas.List.Elements.{All-cons, All-head, All-nil, All-tail}
 use Rattle.clap.specs.Kinds.{Kinds}
 use Rattle.clap.specs.Walk.{Row, Text, first_of}
 use Rattle.clap.proofs.OnLiterals.{clap_on_literals}
 use Rattle.clap.proofs.WalkLemmas.{both}
 use Rattle.command_line.specs.declared.options.Verb.{Verb}
 use Rattle.command_line.specs.declared.options.Verb.TheVariants as verbs
-use Rattle.command_line.specs.CommandLine.{AreCrossed, IsCrossed, names_both_of, IsMisnumbered, IsNumberTo, HaveNumbersInRange, IsTaken, LineParts, Says, command_in, faults_in, parts_of, verb_word}
+use Rattle.command_line.specs.CommandLine.{AreCrossed, IsCrossed, names_both_of, IsMisnumbered, IsNumberTo, HaveNumbersInRange, Number, numbers, IsTaken, LineParts, Says, command_in, faults_in, parts_of, verb_word}
 use Rattle.command_line.specs.LineExamples.{MisnumberedLines, ReadsAs, RefusedLines, TakenLines, words_of}
 use Rattle.command_line.proofs.Agreed.{one_name, one_word, same_rows}
 
@@ -70,9 +70,27 @@ given_passed : (most : ℕ) (o : Option Text) → passes most o ≡ true → IfS
 given_passed most None e = tt
 given_passed most (Some text) e = number_passed most text e
 
+abbrev is_in_range : List Row → Number → Bool
+is_in_range rows number = passes number.most (first_of number.name rows)
+
 abbrev is_numbered : List Row → Bool
-is_numbered rows = passes MAX_WORKERS (first_of (codes "workers") rows)
-    && (passes MAX_BATCH (first_of (codes "batch") rows) && passes MAX_SESSIONS (first_of (codes "sessions") rows))
+is_numbered rows = list_all (is_in_range rows) numbers
+
+numbers_pass : (rows : List Row) (ns : List Number) → All (λ n. IfSome (first_of n.name rows) (IsNumberTo n.most)) ns
+    → list_all (is_in_range rows) ns ≡ true
+numbers_pass rows [] all = refl
+numbers_pass rows (n ∷ ns) all =
+    let P : Number → Type 0 = λ n. IfSome (first_of n.name rows) (IsNumberTo n.most) in
+    let first = given_passes n.most (first_of n.name rows) (All-head P n ns all) in
+    rw (first, numbers_pass rows ns (All-tail P n ns all)) refl
+
+numbers_passed : (rows : List Row) (ns : List Number) → list_all (is_in_range rows) ns ≡ true
+    → All (λ n. IfSome (first_of n.name rows) (IsNumberTo n.most)) ns
+numbers_passed rows [] e = All-nil (λ n. IfSome (first_of n.name rows) (IsNumberTo n.most))
+numbers_passed rows (n ∷ ns) e =
+    let tests = both (is_in_range rows n) (list_all (is_in_range rows) ns) e in
+    All-cons (λ n. IfSome (first_of n.name rows) (IsNumberTo n.most)) n ns (given_passed n.most (first_of n.name rows) tests.0)
+    (numbers_passed rows ns tests.1)
 
 -- ---- what words come to
 
@@ -117,19 +135,13 @@ reads {text} {parts} e =
     let verb = parts.verb in
     let shown = shows (line_seen verb) words (verb_word verb) (true, false, parts) e in
     let rows = shown.rows in
-    let numbers : is_numbered rows ≡ true = ap (λ s. s.0) shown.seen in
+    let numbers_are : is_numbered rows ≡ true = ap (λ s. s.0) shown.seen in
     let apart : names_both_of rows ≡ false = ap (λ s. s.1) shown.seen in
     let are : parts_of verb rows ≡ parts = ap (λ s. s.2) shown.seen in
     record {
       taken = shown.taken;
       numbered = λ bad.
-          let tests = both (passes MAX_WORKERS (first_of (codes "workers") rows)) _ numbers in
-          let others = both (passes MAX_BATCH (first_of (codes "batch") rows)) _ tests.1 in
-          let numbered : HaveNumbersInRange rows = record {
-            workers = given_passed MAX_WORKERS _ tests.0;
-            batch = given_passed MAX_BATCH _ others.0;
-            sessions = given_passed MAX_SESSIONS _ others.1;
-          } in
+          let numbered : HaveNumbersInRange rows = numbers_passed rows numbers numbers_are in
           bad.wrong (subst HaveNumbersInRange (same_rows (command_in words) _ _ rows bad.rows shown.command bad.command) numbered);
       apart = λ bad. true≢false (sym (subst AreCrossed (same_rows (command_in words) _ _ bad.rows rows bad.command shown.command)
           bad.crossed) ∙ apart);
@@ -153,12 +165,7 @@ misnumbers {words} verb e =
       name = verb_word verb;
       rows = shown.rows;
       command = shown.command;
-      wrong = λ numbered.
-          let workers = given_passes MAX_WORKERS _ numbered.workers in
-          let batch = given_passes MAX_BATCH _ numbered.batch in
-          let sessions = given_passes MAX_SESSIONS _ numbered.sessions in
-          let good : is_numbered shown.rows ≡ true = rw (workers, batch, sessions) refl in
-          true≢false (sym good ∙ shown.seen);
+      wrong = λ numbered. true≢false (sym (numbers_pass shown.rows numbers numbered) ∙ shown.seen);
     }
 
 -- the lines that are commands say what the examples state
@@ -192,6 +199,9 @@ pub refused_lines : RefusedLines
 unfolding clap_on_literals faults_in command_in told
 refused_lines = record {
   no_words = refl;
+  asks_version = refl;
+  asks_version_in_short = refl;
+  asks_version_of_serve = refl;
   asks_help = refl;
   asks_help_on_serve = refl;
   another_command = refl;

@@ -1,25 +1,34 @@
 -- The command line: the program as `clap` sees it, and what the words after its name say.
-use Rattle.std.specs.Prelude.{◌≡◌, ◌⊎◌, ℕ, Bool, true, false, List, [], ◌∷◌, ◌++◌, codes, is_some, ◌&&◌, ◌||◌}
+use Rattle.std.specs.Prelude.{◌≡◌, ◌≢◌, ◌⊎◌, ℕ, Bool, true, false, List, [], ◌∷◌, ◌++◌, codes, is_some, ◌&&◌, ◌||◌}
 use Rattle.std.specs.Prelude.{Option, Some, IfSome, MatchOption, option_map, unwrap_or}
 use Rattle.std.specs.Prelude.{Result, IfOk}
 use Rattle.std.specs.Int.{IsInRange}
-use Rattle.std.specs.List.{fold}
+use Rattle.std.specs.List.{All, find, list_any}
 use Rattle.std.specs.Option.{option_map_or}
+use Rattle.std.specs.Str.{bytes_eq}
 use Rattle.std.specs.Str.Parse.{IsNumeral, digits_value}
 use Rattle.work_gate.specs.declared.limits.TheConstants.{MAX_BATCH, MAX_WORKERS}
 use Rattle.command_line.specs.declared.options.TheConstants.{MAX_SESSIONS}
 use Rattle.clap.specs.Lexer.{usize_max}
 use Rattle.clap.specs.Values.{bool_text}
 use Rattle.clap.specs.Walk.{Row, Rule, Text, all_of, first_of, one_of, texts}
-use Rattle.clap.specs.Simple.{App, app_of, new_app, new_rule, on_top, subcommand_of, with_rule, with_subcommand}
+use Rattle.clap.specs.Simple.{App, app_of, new_app, new_rule, on_top, subcommand_of, with_subcommand}
 use Rattle.clap.specs.Takes.{is_given}
-use Rattle.clap.specs.Kinds.{Kinds}
+use Rattle.clap.specs.Kinds.{IsAmong, Kinds}
+use Rattle.clap.specs.Words.{found_of, rows_of}
 use Rattle.clap.specs.Faults.{fault_of}
 use Rattle.clap.specs.declared.builder.action.ArgAction.TheVariants.{Append, SetTrue}
 use Rattle.clap.specs.declared.builder.command.Command.{Command}
+use Rattle.clap.specs.declared.error.kind.ErrorKind.{ErrorKind}
+use Rattle.clap.specs.declared.error.kind.ErrorKind.TheVariants as kinds
+use Rattle.clap.specs.declared.parser.matches.ArgMatches.{ArgMatches}
+use Rattle.command_line.specs.declared.commands.Form.TheVariants as forms
+use Rattle.command_line.specs.declared.commands.Argument.{Argument}
 use Rattle.command_line.specs.declared.options.Line.{Line}
 use Rattle.command_line.specs.declared.options.LineFault.{LineFault}
 use Rattle.command_line.specs.declared.options.LineFault.TheVariants.{Usage, Memory}
+use Rattle.command_line.specs.declared.options.NoLine.{NoLine}
+use Rattle.command_line.specs.declared.options.NoLine.TheVariants.{Version, Fault}
 use Rattle.command_line.specs.declared.options.Verb.{Verb}
 use Rattle.command_line.specs.declared.options.Verb.TheVariants as verbs
 
@@ -29,34 +38,47 @@ use Rattle.command_line.specs.declared.options.Verb.TheVariants as verbs
 abbrev pub value_option : Text → Rule
 value_option name = record (new_rule name) { long = Some name; value_names = 1 }
 
+-- one that is not left out, as `--listen PATH`
+abbrev pub wanted_option : Text → Rule
+wanted_option name = record (value_option name) { required = true }
+
 -- an option without a value, as `--strict`
 abbrev pub flag : Text → Rule
 flag name = record (new_rule name) { long = Some name; action = Some SetTrue }
 
--- the words IMAGE, one or more
-abbrev pub image_words : Rule
-image_words = record (new_rule (codes "image")) {
+-- words of this name, one or more
+abbrev pub words : Text → Rule
+words name = record (new_rule name) {
   value_names = 1;
   required = true;
   range = Some (record { start_inclusive = 1; end_inclusive = usize_max });
   action = Some Append;
 }
 
+-- an argument of a command, as `clap` takes it
+abbrev pub rule_for : Argument → Rule
+rule_for argument = elim argument.form [
+  | forms.Flag ↦ flag argument.name.now
+  | forms.Value value ↦ value_option argument.name.now
+  | forms.WantedValue value ↦ wanted_option argument.name.now
+  | forms.Words value ↦ words argument.name.now
+]
+
 -- the command of this name, with these options and words
 abbrev pub command_with : Text → List Rule → App
 command_with name rules = on_top (λ s. record s { rules = rules }) (new_app name)
-
--- the command with these options and words more
-abbrev pub with_rules : App → List Rule → App
-with_rules = fold with_rule
 
 -- how requests are shared out
 abbrev pub plan_options : List Rule
 plan_options = value_option (codes "workers") ∷ value_option (codes "batch") ∷ []
 
+-- the images, and how they are taken
+abbrev pub images : List Rule
+images = flag (codes "strict") ∷ words (codes "image") ∷ []
+
 -- the images that are served, and what the client is told of them
 abbrev pub served_images : List Rule
-served_images = flag (codes "lasting") ∷ flag (codes "strict") ∷ image_words ∷ []
+served_images = flag (codes "lasting") ∷ images
 
 -- the command `serve`
 abbrev pub serve_command : App
@@ -64,26 +86,23 @@ serve_command = command_with (codes "serve") (plan_options ++ (
     value_option (codes "requests") ∷ value_option (codes "replies")
     ∷ value_option (codes "balances") ∷ flag (codes "device") ∷ served_images))
 
--- the option `--listen PATH`, which is not left out
-abbrev pub listen_option : Rule
-listen_option = record (value_option (codes "listen")) { required = true }
-
 -- the command `socket`
 abbrev pub socket_command : App
 socket_command = command_with (codes "socket") (plan_options ++ (
-    listen_option ∷ value_option (codes "sessions") ∷ served_images))
+    wanted_option (codes "listen") ∷ value_option (codes "sessions") ∷ served_images))
 
 -- a command over images, as `check` and `list`
 abbrev pub images_command : Text → App
-images_command name = command_with name (flag (codes "strict") ∷ image_words ∷ [])
+images_command name = command_with name images
 
 -- the command that was made, where there was memory for it, is this one
 abbrev pub IsApp : {E : Type 0} → Result Command E → App → Type 0
 IsApp made app = IfOk made (λ command. app_of command ≡ app)
 
--- the program's name, which is no word of the line; it wants a command
+-- the program's name, which is no word of the line; it wants a command, or tells its version
 abbrev pub top_command : App
-top_command = on_top (λ s. record s { no_binary_name = true; subcommand_required = true })
+top_command = on_top
+    (λ s. record s { no_binary_name = true; has_version = true; subcommand_required = true })
     (new_app (codes "strata"))
 
 -- the program, with its four commands
@@ -104,6 +123,20 @@ command_in words = subcommand_of program words
 abbrev pub IsTaken : List Text → Type 0
 IsTaken words = faults_in words ≡ []
 
+-- the words are refused for this: `clap` may answer them so
+abbrev pub IsRefusedFor : ErrorKind → List Text → Type 0
+IsRefusedFor why words = IsAmong why (faults_in words)
+
+-- the words ask for the version
+abbrev pub AsksVersion : List Text → Type 0
+AsksVersion = IsRefusedFor kinds.DisplayVersion
+
+-- the words are no command of the program, and refused for another reason than to tell the version
+pub record IsRefused (words : List Text) : Type 0 where
+  pub why : ErrorKind
+  pub refused : IsRefusedFor why words
+  pub other : why ≢ kinds.DisplayVersion
+
 -- ---- numbers
 
 -- the text is a decimal number from 1 to `most`, in digits alone
@@ -119,11 +152,31 @@ pub record IsNumberOf (most default : ℕ) (given : Option Text) (number : ℕ) 
   pub numbered : IfSome given (IsNumberTo most)
   pub value : number ≡ number_or default given
 
+-- an option that says a number from 1 to `most`, and what it says where it is left out
+pub record Number : Type 0 where
+  pub name : Text
+  pub most : ℕ
+  pub default : ℕ
+
+-- those of the program
+abbrev pub numbers : List Number
+numbers = record { name = codes "workers"; most = MAX_WORKERS; default = 4 }
+    ∷ record { name = codes "batch"; most = MAX_BATCH; default = 16 }
+    ∷ record { name = codes "sessions"; most = MAX_SESSIONS; default = 1 } ∷ []
+
+-- the one of this name
+abbrev pub number_named : Text → Option Number
+number_named name = find (λ number. bytes_eq number.name name) numbers
+
+-- the option of this name says a number from 1 to `most`, or else the default
+abbrev pub IsNumberNamed : Text → ℕ → ℕ → Type 0
+IsNumberNamed name most default =
+    number_named name ≡ Some (record { name = name; most = most; default = default })
+
 -- the numbers that the rows of a command give are numbers in their ranges
-pub record HaveNumbersInRange (rows : List Row) : Type 0 where
-  pub workers : IfSome (first_of (codes "workers") rows) (IsNumberTo MAX_WORKERS)
-  pub batch : IfSome (first_of (codes "batch") rows) (IsNumberTo MAX_BATCH)
-  pub sessions : IfSome (first_of (codes "sessions") rows) (IsNumberTo MAX_SESSIONS)
+abbrev pub HaveNumbersInRange : List Row → Type 0
+HaveNumbersInRange rows =
+    All (λ number. IfSome (first_of number.name rows) (IsNumberTo number.most)) numbers
 
 -- ---- lines
 
@@ -133,6 +186,10 @@ verb_word verbs.Serve = codes "serve"
 verb_word verbs.Socket = codes "socket"
 verb_word verbs.Check = codes "check"
 verb_word verbs.List = codes "list"
+
+-- the rows that were found
+abbrev pub rows_in : ArgMatches → List Row
+rows_in found = rows_of (found_of found)
 
 -- what a line says, its files as text
 pub record LineParts : Type 0 where
@@ -149,6 +206,11 @@ pub record LineParts : Type 0 where
   pub sessions : ℕ
   pub images : List Text
 
+-- the number of this name that the rows of a command give, or else its default
+abbrev pub number_in : Text → List Row → ℕ
+number_in name rows =
+    number_or (option_map_or (λ number. number.default) (number_named name) 0) (first_of name rows)
+
 -- what the rows of a command give: whether there is each flag, the first value of each option or
 -- else its default, and all images in order
 abbrev pub parts_of : Verb → List Row → LineParts
@@ -157,30 +219,36 @@ parts_of verb rows = record {
   strict = is_given (codes "strict") rows;
   device = is_given (codes "device") rows;
   lasting = is_given (codes "lasting") rows;
-  workers = number_or 4 (first_of (codes "workers") rows);
-  batch = number_or 16 (first_of (codes "batch") rows);
+  workers = number_in (codes "workers") rows;
+  batch = number_in (codes "batch") rows;
   requests = first_of (codes "requests") rows;
   replies = first_of (codes "replies") rows;
   balances = first_of (codes "balances") rows;
   listen = first_of (codes "listen") rows;
-  sessions = number_or 1 (first_of (codes "sessions") rows);
+  sessions = number_in (codes "sessions") rows;
   images = unwrap_or (all_of (codes "image") rows) [];
 }
 
+-- what a line says
+abbrev pub parts_in : Line → LineParts
+parts_in line = record {
+  verb = line.verb;
+  strict = line.strict;
+  device = line.device;
+  lasting = line.lasting;
+  workers = line.workers;
+  batch = line.batch;
+  requests = option_map (λ file. file.now) line.requests;
+  replies = option_map (λ file. file.now) line.replies;
+  balances = option_map (λ file. file.now) line.balances;
+  listen = option_map (λ path. path.now) line.listen;
+  sessions = line.sessions;
+  images = texts line.images.items;
+}
+
 -- the line says this
-pub record Says (line : Line) (parts : LineParts) : Type 0 where
-  pub verb : line.verb ≡ parts.verb
-  pub strict : line.strict ≡ parts.strict
-  pub device : line.device ≡ parts.device
-  pub lasting : line.lasting ≡ parts.lasting
-  pub workers : line.workers ≡ parts.workers
-  pub batch : line.batch ≡ parts.batch
-  pub requests : option_map (λ file. file.now) line.requests ≡ parts.requests
-  pub replies : option_map (λ file. file.now) line.replies ≡ parts.replies
-  pub balances : option_map (λ file. file.now) line.balances ≡ parts.balances
-  pub listen : option_map (λ path. path.now) line.listen ≡ parts.listen
-  pub sessions : line.sessions ≡ parts.sessions
-  pub images : texts line.images.items ≡ parts.images
+abbrev pub Says : Line → LineParts → Type 0
+Says line parts = parts_in line ≡ parts
 
 -- a line has the device, and names a file in place of one of its ends or for the balances
 abbrev pub names_both : Line → Bool
@@ -244,19 +312,36 @@ pub record IsCrossed (words : List Text) : Type 0 where
 -- the words are no command of the program, or misnumbered, or name a file beside the device, or
 -- memory ran out
 abbrev pub IsLineFault : List Text → LineFault → Type 0
-IsLineFault words (Usage text) = (¬ IsTaken words) ⊎ (IsMisnumbered words ⊎ IsCrossed words)
+IsLineFault words (Usage text) = IsRefused words ⊎ (IsMisnumbered words ⊎ IsCrossed words)
 IsLineFault words Memory = Unit {0}
+
+-- the words ask for the version, or have a fault
+abbrev pub IsNoLine : List Text → NoLine → Type 0
+IsNoLine words Version = AsksVersion words
+IsNoLine words (Fault fault) = IsLineFault words fault
+
+-- an error of `clap` of this kind is told as this
+abbrev pub TellsKind : ErrorKind → NoLine → Type 0
+TellsKind why Version = why ≡ kinds.DisplayVersion
+TellsKind why (Fault Memory) = Unit {0}
+TellsKind why (Fault (Usage text)) = (why ≢ kinds.OutOfMemory) × (why ≢ kinds.DisplayVersion)
 
 -- the flag of this name reads as whether it is given
 abbrev pub IsFlagFilled : Text → List Row → Type 0
 IsFlagFilled id rows = MatchOption (one_of id rows) (is_given id rows ≡ false)
     (λ text. text ≡ bool_text (is_given id rows))
 
+-- the flags of the program
+abbrev pub flags : List Text
+flags = codes "strict" ∷ codes "device" ∷ codes "lasting" ∷ []
+
+-- the option of this name is one of them
+abbrev pub is_flag : Text → Bool
+is_flag id = list_any (bytes_eq id) flags
+
 -- the rows of a command have an image, and the flags read as whether they are given
 pub record IsFilled (rows : List Row) : Type 0 where
   pub first : Text
   pub rest : List Text
   pub images : all_of (codes "image") rows ≡ Some (first ∷ rest)
-  pub strict : IsFlagFilled (codes "strict") rows
-  pub device : IsFlagFilled (codes "device") rows
-  pub lasting : IsFlagFilled (codes "lasting") rows
+  pub flags : (id : Text) → is_flag id ≡ true → IsFlagFilled id rows

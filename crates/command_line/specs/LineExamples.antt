@@ -113,9 +113,13 @@ pub record TakenLines : Type 0 where
 abbrev pub HasOneFault : Text → ErrorKind → Type 0
 HasOneFault text why = faults_in (words_of text) ≡ why ∷ []
 
--- words that are no command, and why; or are one that names a file beside the device
+-- words that are no command, and why: where it is `DisplayVersion` they ask for the version; or
+-- words that are one that names a file beside the device
 pub record RefusedLines : Type 0 where
   pub no_words : faults_in [] ≡ kind.MissingSubcommand ∷ []
+  pub asks_version : HasOneFault (codes "--version") kind.DisplayVersion
+  pub asks_version_in_short : HasOneFault (codes "-V") kind.DisplayVersion
+  pub asks_version_of_serve : HasOneFault (codes "serve --version") kind.UnknownArgument
   pub asks_help : HasOneFault (codes "--help") kind.DisplayHelp
   pub asks_help_on_serve : HasOneFault (codes "serve -h") kind.DisplayHelp
   pub another_command :

@@ -4,7 +4,7 @@
 //! images, files and numbers. Its contract is by `clap`'s own definition of what a command's words
 //! are, over the program's commands as `specs/CommandLine.antt` gives them, and by the ranges of
 //! the numbers, so that words are refused only where they are no command or give another number.
-//! `line_laws` says that words have one line at most, and `line_examples` holds worked command
+//! Words may also ask for the [`version`] of the program. `line_laws` says that words have one line at most, and `line_examples` holds worked command
 //! lines.
 #![tactic(auto)]
 
@@ -14,6 +14,7 @@ pub mod line_laws;
 mod numbers;
 mod options;
 mod parse;
+pub mod version;
 
-pub use options::{Line, LineFault, Verb};
+pub use options::{Line, LineFault, NoLine, Verb};
 pub use parse::{line, words};

@@ -2,6 +2,7 @@
 
 ghost use Rattle.std.specs.Prelude.{◌≡◌};
 ghost use Rattle.command_line.specs.declared.options.LineFault.TheVariants.{Memory};
+ghost use Rattle.command_line.specs.declared.options.NoLine.TheVariants.{Fault};
 
 use std::alloc::{AllocError, AllocFailed};
 
@@ -53,12 +54,29 @@ pub struct Line<'a> {
 
 /// Why there is no `Line`.
 #[derive(Debug, Drop)]
+pub enum NoLine {
+    /// The words ask for the version of the program.
+    Version,
+    /// The words have a fault, or memory ran out.
+    Fault(LineFault),
+}
+
+/// What is wrong with the words.
+#[derive(Debug, Drop)]
 pub enum LineFault {
     /// The words say no command of the program, give a number that is none or is out of its range,
     /// or ask for help. The text is for the user.
     Usage { text: String },
     /// Memory ran out.
     Memory,
+}
+
+impl From<AllocError> for NoLine {
+    ghost from_gives = { λ _ no_line. no_line ≡ Fault Memory };
+
+    fn from(_error: AllocError) -> NoLine {
+        NoLine::Fault(LineFault::Memory)
+    }
 }
 
 impl From<AllocError> for LineFault {

@@ -2,19 +2,21 @@
 //!
 //! `clap` keeps what it makes in the global allocator, so this module takes that one alone.
 
-ghost use Rattle.std.specs.Prelude.{◌≡◌, ◌≢◌, ◌≤◌, ◌⊎◌, codes, is_some, map, vec_len};
-ghost use Rattle.std.specs.Prelude.{IfOk, IfErr, IfSome};
+ghost use Rattle.std.specs.Prelude.{◌≡◌, ◌≤◌, ◌⊎◌, [], codes, is_some, map, true};
+ghost use Rattle.std.specs.Prelude.{IfOk, IfErr, option_map, unwrap_or, vec_len};
 ghost use Rattle.std.specs.Int.{IsInRange};
-ghost use Rattle.clap.specs.Words.{first_value, found_of, kind_of, rows_of, subcommand_rows_of};
-ghost use Rattle.command_line.specs.CommandLine.{IsLineFault, IsLineOf, IsTaken, command_in};
+ghost use Rattle.clap.specs.Takes.{is_given};
+ghost use Rattle.clap.specs.Walk.{all_of, first_of, texts};
+ghost use Rattle.clap.specs.Words.{kind_of, subcommand_rows_of};
+ghost use Rattle.command_line.specs.CommandLine.{IsLineOf, IsNoLine, IsTaken, TellsKind, command_in};
 ghost use Rattle.command_line.specs.CommandLine.{HoldsRows, IsFilled, IsInLimits, names_both, verb_word};
-ghost use Rattle.command_line.specs.CommandLine.{AreCrossed, GivesSocket, NamesSocket};
-ghost use Rattle.command_line.specs.CommandLine.{IsNumberOf, IsNumberTo, HaveNumbersInRange};
+ghost use Rattle.command_line.specs.CommandLine.{AreCrossed, GivesSocket, NamesSocket, is_flag, rows_in};
+ghost use Rattle.command_line.specs.CommandLine.{HaveNumbersInRange, IsNumberNamed, IsNumberOf};
 ghost use Rattle.command_line.specs.declared.options.LineFault.TheVariants.{Memory};
 
-use crate::commands::program;
+use crate::commands::{MOUNTING, program};
 use crate::numbers::number_to;
-use crate::options::{Line, LineFault, MAX_SESSIONS, Verb};
+use crate::options::{Line, LineFault, MAX_SESSIONS, NoLine, Verb};
 use clap::error::ErrorKind;
 use clap::{ArgMatches, Error};
 use std::alloc::{AllocError, Global};
@@ -45,31 +47,34 @@ pub fn words<R: Env + AllocGlobal>(rt: &R) -> Result<Vec<String>, LineFault> {
 /// from 1 to 64 (`--workers`), 256 (`--batch`) or 65,535 (`--sessions`). Of the verb `socket` it
 /// has the path of the socket.
 ///
-/// It is `Usage` only where the words are no command of the program, as where they ask for help,
-/// where they give another number, or where they name a file beside the device; `Memory` only where
-/// memory was refused.
-pub fn line<'a, S: AsStr>(alloc: Global, words: &'a [S]) -> Result<Line<'a>, LineFault>
+/// Words that ask for the version have no line, and are `Version`. It is `Usage` only where the
+/// words are no command of the program, as where they ask for help, where they give another number,
+/// or where they name a file beside the device; `Memory` only where memory was refused.
+pub fn line<'a, S: AsStr>(alloc: Global, words: &'a [S]) -> Result<Line<'a>, NoLine>
     ensures ok { IfOk result (λ line. IsLineOf (map S.text words.now) line) }
     ensures limits { IfOk result (λ line. IsInLimits line) }
     ensures some_image { IfOk result (λ line. 1 ≤ vec_len line.images) }
     ensures socket { IfOk result (λ line. NamesSocket line) }
-    ensures err { IfErr result (λ fault. IsLineFault (map S.text words.now) fault) }
+    ensures err { IfErr result (λ no_line. IsNoLine (map S.text words.now) no_line) }
 {
     let matches = matches_of(alloc, words)?;
     let (name, found) = matches.subcommand().unwrap();
-    line_of(alloc, verb_of(name), found)
+    match line_of(alloc, verb_of(name), found) {
+        Ok(line) => Ok(line),
+        Err(fault) => Err(NoLine::Fault(fault)),
+    }
 }
 
 // What `clap` makes of the words.
-fn matches_of<'a, S: AsStr>(alloc: Global, words: &'a [S]) -> Result<ArgMatches<'a>, LineFault>
+fn matches_of<'a, S: AsStr>(alloc: Global, words: &'a [S]) -> Result<ArgMatches<'a>, NoLine>
     ensures taken { IfOk result (λ _. IsTaken (map S.text words.now)) }
     ensures command { IfOk result (λ matches.
         subcommand_rows_of matches ≡ command_in (map S.text words.now)) }
-    ensures err { IfErr result (λ fault. IsLineFault (map S.text words.now) fault) }
+    ensures err { IfErr result (λ no_line. IsNoLine (map S.text words.now) no_line) }
 {
     match program(alloc)?.try_get_matches_from(words) {
         Ok(matches) => Ok(matches),
-        Err(error) => Err(refusal(alloc, &error)),
+        Err(error) => Err(refusal(alloc, words, &error)),
     }
 }
 
@@ -90,39 +95,61 @@ fn verb_of(name: &str) -> Verb
 
 // The line of a command that was found.
 fn line_of<'a>(alloc: Global, verb: Verb, found: &ArgMatches<'a>) -> Result<Line<'a>, LineFault>
-    requires filled { IsFilled (rows_of (found_of found.now)) }
-    requires socket { GivesSocket verb (rows_of (found_of found.now)) }
+    requires filled { IsFilled (rows_in found.now) }
+    requires socket { GivesSocket verb (rows_in found.now) }
     ensures verb { IfOk result (λ line. line.verb ≡ verb) }
-    ensures holds { IfOk result (λ line. HoldsRows (rows_of (found_of found.now)) line) }
+    ensures holds { IfOk result (λ line. HoldsRows (rows_in found.now) line) }
     ensures limits { IfOk result (λ line. IsInLimits line) }
     ensures some_image { IfOk result (λ line. 1 ≤ vec_len line.images) }
     ensures socket { IfOk result (λ line. NamesSocket line) }
     ensures err { IfErr result (λ fault. (fault ≡ Memory)
-        ⊎ ((¬ HaveNumbersInRange (rows_of (found_of found.now)))
-        ⊎ AreCrossed (rows_of (found_of found.now)))) }
+        ⊎ ((¬ HaveNumbersInRange (rows_in found.now)) ⊎ AreCrossed (rows_in found.now))) }
 {
-    let workers = number_of(alloc, found, "workers", DEFAULT_WORKERS, MAX_WORKERS)?;
-    let batch = number_of(alloc, found, "batch", DEFAULT_BATCH, MAX_BATCH)?;
-    let sessions = number_of(alloc, found, "sessions", DEFAULT_SESSIONS, MAX_SESSIONS)?;
-    let images = found.get_strs("image").unwrap().to_vec(alloc)?;
     let line = Line {
         verb,
-        strict: found.get_flag("strict"),
-        device: found.get_flag("device"),
-        lasting: found.get_flag("lasting"),
-        workers,
-        batch,
-        requests: found.get_str("requests"),
-        replies: found.get_str("replies"),
-        balances: found.get_str("balances"),
-        listen: found.get_str("listen"),
-        sessions,
-        images,
+        strict: flag(found, "strict"),
+        device: flag(found, "device"),
+        lasting: flag(found, "lasting"),
+        workers: number(alloc, found, "workers", DEFAULT_WORKERS, MAX_WORKERS)?,
+        batch: number(alloc, found, "batch", DEFAULT_BATCH, MAX_BATCH)?,
+        requests: value(found, "requests"),
+        replies: value(found, "replies"),
+        balances: value(found, "balances"),
+        listen: value(found, "listen"),
+        sessions: number(alloc, found, "sessions", DEFAULT_SESSIONS, MAX_SESSIONS)?,
+        images: images(alloc, found)?,
     };
     match named_beside_device(&line) {
         None => Ok(line),
         Some(name) => Err(crossed(alloc, name)?),
     }
+}
+
+// Whether a flag is given.
+fn flag(found: &ArgMatches<'_>, name: &str) -> bool
+    requires filled { IsFilled (rows_in found.now) }
+    requires flag { is_flag name.now ≡ true }
+    ensures { result ≡ is_given name.now (rows_in found.now) }
+{
+    found.get_flag(name)
+}
+
+// The value of an option, where it is given.
+fn value<'a>(found: &ArgMatches<'a>, name: &str) -> Option<&'a str>
+    ensures { option_map (λ text. text.now) result ≡ first_of name.now (rows_in found.now) }
+{
+    found.get_str(name)
+}
+
+// The images, of which there is one at least.
+fn images<'a>(alloc: Global, found: &ArgMatches<'a>) -> Result<Vec<&'a str>, AllocError>
+    requires { IsFilled (rows_in found.now) }
+    ensures are { IfOk result (λ images.
+        texts images.items ≡ unwrap_or (all_of (codes "image") (rows_in found.now)) []) }
+    ensures some { IfOk result (λ images. 1 ≤ vec_len images) }
+{
+    let images = found.get_strs("image").unwrap().to_vec(alloc)?;
+    Ok(images)
 }
 
 // The option of a file that is given beside the device, if there is one.
@@ -143,21 +170,22 @@ fn named_beside_device(line: &Line<'_>) -> Option<&'static str>
 }
 
 // The number that is given for an option, from 1 to `most`, or `default` where it is left out.
-fn number_of(
+fn number(
     alloc: Global,
     found: &ArgMatches<'_>,
     name: &str,
     default: u32,
     most: u32,
 ) -> Result<u32, LineFault>
-    requires { IsInRange 1 most default }
+    requires named { IsNumberNamed name.now most default }
+    requires default { IsInRange 1 most default }
     ensures ok { IfOk result (λ number.
-        IsNumberOf most default (first_value (found_of found.now) name.now) number) }
+        IsNumberOf most default (first_of name.now (rows_in found.now)) number) }
     ensures in_range { IfOk result (λ number. IsInRange 1 most number) }
     ensures err { IfErr result (λ fault. (fault ≡ Memory)
-        ⊎ ¬ IfSome (first_value (found_of found.now) name.now) (IsNumberTo most)) }
+        ⊎ ¬ HaveNumbersInRange (rows_in found.now)) }
 {
-    match found.get_str(name) {
+    match value(found, name) {
         None => Ok(default),
         Some(text) => match number_to(text, most) {
             Some(number) => Ok(number),
@@ -167,14 +195,33 @@ fn number_of(
 }
 
 // What `clap` answers in place of matches.
-fn refusal(alloc: Global, error: &Error) -> LineFault
-    ensures { (result ≡ Memory) ⊎ (kind_of error.now ≢ ErrorKind.OutOfMemory) }
+fn refusal<S: AsStr>(alloc: Global, words: &[S], error: &Error) -> NoLine
+    ensures { TellsKind (kind_of error.now) result }
 {
-    if error.kind() == ErrorKind::OutOfMemory {
-        return LineFault::Memory;
+    match error.kind() {
+        ErrorKind::OutOfMemory => NoLine::Fault(LineFault::Memory),
+        ErrorKind::DisplayVersion => NoLine::Version,
+        _ if asks_to_mount(words) => NoLine::Fault(no_mount(alloc)),
+        _ => NoLine::Fault(match error.to_string(alloc) {
+            Ok(text) => usage(alloc, text.as_str().trim_end()),
+            Err(_) => LineFault::Memory,
+        }),
     }
-    match error.to_string(alloc) {
-        Ok(text) => usage(alloc, text.as_str().trim_end()),
+}
+
+// Whether the first word is `mount`, which is no command.
+fn asks_to_mount<S: AsStr>(words: &[S]) -> bool {
+    match words.first() {
+        Some(word) => word.as_str() == "mount",
+        None => false,
+    }
+}
+
+// What `mount` is answered, as `clap` words it, with where mounting is told of.
+fn no_mount(alloc: Global) -> LineFault {
+    let text = format!(in alloc; "error: unrecognized subcommand 'mount'\n\n{MOUNTING}");
+    match text {
+        Ok(text) => LineFault::Usage { text },
         Err(_) => LineFault::Memory,
     }
 }

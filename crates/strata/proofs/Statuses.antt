@@ -11,7 +11,7 @@ use Rattle.command_line.specs.declared.options.LineFault.{LineFault}
 use Rattle.command_line.specs.declared.options.LineFault.TheVariants as lines
 use Rattle.command_line.specs.declared.options.Verb.{Verb}
 use Rattle.command_line.specs.declared.options.Verb.TheVariants as verbs
-use Rattle.command_line.specs.CommandLine.{IsTaken, IsMisnumbered, IsCrossed, IsLineFault}
+use Rattle.command_line.specs.CommandLine.{IsRefused, IsMisnumbered, IsCrossed, IsLineFault}
 use Rattle.reply_model.specs.declared.session.Session.{Session}
 use Rattle.stack_prepare.specs.Layers.{AreRefused}
 use Rattle.stack_model.specs.Listing.{Stacked}
@@ -97,7 +97,7 @@ work_other A verbs.List line images fault old new s =
     ]
 
 -- of the two faults of words want of memory has another status
-misread : (words : List (List ℕ)) (line : LineFault) → IsLineFault words line → status_of (line_told_of line) ≡ 2 → (¬ IsTaken words)
+misread : (words : List (List ℕ)) (line : LineFault) → IsLineFault words line → status_of (line_told_of line) ≡ 2 → IsRefused words
     ⊎ (IsMisnumbered words ⊎ IsCrossed words)
 misread words (lines.Usage text) is e = is
 misread words lines.Memory is e = absurd (five_is_other e)
@@ -105,7 +105,7 @@ misread words lines.Memory is e = absurd (five_is_other e)
 -- with the status 2 the words are no command, or one with a wrong number or a file beside the
 -- device, and no device was touched
 pub ends_for_words : (A : Type 0) (words : List (List ℕ)) (old new : Devices) → EndsWith A words 2 old new
-    → ((¬ IsTaken words) ⊎ (IsMisnumbered words ⊎ IsCrossed words)) × (new ≡ old)
+    → (IsRefused words ⊎ (IsMisnumbered words ⊎ IsCrossed words)) × (new ≡ old)
 ends_for_words A words old new e =
     let two : status_of e.fault ≡ 2 = sym e.status_is in
     elim e.stopped [

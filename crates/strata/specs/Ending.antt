@@ -26,7 +26,7 @@ use Rattle.command_line.specs.CommandLine.{IsLineOf, IsLineFault}
 use Rattle.strata.specs.declared.faults.Fault.{Fault}
 use Rattle.strata.specs.declared.faults.Fault.TheVariants.{ImageFile, RequestsFile, RepliesFile, BalancesFile, Bind, Accept, InSession, Stopped}
 use Rattle.strata.specs.Faults.{AreSizes, IsFirstFault, line_told_of, status_of, out_of_memory, write_failed}
-use Rattle.strata.specs.Texts.{size_lines}
+use Rattle.strata.specs.Texts.{size_lines, version_line}
 use Rattle.strata.specs.Sessions.{Accepting, AreServed, status_at, IsSession}
 
 -- the rules that a line holds images to
@@ -63,6 +63,15 @@ pub record IsLost (fault : Fault) (lines : List ℕ) (old new : SinkState) : Typ
 abbrev pub AreNotPut : List ℕ → SinkState → SinkState → Fault → Type 0
 AreNotPut lines old new fault =
     IsLost fault lines old new ⊎ ((fault ≡ out_of_memory) × (new ≡ old))
+
+-- ---- the version
+
+-- the output gained the line of the version, and the status is 0; or the output failed, or memory
+-- ran out, and the status is that of the fault
+pub record TellsVersion (status : ℕ) (old new : SinkState) : Type 0 where
+  pub told : status ≡ 0 → ArePut version_line old new
+  pub failed : status ≢ 0 → (fault : Fault) × (status ≡ status_of fault)
+      × AreNotPut version_line old new fault
 
 -- ---- check
 

@@ -1,17 +1,18 @@
 -- fuse(4): what a command leaves behind that was run over an open /dev/fuse, or over other streams.
 use Rattle.std.specs.Prelude.{◌≡◌, ◌≢◌, ◌⊎◌, ◌||◌, ℕ, Bool, true, false, List, Option, None, Result, MatchResult, if◌then◌else◌}
 use Rattle.devices.specs.Counting.{no_pulls, no_pushes}
-use Rattle.devices.specs.States.{Devices, devices, source_state, sink_state}
+use Rattle.devices.specs.States.{Devices, SinkState, devices, source_state, sink_state}
 use Rattle.fuse_device.specs.Ends.{MountEnds}
 use Rattle.command_line.specs.declared.options.Line.{Line}
-use Rattle.command_line.specs.declared.options.LineFault.{LineFault}
-use Rattle.command_line.specs.CommandLine.{IsLineOf, IsLineFault}
+use Rattle.command_line.specs.declared.options.NoLine.{NoLine}
+use Rattle.command_line.specs.declared.options.NoLine.TheVariants as none
+use Rattle.command_line.specs.CommandLine.{IsLineOf, IsNoLine}
 use Rattle.serve_core.specs.declared.stop.Stop.{Stop}
 use Rattle.serve_core.specs.declared.stop.Stop.TheVariants.{Read, Write}
 use Rattle.strata.specs.declared.faults.Fault.{Fault}
 use Rattle.strata.specs.declared.faults.Fault.TheVariants.{Stopped}
 use Rattle.strata.specs.Faults.{status_of, line_told_of}
-use Rattle.strata.specs.Ending.{IsDone, IsRunOf, EndsInFault}
+use Rattle.strata.specs.Ending.{IsDone, IsRunOf, EndsInFault, TellsVersion}
 
 -- a fault is that the mount was taken away: a pull failed and the input is gone, or a push failed
 -- and one of both is gone
@@ -73,10 +74,17 @@ pub record IsRunBy (A : Type 0) (words : List (List ℕ)) (status : ℕ)
   pub streams : line.device ≡ false
       → (new : Devices) × IsRunOf A words status (new_devices left held) new
 
--- the words were read, as a line by which the program then ran; or as a fault that ends it
+-- the words have no line: the program told its version to a new output over a writer that holds
+-- this, if they ask for it, or ended with their fault
+abbrev pub EndsWithoutLine : NoLine → ℕ → Option (List ℕ) → Type 0
+EndsWithoutLine none.Version status held =
+    (new : SinkState) × TellsVersion status (sink_state held no_pushes) new
+EndsWithoutLine (none.Fault fault) status held = status ≡ status_of (line_told_of fault)
+
+-- the words were read, as a line by which the program then ran; or they have none
 pub record IsRunAsSaid (A : Type 0) (words : List (List ℕ)) (status : ℕ)
     (left held : Option (List ℕ)) : Type 0 where
-  pub read : Result Line LineFault
+  pub read : Result Line NoLine
   pub by : MatchResult read
       (λ line. IsLineOf words line × IsRunBy A words status left held line)
-      (λ fault. IsLineFault words fault × (status ≡ status_of (line_told_of fault)))
+      (λ no_line. IsNoLine words no_line × EndsWithoutLine no_line status held)

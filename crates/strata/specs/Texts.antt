@@ -1,6 +1,7 @@
 -- What the program prints.
 use Rattle.std.specs.Prelude.{ℕ, ◌+◌, ◌-◌, ℤ, List, [], ◌∷◌, ◌++◌, length, replicate, codes, string_bytes, false}
 use Rattle.std.specs.Fmt.{decimal, digits, signed_decimal}
+use Rattle.command_line.specs.declared.version.TheConstants.{LOGIC, VERSION}
 use Rattle.romfs_format.specs.declared.rule.ImageFault.{ImageFault}
 use Rattle.romfs_format.specs.Texts.{text_of}
 use Rattle.serve_core.specs.declared.stop.Stop.{Stop}
@@ -43,6 +44,11 @@ fault_text (Broken image fault) = broken_text image fault
 fault_text (InSession session stop) =
     codes "session " ++ (decimal session ++ (codes ": " ++ stop_text stop))
 fault_text (Stopped stop) = stop_text stop
+
+-- the line of the version
+abbrev pub version_line : List ℕ
+version_line =
+    codes "strata " ++ (VERSION.now ++ (codes " (logic " ++ (LOGIC.now ++ codes ")\n")))
 
 -- a line for each of these, numbered from this number on
 unfoldable pub numbered_lines : {X : Type 0} → (ℕ → X → List ℕ) → ℕ → List X → List ℕ

@@ -1,7 +1,7 @@
 //! What the exit statuses mean, by what [`crate::command`] and [`crate::sessions_from`] promise.
 
 ghost use Rattle.std.specs.Prelude.{◌≡◌, ◌≢◌, ◌≤◌, ◌⊎◌, ℕ, List, Bool, true, false, is_some, Option, Ok, Err};
-ghost use Rattle.command_line.specs.CommandLine.{IsTaken, IsMisnumbered, IsCrossed};
+ghost use Rattle.command_line.specs.CommandLine.{IsRefused, IsMisnumbered, IsCrossed};
 ghost use Rattle.command_line.specs.declared.options.Line.{Line};
 ghost use Rattle.command_line.specs.declared.options.Verb.TheVariants as verbs;
 ghost use Rattle.devices.specs.States.{Devices};
@@ -29,7 +29,7 @@ pub fn statuses_tell<A: Allocator>()
         EndsWith A words n old new → (1 ≤ n) × (n ≤ 5) }
     ensures words { (words : List (List ℕ)) (old new : Devices) →
         EndsWith A words 2 old new →
-        ((¬ IsTaken words) ⊎ (IsMisnumbered words ⊎ IsCrossed words)) × (new ≡ old) }
+        (IsRefused words ⊎ (IsMisnumbered words ⊎ IsCrossed words)) × (new ≡ old) }
     ensures images { (words : List (List ℕ)) (old new : Devices) →
         EndsWith A words 3 old new → AreToBlame words }
 {}

@@ -25,8 +25,9 @@ mod listing;
 mod program;
 mod serving;
 mod settings;
+mod version;
 
 pub use clients::{sessions, sessions_from};
-pub use command_line::{Line, LineFault, line};
+pub use command_line::{Line, LineFault, NoLine, line};
 pub use faults::Fault;
 pub use program::{command, command_on_device, command_on_streams};

@@ -19,7 +19,8 @@ use crate::listening::listen;
 use crate::listing::list;
 use crate::serving::serve;
 use crate::settings::profile_of;
-use command_line::{Line, Verb, line};
+use crate::version::tell_version;
+use command_line::{Line, NoLine, Verb, line};
 use devices::{Sink, Source, Spout, Tap};
 use fuse_device::{MessageTap, ReplySpout};
 use image_files::read_images;
@@ -34,7 +35,7 @@ use std::thread::Threads;
 /// Runs the program on the words after its name, over a reader and a writer that were not used
 /// before, and gives its exit status. They are the two ends of an open `/dev/fuse` where the line
 /// says `--device`, and nowhere else. A fault of the words, or memory that is refused as they are
-/// read, ends it before either is touched.
+/// read, ends it before either is touched. Words that ask for the version are answered by its line.
 ///
 /// What it then does is said of [`command_on_device`] and [`command_on_streams`]. Memory comes from
 /// `alloc`, but for the command line: `clap` takes the global allocator alone.
@@ -54,7 +55,8 @@ where
 {
     match line(global, words) {
         Ok(line) => command_of_line(rt, alloc, &line, reader, writer, faults),
-        Err(fault) => Fault::from(fault).end(faults),
+        Err(NoLine::Version) => tell_version(alloc, &mut Spout::new(writer), faults),
+        Err(NoLine::Fault(fault)) => Fault::from(fault).end(faults),
     }
 }
 

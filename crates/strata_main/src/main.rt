@@ -1,10 +1,14 @@
 //! The program `strata`, over the process's own words and streams.
 #![tactic(auto)]
 
+mod input;
+
 use command_line::words;
+use input::unfit_input;
 use std::alloc::Allocator;
 use std::fs;
 use std::fs::Files;
+use std::io::IsTerminal;
 use std::process::ExitCode;
 use strata::{Fault, command};
 
@@ -36,16 +40,20 @@ fn main(rt: HostRuntime) -> ExitCode {
     let alloc = rt.alloc();
     keep_freed_blocks(alloc);
     let mut faults = rt.stderr();
+    let input = rt.stdin();
     let status = match words(&rt) {
-        Ok(words) => command(
-            &rt,
-            alloc,
-            alloc,
-            words.as_slice(),
-            rt.stdin(),
-            rt.stdout(),
-            &mut faults,
-        ),
+        Ok(words) => match unfit_input(&rt, alloc, words.as_slice(), input.is_terminal()) {
+            Some(fault) => fault.end(&mut faults),
+            None => command(
+                &rt,
+                alloc,
+                alloc,
+                words.as_slice(),
+                input,
+                rt.stdout(),
+                &mut faults,
+            ),
+        },
         Err(fault) => Fault::from(fault).end(&mut faults),
     };
     ExitCode::from(status)

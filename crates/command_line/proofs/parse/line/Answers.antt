@@ -1,7 +1,9 @@
-use Rattle.std.proofs.Common.{◌≡◌, ◌∙◌, Some, map}
+use Rattle.std.proofs.Common.{◌≡◌, ◌∙◌, Ok, Result, Some, map}
 use Rattle.clap.specs.Words.{found_of, rows_of}
 use Rattle.command_line.specs.CommandLine.{command_in}
-use Rattle.command_line.proofs.Parsed.{command_filled, command_gives, command_verb, line_is, met_command, some_command}
+use Rattle.command_line.specs.declared.options.Line.{Line}
+use Rattle.command_line.specs.declared.options.LineFault.{LineFault}
+use Rattle.command_line.proofs.Parsed.{command_filled, command_gives, command_verb, fault_is, line_is, met_command, some_command}
 use Rattle.command_line.proofs.parse.line.Given.{Over}
 use Rattle.command_line.proofs.parse.line.Goals.{After-unwrap}
 use Rattle.command_line.proofs.parse.line.Goals as goal
@@ -31,7 +33,13 @@ line_of-requires-clause-socket g c =
     command_gives _ _ _ c.verb_of.result c.in_ok-matches.ensures.taken (met g (goal.at.line_of-requires-clause-socket g c).After-unwrap)
     c.verb_of.ensures
 
-pub returns-clause-ok : goal.returns-clause-ok
-returns-clause-ok g c =
-    line_is _ _ _ c.verb_of.result c.line_of.result c.in_ok-matches.ensures.taken (met g (goal.at.returns-clause-ok g c).After-unwrap)
-    c.verb_of.ensures c.line_of.ensures.verb c.line_of.ensures.holds
+pub returns-in-Ok-clause-ok : goal.returns-in-Ok-clause-ok
+returns-in-Ok-clause-ok g c =
+    let read : Result Line LineFault = Ok c.in-Ok.line in
+    line_is _ _ _ c.verb_of.result read c.in_ok-matches.ensures.taken (met g (goal.at.returns-in-Ok-clause-ok g c).After-unwrap)
+    c.verb_of.ensures c.in-Ok.ensures.verb c.in-Ok.ensures.holds
+
+pub returns-clause-err : goal.returns-clause-err
+returns-clause-err g c =
+    fault_is _ _ _ c.in-Err.fault c.in_ok-matches.ensures.taken (met g (goal.at.returns-clause-err g c).After-unwrap)
+    c.in-Err.ensures.err

@@ -1,0 +1,68 @@
+//! What standard input is, where requests are to be read from it. No contract can say so: it goes
+//! by what the system tells.
+
+use command_line::{Line, Verb, line};
+use std::alloc::Global;
+use std::fs;
+use std::fs::Files;
+use std::os::unix::fs::{FileTypeExt, MetadataExt};
+use strata::Fault;
+
+/// Standard input, as Linux names what a process has open.
+const INPUT: &str = "/proc/self/fd/0";
+
+/// The number of /dev/fuse: major 10, minor 229 (Linux, Documentation/admin-guide/devices.txt).
+const FUSE: u64 = 10 << 8 | 229;
+
+const TERMINAL: &str = "error: requests are read from standard input, and that is a terminal\n\n\
+    To mount, see strata-mount(1).";
+
+const NO_DEVICE: &str = "error: standard input is no open /dev/fuse, as '--device' says\n\n\
+    To mount, see strata-mount(1).";
+
+/// The fault of words that want requests from a terminal, or that say `--device` where standard
+/// input is neither an open `/dev/fuse` nor a socket, which may stand in for one. It is none where
+/// the system does not tell, and where the words have a fault, which is told elsewhere.
+pub fn unfit_input<R: Files>(
+    rt: &R,
+    alloc: Global,
+    words: &[String],
+    is_terminal: bool,
+) -> Option<Fault> {
+    if !is_terminal && !words.iter().any(|word| word.as_str() == "--device") {
+        return None;
+    }
+    let text = match line(alloc, words) {
+        Ok(line) => unfit_for(rt, &line, is_terminal)?,
+        Err(_) => return None,
+    };
+    match String::from_str(alloc, text) {
+        Ok(text) => Some(Fault::Usage { text }),
+        Err(refused) => Some(Fault::from(refused)),
+    }
+}
+
+fn unfit_for<R: Files>(rt: &R, line: &Line<'_>, is_terminal: bool) -> Option<&'static str> {
+    if line.device {
+        if may_be_device(rt) {
+            None
+        } else {
+            Some(NO_DEVICE)
+        }
+    } else if is_terminal && line.verb == Verb::Serve && line.requests.is_none() {
+        Some(TERMINAL)
+    } else {
+        None
+    }
+}
+
+// Whether standard input may be a device of FUSE: it is one, or a socket, or nobody knows.
+fn may_be_device<R: Files>(rt: &R) -> bool {
+    match fs::metadata(rt, INPUT) {
+        Ok(input) => {
+            let kind = input.file_type();
+            kind.is_socket() || kind.is_char_device() && input.rdev() == FUSE
+        }
+        Err(_) => true,
+    }
+}
