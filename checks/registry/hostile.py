@@ -3,7 +3,6 @@ import gzip
 import os
 import random
 import shutil
-import signal
 import subprocess
 import sys
 import time
