@@ -61,6 +61,8 @@ def check_mounts_by_name(room):
     os.symlink(lower, os.path.join(room.path, "team", "app:1"))
     hold("a file", True, os.path.exists(os.path.join(mounted(room, "team/app:1"), "bin", "tell")))
     hold("an image", WANTED, seen(mounted(room, "image:team/app:1")))
+    at = mounted(room, "image:team/app:1", "team/app:1")
+    hold("a file over an image", True, os.path.exists(os.path.join(at, "bin", "tell")))
     for word in ("image:none", "image:team/app:2", "image:../app"):
         at, done = mount(room, word)
         hold(word, (1, 1, False), (done.returncode, done.stderr.count("\n"), os.path.ismount(at)))
