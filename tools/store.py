@@ -85,8 +85,12 @@ class Store:
         self.mark(make)
         # without the right to write, a store can be read
         opened = make_folder if make else open_folder
-        self.blobs = opened("sha256", opened("blobs", self.root))
-        self.images, self.records, self.new = (opened(it, self.root) for it in ("images", "made", "new"))
+        try:
+            self.blobs = opened("sha256", opened("blobs", self.root))
+            self.images, self.records, self.new = (opened(it, self.root) for it in ("images", "made", "new"))
+        except FileNotFoundError:
+            # the run that made it was killed before it brought anything
+            raise Refused("%s: no store of layers" % self.name) from None
 
     def mark(self, make):
         """Sees that the folder is a store, or, where it is empty, makes it one: the mark comes first."""

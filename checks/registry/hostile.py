@@ -3,7 +3,6 @@ import gzip
 import os
 import random
 import shutil
-import signal
 import subprocess
 import sys
 import time
@@ -153,6 +152,25 @@ def check_links_in_store(room):
     hold("a link at a layer's place", (1, []), (done.returncode, os.listdir(elsewhere)))
 
 
+def check_left_over(room):
+    """What a killed run has left is taken away by the next one, and is no layer meanwhile."""
+    source, new = made.layout(room.name()), os.path.join(room.store, "new")
+    room.layers("pull", "oci:" + source.path, "a:1")
+    os.makedirs(os.path.join(new, "fetched", "blobs"))
+    for name in ("0123", os.path.join("fetched", "blobs", "x")):
+        with open(os.path.join(new, name), "wb") as out:
+            out.write(b"half")
+    hold("verified", "", room.layers("verify"))
+    room.layers("pull", "oci:" + source.path, "a:2")
+    hold("left", [], os.listdir(new))
+    out = room.name()
+    room.layers("convert", source.path, out)
+    with open(os.path.join(out, ".strata-0123"), "wb") as half:
+        half.write(b"half")
+    room.layers("convert", source.path, out)
+    hold("left in a layout", ["blobs", "index.json", "oci-layout"], sorted(os.listdir(out)))
+
+
 def large_layers(count):
     """Layers that take a while."""
     draw = random.Random(7)
@@ -274,8 +292,8 @@ def check_progress(room):
 
 
 def checks():
-    return [check_digests, check_verify, check_unlike_configuration, check_escapes, check_links_in_store, check_two_at_once,
-            check_full_disk, check_progress, check_killed_a_hundred_times]
+    return [check_digests, check_verify, check_unlike_configuration, check_escapes, check_links_in_store,
+            check_left_over, check_two_at_once, check_full_disk, check_progress, check_killed_a_hundred_times]
 
 
 def quick_checks():

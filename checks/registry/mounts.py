@@ -1,11 +1,13 @@
 """Checks of mounts of images by their names in a store."""
+import json
 import os
 import sys
 import time
 
+from checks import ROOT, TOOLS
 from checks.registry import made
 from checks.registry.hostile import flip
-from checks.registry.rooms import MOUNT, SECONDS, LeftOut, hold
+from checks.registry.rooms import LAYERS, MOUNT, SECONDS, LeftOut, hold, needs
 from checks.registry.stores import mounted_layers
 
 
@@ -59,6 +61,8 @@ def check_mounts_by_name(room):
     os.symlink(lower, os.path.join(room.path, "team", "app:1"))
     hold("a file", True, os.path.exists(os.path.join(mounted(room, "team/app:1"), "bin", "tell")))
     hold("an image", WANTED, seen(mounted(room, "image:team/app:1")))
+    at = mounted(room, "image:team/app:1", "team/app:1")
+    hold("a file over an image", True, os.path.exists(os.path.join(at, "bin", "tell")))
     for word in ("image:none", "image:team/app:2", "image:../app"):
         at, done = mount(room, word)
         hold(word, (1, 1, False), (done.returncode, done.stderr.count("\n"), os.path.ismount(at)))
@@ -102,4 +106,26 @@ def check_verified_mounts(room):
     hold("missing", (1, True, False), (done.returncode, os.path.basename(layer) in done.stderr, os.path.ismount(at)))
 
 
-CHECKS = [check_mounts_by_name, check_one_file, check_used_layers, check_verified_mounts]
+HELPER = """
+mount -t tmpfs tmpfs /var/lib && mount -t tmpfs tmpfs /mnt || exit 99
+"$1" -B "$2" pull "oci:$4" team/app:1 >&2 && "$1" -B "$3" image:team/app:1 /mnt -o ro >&2 || exit 98
+"$1" -B "$5" /mnt
+umount /mnt
+"""
+
+
+def check_mount_helper(room):
+    """`image:NAME:TAG` as mount(8) hands it to its helper, over root's own store."""
+    needs("unshare", "mount", "umount")
+    if os.geteuid() != 0 or not os.path.exists(os.path.join(ROOT, "build", "strata")):
+        raise LeftOut("it wants root, and build/strata")
+    helper, tree = os.path.join(TOOLS, "mount_helper.py"), os.path.join(ROOT, "checks", "registry", "tree.py")
+    done = room.run("unshare", "-m", "sh", "-c", HELPER, "sh", sys.executable, LAYERS, helper,
+                    made.layout(room.name()).path, tree)
+    if done.returncode == 99 or "/dev/fuse" in done.stderr:
+        raise LeftOut("no mounts here: %s" % done.stderr.strip())
+    hold("status", (0, True), (done.returncode, done.stdout != ""))
+    hold("paths", sorted(made.SHOWN), sorted(("/" + it).replace("/.", "/") for it in json.loads(done.stdout)))
+
+
+CHECKS = [check_mounts_by_name, check_one_file, check_used_layers, check_verified_mounts, check_mount_helper]

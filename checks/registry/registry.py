@@ -15,8 +15,9 @@ def main(words):
     is_right &= run_checks(hostile.quick_checks() if is_quick else hostile.checks(), strata, "hostile")
     is_right &= run_checks(mounts.CHECKS, strata, "mounts")
     if not is_quick:
-        from checks.registry import outside
+        from checks.registry import outside, printed
         is_right &= run_checks(outside.CHECKS, strata, "outside")
+        is_right &= run_checks(printed.CHECKS, strata, "printed")
     return is_right
 
 
