@@ -20,7 +20,7 @@ LAYERS = ("romfs_image", "layer_tree", "stack_core", "node_table", "fuse_wire", 
 # A module of a layer whose functions callers name, too.
 MODULES = ("romfs_image/src/sample.rt",)
 # What tests share.
-KITS = ("test_kit", "serve_kit")
+KITS = ("test_kit", "serve_test_kit")
 
 
 def read(path):

@@ -14,7 +14,7 @@ use Rattle.fuse_wire.specs.Requests.{lookup}
 use Rattle.stack_model.specs.Attributes.{is_directory, is_directory_at, kind_at, attr_of}
 use Rattle.stack_model.specs.Numbers.{Place, number, node_of, parent, child}
 use Rattle.stack_model.specs.Listing.{Stacked}
-use Rattle.stack_table.specs.Readers.{attr_at}
+use Rattle.table_reader.specs.Readers.{attr_at}
 use Rattle.reply_model.specs.declared.session.Agreement.{Agreement}
 use Rattle.reply_model.specs.Lookups.{is_itself, is_parent, looked_up}
 use Rattle.reply_model.specs.Services.{refuse_if, unless_directory}

@@ -12,7 +12,7 @@ use Rattle.romfs_format.specs.declared.head.Kind.{Kind}
 use Rattle.stack_model.specs.Attributes.{kind_at, is_directory_at}
 use Rattle.stack_model.specs.Numbers.{Place, number, node_of}
 use Rattle.stack_model.specs.Listing.{Stacked}
-use Rattle.stack_table.specs.Readers.{attr_at}
+use Rattle.table_reader.specs.Readers.{attr_at}
 use Rattle.reply_model.specs.declared.moves.Move.{Move}
 use Rattle.reply_model.specs.declared.session.Agreement.{Agreement}
 use Rattle.reply_model.specs.declared.session.Session.{Session}

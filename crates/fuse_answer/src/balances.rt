@@ -12,7 +12,7 @@ use crate::outcome::Answer;
 use crate::rows::line_at;
 use fuse_wire::forget::{Forget, Forgets};
 use lookup_balances::add_move;
-use stack_table::Table;
+use table_reader::Table;
 use std::alloc::Allocator;
 
 /// Adds what an answer gives and takes to the balances, in which node n has the place n - 1.

@@ -13,7 +13,7 @@ use crate::sessions::{agreement_of, is_spoken};
 use fuse_wire::forget::Forget;
 use fuse_wire::{Errno, InitOut, Op, Request, opcode};
 use reply_model::{Agreement, Session};
-use stack_table::{Guess, Table};
+use table_reader::{Guess, Table};
 use std::alloc::Allocator;
 
 /// What is decided about a request.

@@ -16,7 +16,7 @@ use fuse_wire::limits::MAX_DATA_SIZE;
 use fuse_wire::{Errno, dirent_size};
 use reply_model::Agreement;
 use romfs_format::Kind;
-use stack_table::{Row, Table};
+use table_reader::{Row, Table};
 use std::alloc::Allocator;
 
 /// The bytes of a `struct fuse_entry_out`, which stands before each row of READDIRPLUS.

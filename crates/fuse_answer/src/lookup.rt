@@ -11,7 +11,7 @@ use fuse_wire::Errno;
 use fuse_wire::limits::MAX_NAME_SIZE;
 use reply_model::Agreement;
 use romfs_format::Kind;
-use stack_table::{Guess, Table};
+use table_reader::{Guess, Table};
 use std::alloc::Allocator;
 
 /// What LOOKUP is answered. In a session with `FUSE_EXPORT_SUPPORT` the name `.` finds the node

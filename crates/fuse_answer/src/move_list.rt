@@ -17,7 +17,7 @@ use crate::rows::line_at;
 use fuse_wire::Request;
 use fuse_wire::forget::{Forget, Forgets};
 use reply_model::{Move, Session};
-use stack_table::{Guess, Table};
+use table_reader::{Guess, Table};
 use std::alloc::{AllocError, Allocator};
 
 /// Appends what a request gives and takes, in order: one lookup for the entry of a LOOKUP and for

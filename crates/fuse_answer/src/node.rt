@@ -11,7 +11,7 @@ use fuse_wire::flags::{FOPEN_CACHE_DIR, FOPEN_KEEP_CACHE};
 use fuse_wire::limits::MAX_DATA_SIZE;
 use reply_model::Agreement;
 use romfs_format::Kind;
-use stack_table::Table;
+use table_reader::Table;
 use std::alloc::Allocator;
 
 /// What GETATTR is answered.

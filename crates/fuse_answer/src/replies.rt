@@ -16,7 +16,7 @@ use crate::rows::put_rows_and_move;
 use crate::write::write;
 use fuse_wire::{Errno, Op, Replies, Request, opcode, put_error};
 use reply_model::Session;
-use stack_table::{Guess, Table};
+use table_reader::{Guess, Table};
 use std::alloc::{AllocError, Allocator};
 
 // A request, the session before it, and a guess of the row that it finds.

@@ -10,7 +10,7 @@ use fuse_wire::{
     Replies, put_attr, put_data, put_entry, put_head, put_init, put_negative_entry, put_open,
     put_statfs,
 };
-use stack_table::Table;
+use table_reader::Table;
 use std::alloc::{AllocError, Allocator};
 
 /// Appends the reply with an answer.

@@ -6,10 +6,10 @@ use Rattle.romfs_format.specs.declared.head.Kind.{Kind}
 use Rattle.romfs_format.specs.Fields.{kind}
 use Rattle.romfs_format.specs.Links.{IsFinal}
 use Rattle.stack_model.specs.Stack.{Path}
-use Rattle.shown_tree.specs.declared.place.Entry.{Entry}
-use Rattle.shown_tree.specs.Trees.{TreeRows, entry_at, cuts_at, IsEntryOf, IsTreeOf}
+use Rattle.whiteout_tree.specs.declared.place.Entry.{Entry}
+use Rattle.whiteout_tree.specs.Trees.{TreeRows, entry_at, cuts_at, IsEntryOf, IsTreeOf}
 use Rattle.layer_tree.proofs.Joining.{some_and}
-use Rattle.shown_tree.proofs.Listed.{one_end}
+use Rattle.whiteout_tree.proofs.Listed.{one_end}
 
 -- a header has one entry in a run
 one_entry : (first : ℕ) (layers : List (List ℕ)) (i h : ℕ) (e f : Entry) → IsEntryOf first layers i h e → IsEntryOf first layers i h f

@@ -10,7 +10,7 @@ use Rattle.romfs_reader.specs.Images.{IsImage}
 use Rattle.romfs_reader.proofs.Keeps.{not_directory}
 use Rattle.romfs_reader.proofs.Given.{From, from_inside, hard_member}
 use Rattle.romfs_reader.specs.Readers.{IsGiven}
-use Rattle.shown_tree.specs.declared.place.Entry.{Entry}
+use Rattle.whiteout_tree.specs.declared.place.Entry.{Entry}
 use Rattle.layer_tree.specs.Reading.{IsEntryIn}
 
 -- no hard link leads on from a directory

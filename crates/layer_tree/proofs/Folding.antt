@@ -11,19 +11,19 @@ use Rattle.romfs_reader.specs.Images.{IsImage}
 use Rattle.romfs_reader.proofs.Paths.{one_header}
 use Rattle.stack_model.specs.Stack.{Path, IsPlain, marker, opaque}
 use Rattle.stack_model.specs.Attributes.{is_directory}
-use Rattle.path_tree.specs.Rows.{Subtree, spread, whole, named, at_path, IsForest}
+use Rattle.name_tree.specs.Rows.{Subtree, spread, whole, named, at_path, IsForest}
 use Rattle.tree_merge.specs.Laying.{AreLaid}
-use Rattle.path_tree.proofs.Spread.{through, at_spread}
+use Rattle.name_tree.proofs.Spread.{through, at_spread}
 use Rattle.tree_merge.proofs.Rising.{branch_rises}
-use Rattle.path_tree.proofs.Lists.{all_get}
-use Rattle.shown_tree.specs.declared.place.Entry.{Entry}
-use Rattle.shown_tree.specs.declared.place.Mark.{Mark}
+use Rattle.name_tree.proofs.Lists.{all_get}
+use Rattle.whiteout_tree.specs.declared.place.Entry.{Entry}
+use Rattle.whiteout_tree.specs.declared.place.Mark.{Mark}
 use Rattle.layer_tree.specs.Members.{NamedMember}
-use Rattle.shown_tree.specs.Marks.{cut_by, mark_of, covered_by, removed_by}
-use Rattle.shown_tree.specs.Marks.{united}
+use Rattle.whiteout_tree.specs.Marks.{cut_by, mark_of, covered_by, removed_by}
+use Rattle.whiteout_tree.specs.Marks.{united}
 use Rattle.layer_tree.specs.Reading.{IsNamedMember, AreByName, HasNamed, CutsFrom, CutsAt, IsEntryIn, IsBranchOf, RemovesFrom, IsBranchAlone, AreBranchesOf, IsMadeOf, IsBlank, AreBuilt, AreWhiteouts, rest_of_opaque}
-use Rattle.shown_tree.proofs.NoDirectory.{not_directory}
-use Rattle.shown_tree.proofs.Cutting.{nothing_cut, cut_same, cut_through, by_name, by_through}
+use Rattle.whiteout_tree.proofs.NoDirectory.{not_directory}
+use Rattle.whiteout_tree.proofs.Cutting.{nothing_cut, cut_same, cut_through, by_name, by_through}
 use Rattle.layer_tree.proofs.Removing.{file_covers}
 use Rattle.layer_tree.proofs.Joining.{cut_united}
 use Rattle.layer_tree.proofs.Stepping.{all_cut}

@@ -18,9 +18,9 @@ use Rattle.romfs_format.specs.declared.limits.TheConstants.{HEAD_SIZE}
 use Rattle.romfs_format.specs.Heads.{name_of, head_of}
 use Rattle.romfs_reader.specs.Readers.{bytes_at}
 use Rattle.romfs_reader.proofs.Readings.{name_bytes}
-use Rattle.name_keys.specs.Keys.{key, AreBytes}
-use Rattle.name_keys.proofs.Order.{all_bytes, each_byte, bytes-drop, key_order, cmp-front}
-use Rattle.path_tree.specs.Rows.{name_cmp}
+use Rattle.name_lookup.specs.Keys.{key, AreBytes}
+use Rattle.name_lookup.proofs.Order.{all_bytes, each_byte, bytes-drop, key_order, cmp-front}
+use Rattle.name_tree.specs.Rows.{name_cmp}
 use Rattle.layer_tree.specs.declared.members.KeyedMember.{KeyedMember}
 use Rattle.layer_tree.specs.Members.{member_in, members_in, HasFront, HaveFront, ShareFront, IsRead, IsKeyed, AreKeyedBehind, AreToldApart, keyed_past, key_and_bytes, IsByName}
 

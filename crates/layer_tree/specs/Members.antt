@@ -5,8 +5,8 @@ use Rattle.romfs_format.specs.declared.head.Head.{Head}
 use Rattle.romfs_format.specs.declared.limits.TheConstants.{HEAD_SIZE}
 use Rattle.romfs_format.specs.Heads.{name_of, head_of}
 use Rattle.romfs_reader.specs.Readers.{IsGiven, bytes_at}
-use Rattle.name_keys.specs.Keys.{key, AreBytes}
-use Rattle.path_tree.specs.Rows.{name_cmp}
+use Rattle.name_lookup.specs.Keys.{key, AreBytes}
+use Rattle.name_tree.specs.Rows.{name_cmp}
 use Rattle.layer_tree.specs.declared.members.KeyedMember.{KeyedMember}
 
 -- a member of a directory: its name, and its header

@@ -1,8 +1,8 @@
 -- What the laws of trees speak of.
 use Rattle.std.specs.Prelude.{◌≡◌, ℕ, List, [], ◌∷◌, ◌++◌, Option, Some, None, codes}
 use Rattle.stack_model.specs.Stack.{Path, IsIn, HasOther}
-use Rattle.path_tree.specs.Rows.{Subtree}
-use Rattle.shown_tree.specs.declared.place.Entry.{Entry}
+use Rattle.name_tree.specs.Rows.{Subtree}
+use Rattle.whiteout_tree.specs.declared.place.Entry.{Entry}
 
 -- on the whole way along the path the layer has no marker for the next name, no marker of the whole
 -- directory, and no entry that is no directory

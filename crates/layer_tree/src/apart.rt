@@ -4,13 +4,13 @@
 //! nothing is made.
 
 ghost use Rattle.std.specs.Prelude.{◌≡◌, IsTrue};
-ghost use Rattle.path_tree.specs.Rows.{IsForest};
+ghost use Rattle.name_tree.specs.Rows.{IsForest};
 ghost use Rattle.layer_tree.specs.Laying.{AreApart, IsApart};
 
 use crate::clashes::is_bare;
 use crate::laying::seek;
-use path_tree::Branch;
-use shown_tree::Cuts;
+use name_tree::Branch;
+use whiteout_tree::Cuts;
 use std::alloc::Allocator;
 
 /// Whether the branches of two directories clash nowhere, as far as it is told.

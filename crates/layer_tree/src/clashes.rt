@@ -5,14 +5,14 @@
 //! is no mark but that of the root.
 
 ghost use Rattle.std.specs.Prelude.{◌≡◌, [], true, false, IfOk, IsTrue};
-ghost use Rattle.path_tree.specs.Rows.{IsForest};
+ghost use Rattle.name_tree.specs.Rows.{IsForest};
 ghost use Rattle.layer_tree.specs.Laying.{AreClashes, HasClash, AreRootClashes, IsBare};
 
 use crate::apart::are_apart;
 use crate::laying::seek;
 use crate::reading::{CUT, UNCUT, leaf};
-use path_tree::{Branch, Name};
-use shown_tree::{Cuts, Mark};
+use name_tree::{Branch, Name};
+use whiteout_tree::{Cuts, Mark};
 use std::alloc::{AllocError, Allocator};
 
 /// The marks of all paths at which one of two trees has a file, and the other one a directory or

@@ -8,14 +8,14 @@
 //! A result that is taken by `?` and given back in `Ok` is promised in other words than it came in.
 
 ghost use Rattle.std.specs.Prelude.{◌≡◌, ◌<◌, ◌+◌, [], ◌∷◌, ◌++◌, ℕ, List, length, IfOk, OnOk, false};
-ghost use Rattle.path_tree.specs.Rows.{NamesRise, IsForest, IsFirstNamed};
-ghost use Rattle.shown_tree.specs.Marks.{mark_of};
-ghost use Rattle.shown_tree.specs.Trees.{IsTreeOf};
+ghost use Rattle.name_tree.specs.Rows.{NamesRise, IsForest, IsFirstNamed};
+ghost use Rattle.whiteout_tree.specs.Marks.{mark_of};
+ghost use Rattle.whiteout_tree.specs.Trees.{IsTreeOf};
 ghost use Rattle.layer_tree.specs.Laying.{AreKept, AreChildrenLeft, AreUnited, AreEntriesLaid, CoverTheKept, IsKept, KeepsFirst, IsFrom, Lays};
 
 use crate::clashes::clashes_both_ways;
-use path_tree::{Branch, place};
-use shown_tree::{Child, Mark, Tree};
+use name_tree::{Branch, place};
+use whiteout_tree::{Child, Mark, Tree};
 use std::alloc::{AllocError, Allocator};
 use std::cmp::Ordering;
 use std::collections::VecDeque;

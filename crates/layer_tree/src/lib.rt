@@ -1,11 +1,11 @@
 //! Layers as trees: the tree of one layer, and trees laid on one another.
 //!
 //! [`Tree::of`](OfLayer::of) gives the tree of one layer, and [`lay`] that of two runs of layers
-//! from theirs. What a tree shows and cuts, and how it is read, `shown_tree` says. `reading` makes
+//! from theirs. What a tree shows and cuts, and how it is read, `whiteout_tree` says. `reading` makes
 //! the tree of one layer, from the members of directories in the order of their names (`members`),
 //! whose headers and names it reads ahead (`ahead`); `laying` lays one tree on another, `clashes`
 //! finds where one has a file and the other more than a leaf, and `apart` sees that there is no
-//! such path. The crate stands on `shown_tree`, `path_tree` and `tree_merge` for trees, on
+//! such path. The crate stands on `whiteout_tree`, `name_tree` and `tree_merge` for trees, on
 //! `romfs_reader` for images and on `stack_model` for what stacks show.
 #![tactic(auto)]
 
@@ -19,4 +19,4 @@ mod reading;
 
 pub use laying::lay;
 pub use reading::OfLayer;
-pub use shown_tree::{Branch, Child, Entry, Mark, Place, Tree};
+pub use whiteout_tree::{Branch, Child, Entry, Mark, Place, Tree};

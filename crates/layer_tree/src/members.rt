@@ -12,13 +12,13 @@ ghost use Rattle.romfs_format.specs.Heads.{name_of, head_of};
 ghost use Rattle.romfs_reader.specs.Images.{IsImage};
 ghost use Rattle.romfs_reader.specs.Readers.{IsGiven};
 ghost use Rattle.stack_model.specs.Stack.{marker, IsMarker};
-ghost use Rattle.name_keys.specs.Keys.{key, AreBytes};
-ghost use Rattle.path_tree.specs.Rows.{name_cmp};
+ghost use Rattle.name_lookup.specs.Keys.{key, AreBytes};
+ghost use Rattle.name_tree.specs.Rows.{name_cmp};
 ghost use Rattle.layer_tree.specs.Members.{members_in, IsRead, HasFront, ShareFront, IsKeyed, AreKeyedBehind, AreToldApart, keyed_past, key_and_bytes, IsByName};
 ghost use Rattle.layer_tree.specs.Reading.{AreSorted};
 
 use romfs_reader::{Head, Image, Kind, Members};
-use shown_tree::is_marker;
+use whiteout_tree::is_marker;
 use std::alloc::{AllocError, Allocator};
 use std::cmp::Ordering;
 
@@ -99,7 +99,7 @@ fn key_of(name: &[u8]) -> u64
     ensures value { result ≡ key 8 name.now }
     ensures bytes { AreBytes name.now }
 {
-    name_keys::key_of(name)
+    name_lookup::key_of(name)
 }
 
 /// What names begin with that all begin with this front, and this name, too; with no name before
@@ -117,7 +117,7 @@ fn shared<'a>(x: &'a [u8], y: &[u8]) -> &'a [u8]
     ensures first { HasFront result.now x.now }
     ensures second { HasFront result.now y.now }
 {
-    &x[..name_keys::shared(x, y)]
+    &x[..name_lookup::shared(x, y)]
 }
 
 /// Gives members whose names begin alike keys that tell them apart.

@@ -10,17 +10,17 @@
 
 ghost use Rattle.std.specs.Prelude.{◌≡◌, ◌≢◌, [], ◌∷◌, ◌++◌, ◌↔◌, length, All, IfOk, OnOk, IsTrue, MatchOption, is_some};
 ghost use Rattle.romfs_reader.specs.Images.{IsImage};
-ghost use Rattle.shown_tree.specs.Trees.{IsTreeOf};
-ghost use Rattle.path_tree.specs.Rows.{NamesRise, named};
+ghost use Rattle.whiteout_tree.specs.Trees.{IsTreeOf};
+ghost use Rattle.name_tree.specs.Rows.{NamesRise, named};
 ghost use Rattle.layer_tree.specs.Members.{members_in, IsRead};
 ghost use Rattle.layer_tree.specs.Reading.{IsReadable, IsAtDepth, AddsMade, AreMadeOf, IsBlank, AreBuilt, AreWhiteouts, AreMembersAt, IsFolder, rest_of_opaque};
 
 use crate::ahead::NamesAhead;
 use crate::members::{KeyedMember, sorted_members, whiteout_of};
-use path_tree::{Branch, Name, child};
+use name_tree::{Branch, Name, child};
 use romfs_format::limits::MAX_NAMES;
 use romfs_reader::{Ends, Head, Image, Kind};
-use shown_tree::{Child, Entry, Mark, Place, Tree, is_marker};
+use whiteout_tree::{Child, Entry, Mark, Place, Tree, is_marker};
 use std::alloc::{AllocError, Allocator};
 use tree_merge::merge;
 

@@ -10,20 +10,20 @@ use Rattle.std.proofs.lemmas.Option.{get_or_from_slice_get}
 use Rattle.romfs_format.specs.declared.head.Kind.{Kind}
 use Rattle.romfs_format.specs.declared.head.Kind.TheVariants.{Directory}
 use Rattle.stack_model.specs.Attributes.{is_directory}
-use Rattle.path_tree.specs.Rows.{Subtree, whole, NamesRise, name_cmp}
+use Rattle.name_tree.specs.Rows.{Subtree, whole, NamesRise, name_cmp}
 use Rattle.romfs_format.specs.declared.head.Head.{Head}
 use Rattle.romfs_format.specs.Heads.{head_of}
 use Rattle.romfs_reader.specs.declared.parts.Part.{Part}
 use Rattle.romfs_reader.specs.Readers.{IsDataPart}
-use Rattle.stack_table.specs.declared.node.Node.{Node}
-use Rattle.shown_tree.specs.declared.place.Place.{Place}
-use Rattle.shown_tree.specs.declared.place.Entry.{Entry}
-use Rattle.name_keys.specs.Names.{Rise}
-use Rattle.stack_table.specs.Rows.{Line, names}
-use Rattle.stack_table.specs.Directories.{HeldDirectories}
+use Rattle.table_reader.specs.declared.node.Node.{Node}
+use Rattle.whiteout_tree.specs.declared.place.Place.{Place}
+use Rattle.whiteout_tree.specs.declared.place.Entry.{Entry}
+use Rattle.name_lookup.specs.Names.{Rise}
+use Rattle.table_reader.specs.Rows.{Line, names}
+use Rattle.table_reader.specs.Directories.{HeldDirectories}
 use Rattle.node_table.specs.declared.building.First.{First}
 use Rattle.node_table.specs.Building.{line_in, count_directories, HasNumberAndSize, AreFollowing, AddsRows, AddsLinked, AddsNothing, AddsByKind, IsReadFrom, IsReadOf}
-use Rattle.shown_tree.proofs.NoDirectory.{not_directory}
+use Rattle.whiteout_tree.proofs.NoDirectory.{not_directory}
 use Rattle.node_table.proofs.Lists.{take_one_more}
 
 -- how far the rows of children have come

@@ -4,17 +4,17 @@ use Rattle.romfs_reader.specs.Readers.{data_of_header as data_in}
 use Rattle.stack_model.specs.Listing.{Entry as Listed, IsListing}
 use Rattle.stack_model.specs.Numbers.{Place, Child, nodes, number, parent, children}
 use Rattle.stack_model.specs.Attributes.{kind_at, is_directory_at, nlink, data_of}
-use Rattle.path_tree.specs.Rows.{Subtree, spread, IsForest}
-use Rattle.shown_tree.specs.declared.place.Place.{Place as TreePlace}
-use Rattle.shown_tree.specs.declared.place.Entry.{Entry}
-use Rattle.stack_table.specs.declared.node.Node.{Node}
+use Rattle.name_tree.specs.Rows.{Subtree, spread, IsForest}
+use Rattle.whiteout_tree.specs.declared.place.Place.{Place as TreePlace}
+use Rattle.whiteout_tree.specs.declared.place.Entry.{Entry}
+use Rattle.table_reader.specs.declared.node.Node.{Node}
 use Rattle.stack_model.specs.Listing.{Stacked}
-use Rattle.stack_table.specs.Rows.{Line}
-use Rattle.stack_table.specs.Directories.{HeldDirectories}
+use Rattle.table_reader.specs.Rows.{Line}
+use Rattle.table_reader.specs.Directories.{HeldDirectories}
 use Rattle.node_table.specs.Walks.{Visit, Walk}
 use Rattle.node_table.specs.Numbering.{visit_place, number_among}
 use Rattle.node_table.specs.Building.{line_in, count_directories, number_above, HasGivenHeader, StandAtStarts, completed}
-use Rattle.stack_table.specs.Held.{AreNodes}
+use Rattle.table_reader.specs.Held.{AreNodes}
 
 -- the row of a shown child
 abbrev pub shown_line : List Listed → Child → Line

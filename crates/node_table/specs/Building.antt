@@ -5,14 +5,14 @@ use Rattle.romfs_format.specs.Fields.{exec, spec}
 use Rattle.romfs_format.specs.Heads.{head_of}
 use Rattle.romfs_reader.specs.Readers.{IsGiven, IsDataPart}
 use Rattle.stack_model.specs.Attributes.{is_directory, mode_of, rdev_of}
-use Rattle.path_tree.specs.Rows.{Subtree, spread, whole, IsForest}
-use Rattle.shown_tree.specs.declared.place.Place.{Place}
-use Rattle.shown_tree.specs.declared.place.Entry.{Entry}
-use Rattle.stack_table.specs.declared.node.Node.{Node}
-use Rattle.stack_table.specs.declared.directory.Directory.{Directory}
-use Rattle.name_keys.specs.Keyed.{AddsKeys}
-use Rattle.stack_table.specs.Rows.{Line, names}
-use Rattle.stack_table.specs.Directories.{HeldDirectories}
+use Rattle.name_tree.specs.Rows.{Subtree, spread, whole, IsForest}
+use Rattle.whiteout_tree.specs.declared.place.Place.{Place}
+use Rattle.whiteout_tree.specs.declared.place.Entry.{Entry}
+use Rattle.table_reader.specs.declared.node.Node.{Node}
+use Rattle.table_reader.specs.declared.directory.Directory.{Directory}
+use Rattle.name_lookup.specs.Keyed.{AddsKeys}
+use Rattle.table_reader.specs.Rows.{Line, names}
+use Rattle.table_reader.specs.Directories.{HeldDirectories}
 use Rattle.node_table.specs.declared.building.First.{First}
 use Rattle.node_table.specs.Walks.{Visit, Walk}
 use Rattle.node_table.specs.Numbering.{number_among}

@@ -3,7 +3,7 @@ use Rattle.std.specs.Prelude.{◌≡◌, ◌≢◌, ℕ, ◌<◌, ◌⊎◌, Lis
 use Rattle.std.specs.List.{Contains}
 use Rattle.std.specs.List.Sorted.{IsSorted}
 use Rattle.std.specs.Ordering.{nat_cmp, ordering_then}
-use Rattle.equal_keys.specs.Once.{IsOnce}
+use Rattle.duplicate_keys.specs.Once.{IsOnce}
 
 -- keys with their places, all but some that stand at one place alone, in the order of keys, and of
 -- places where keys are equal

@@ -2,9 +2,9 @@
 use Rattle.std.specs.Prelude.{◌≡◌, ℕ, ◌+◌, ◌-◌, ◌*◌, ◌^◌, ◌<◌, List, [], length, map, take, min, count_by, slice_get, slice_index, Some, None, unwrap_or, All}
 use Rattle.stack_model.specs.Listing.{Entry as Listed}
 use Rattle.stack_model.specs.Numbers.{Place as ModelPlace, place, same_place, nodes, number_of}
-use Rattle.shown_tree.specs.declared.place.Place.{Place}
-use Rattle.shown_tree.specs.declared.place.Entry.{Entry}
-use Rattle.stack_table.specs.Readers.{placed}
+use Rattle.whiteout_tree.specs.declared.place.Place.{Place}
+use Rattle.whiteout_tree.specs.declared.place.Entry.{Entry}
+use Rattle.table_reader.specs.Readers.{placed}
 use Rattle.node_table.specs.Walks.{Visit}
 
 -- a place as one number

@@ -7,7 +7,7 @@
 
 use crate::walk::Walked;
 use romfs_reader::Image;
-use shown_tree::Entry;
+use whiteout_tree::Entry;
 use std::alloc::Allocator;
 
 /// How many headers are read together.

@@ -10,11 +10,11 @@ ghost use Rattle.node_table.specs.Agreement.{StandAndAgree, AreMade};
 use crate::ahead::HeadersAhead;
 use crate::numbering::Numbered;
 use crate::walk::Walked;
-use name_keys::add_keys;
-use path_tree::Branch;
+use name_lookup::add_keys;
+use name_tree::Branch;
 use romfs_reader::{Image, Kind};
-use shown_tree::{Child, Entry};
-use stack_table::{Directories, Directory, Node, Row};
+use whiteout_tree::{Child, Entry};
+use table_reader::{Directories, Directory, Node, Row};
 use std::alloc::{AllocError, Allocator};
 
 /// What a table is made of beside its images.

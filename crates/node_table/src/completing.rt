@@ -9,7 +9,7 @@ ghost use Rattle.node_table.specs.Building.{completed};
 
 use rayon::prelude::*;
 use romfs_reader::{Image, Kind};
-use stack_table::Node;
+use table_reader::Node;
 use std::alloc::Allocator;
 use std::thread::Threads;
 

@@ -1,12 +1,12 @@
 //! Tables made of the trees of stacks.
 //!
 //! [`Table::of`](OfTree::of) gives the table of a stack from its tree. What a table tells, and how
-//! it is read, `stack_table` says. It is made in one walk over the tree, which tells for each
+//! it is read, `table_reader` says. It is made in one walk over the tree, which tells for each
 //! branch where the one above stands and how many are below it. Places that have more paths than
 //! one are found by a sort, and all are numbered by their first path; from then on a branch's
 //! number is found by where it stands: n log n steps in the paths. The crate stands on
-//! `stack_table` for tables, on `shown_tree` for the tree of a stack, on `romfs_reader` for its
-//! images, on `name_keys` for look-ups, and on `rayon`.
+//! `table_reader` for tables, on `whiteout_tree` for the tree of a stack, on `romfs_reader` for its
+//! images, on `name_lookup` for look-ups, and on `rayon`.
 #![tactic(auto)]
 
 mod ahead;
@@ -18,4 +18,4 @@ mod numbering;
 mod walk;
 
 pub use making::OfTree;
-pub use stack_table::{Attr, Kind, Node, Place, Row, Table};
+pub use table_reader::{Attr, Kind, Node, Place, Row, Table};

@@ -4,8 +4,8 @@ ghost use Rattle.std.specs.Prelude.{◌≤◌, length, IfOk};
 ghost use Rattle.std.specs.List.{AllByRecursion};
 ghost use Rattle.stack_model.specs.declared.limits.TheConstants.{MAX_LAYERS};
 ghost use Rattle.romfs_reader.specs.Images.{IsImage};
-ghost use Rattle.shown_tree.specs.Trees.{IsTreeOf};
-ghost use Rattle.stack_table.specs.Stacked.{IsTableOf};
+ghost use Rattle.whiteout_tree.specs.Trees.{IsTreeOf};
+ghost use Rattle.table_reader.specs.Stacked.{IsTableOf};
 ghost use Rattle.node_table.specs.Agreement.{AreMade};
 
 use crate::building::{TableParts, make};
@@ -13,8 +13,8 @@ use crate::completing::{blocks_of, complete_all};
 use crate::numbering::number_places;
 use crate::walk::{Walked, count_branches, walk};
 use romfs_reader::Image;
-use shown_tree::Tree;
-use stack_table::Table;
+use whiteout_tree::Tree;
+use table_reader::Table;
 use std::alloc::{AllocError, Allocator};
 use std::thread::Threads;
 
@@ -54,7 +54,7 @@ impl<A: Allocator + Copy> OfTree for Table<A> {
 
     ghost use Rattle.std.specs.Prelude.{◌≤◌, length};
     ghost use Rattle.std.specs.Thread.{IsSync};
-    ghost use Rattle.shown_tree.specs.Trees.{IsTreeOf};
+    ghost use Rattle.whiteout_tree.specs.Trees.{IsTreeOf};
     ghost use Rattle.stack_model.specs.declared.limits.TheConstants.{MAX_LAYERS};
 
     ghost fits = { λ tree images.

@@ -4,8 +4,8 @@ ghost use Rattle.std.specs.Prelude.{◌≡◌, ◌<◌, ◌^◌, length, slice_i
 ghost use Rattle.node_table.specs.Numbering.{place_key, one_more, AreKeys, AreNumbered};
 
 use crate::firsts::firsts_of;
-use path_tree::Branch;
-use shown_tree::{Entry, Place};
+use name_tree::Branch;
+use whiteout_tree::{Entry, Place};
 use std::alloc::{AllocError, Allocator};
 
 /// The places of branches, numbered from 1 in the order of their first branch.

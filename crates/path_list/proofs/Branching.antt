@@ -7,8 +7,8 @@ use Rattle.std.specs.declared.cmp.Ordering.{Ordering}
 use Rattle.std.specs.declared.cmp.Ordering.TheVariants.{Less, Equal, Greater}
 use Rattle.std.specs.Ordering.{ordering_then, ordering_reverse}
 use Rattle.std.proofs.lemmas.Cmp.{nat_list_cmp_total}
-use Rattle.path_tree.specs.Rows.{name_cmp}
-use Rattle.path_tree.proofs.Names.{same_or_not, not_below_itself}
+use Rattle.name_tree.specs.Rows.{name_cmp}
+use Rattle.name_tree.proofs.Names.{same_or_not, not_below_itself}
 use Rattle.stack_model.specs.Stack.{Path}
 use Rattle.stack_model.specs.Listing.{Entry, path_cmp, Rises, IsAmong}
 use Rattle.stack_model.specs.Numbers.{Child, place, name_below, child_in}

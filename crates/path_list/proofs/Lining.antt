@@ -6,7 +6,7 @@ use Rattle.stack_model.specs.Numbers.{Place, node_of}
 use Rattle.stack_model.specs.Attributes.{attr_of}
 use Rattle.node_attr.specs.declared.attr.Attr.{Attr}
 use Rattle.stack_model.specs.Listing.{Stacked}
-use Rattle.stack_table.specs.Readers.{attr_at}
+use Rattle.table_reader.specs.Readers.{attr_at}
 use Rattle.path_list.specs.Lines.{fields_text, line_with}
 use Rattle.path_list.specs.Walks.{line_as}
 

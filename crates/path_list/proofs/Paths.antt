@@ -7,7 +7,7 @@ use Rattle.std.specs.Cmp.{IsTotalOrder}
 use Rattle.std.specs.Ordering.{ordering_reverse}
 use Rattle.std.specs.List.{AllByRecursion}
 use Rattle.std.proofs.lemmas.Cmp.{nat_list_cmp_total, lists_total}
-use Rattle.path_tree.proofs.Names.{same_or_not, itself}
+use Rattle.name_tree.proofs.Names.{same_or_not, itself}
 use Rattle.stack_model.specs.Stack.{Path}
 use Rattle.stack_model.specs.Listing.{Entry, path_cmp, IsAmong}
 use Rattle.stack_model.specs.Numbers.{same_name, name_below}

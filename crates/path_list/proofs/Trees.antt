@@ -12,7 +12,7 @@ use Rattle.romfs_format.specs.Links.{IsFinal}
 use Rattle.romfs_reader.specs.Images.{IsImage}
 use Rattle.romfs_reader.proofs.Keeps.{root_directory}
 use Rattle.romfs_reader.proofs.Paths.{one_header}
-use Rattle.path_tree.proofs.Paths.{same_path_or_not}
+use Rattle.name_tree.proofs.Paths.{same_path_or_not}
 use Rattle.stack_model.specs.Stack.{Path, IsPlain, IsIn, Cuts, IsFree, IsTop, Shows}
 use Rattle.stack_model.specs.Listing.{Entry, IsAmong, IsShown, IsListing}
 use Rattle.stack_model.specs.Numbers.{place}

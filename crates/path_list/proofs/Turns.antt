@@ -8,8 +8,8 @@ use Rattle.devices.specs.declared.failed.Failed.{Failed}
 use Rattle.devices.specs.Pushing.{Settles}
 use Rattle.stack_model.specs.Stack.{Path}
 use Rattle.stack_model.specs.Listing.{Stacked}
-use Rattle.stack_table.specs.Rows.{Line}
-use Rattle.stack_table.specs.Readers.{rows_at}
+use Rattle.table_reader.specs.Rows.{Line}
+use Rattle.table_reader.specs.Readers.{rows_at}
 use Rattle.path_list.specs.declared.path_text.TheConstants.{LONGEST}
 use Rattle.path_list.specs.Lines.{name_text, printed}
 use Rattle.path_list.specs.Walks.{Passage, Gains, Puts, PutsBelow, IsVisited, IsOnWay, line_as, lines_below, piece_at}

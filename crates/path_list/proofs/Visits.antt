@@ -11,8 +11,8 @@ use Rattle.stack_model.specs.Numbers.{Place, Child, place, same_place, number_of
 use Rattle.stack_model.specs.Attributes.{is_directory_at}
 use Rattle.stack_model.proofs.Numbering.{number_used, entries_numbered}
 use Rattle.stack_model.specs.Listing.{Stacked}
-use Rattle.stack_table.specs.Rows.{Line}
-use Rattle.stack_table.specs.Readers.{rows_at}
+use Rattle.table_reader.specs.Rows.{Line}
+use Rattle.table_reader.specs.Readers.{rows_at}
 use Rattle.path_list.specs.declared.path_text.TheConstants.{LONGEST}
 use Rattle.path_list.specs.Lines.{name_text, names_text}
 use Rattle.path_list.specs.Below.{after, is_below, below}

@@ -8,7 +8,7 @@ use Rattle.stack_model.specs.Stack.{Path}
 use Rattle.stack_model.specs.Listing.{Entry, IsAmong}
 use Rattle.stack_model.specs.Numbers.{place, number, node_of}
 use Rattle.stack_model.specs.Listing.{Stacked}
-use Rattle.stack_table.specs.Rows.{Line}
+use Rattle.table_reader.specs.Rows.{Line}
 use Rattle.path_list.specs.Lines.{names_text, path_text, line_with, line}
 use Rattle.path_list.specs.Below.{below, AreTree, AreShort}
 

@@ -6,7 +6,7 @@
 //! piece of lines and for the longest path is taken first, so the memory does not grow with the
 //! lines. That these are all shown paths, each once, stands on what the layers are: nothing is
 //! shown below what is no directory, and a directory has one path (`laws`). The crate stands on
-//! `stack_table`, and on `devices` for its sink.
+//! `table_reader`, and on `devices` for its sink.
 #![tactic(auto)]
 
 pub mod examples;

@@ -11,7 +11,7 @@ use crate::path_text::PathText;
 use crate::room::Room;
 use devices::{Failed, Sink};
 use romfs_reader::Image;
-use stack_table::Table;
+use table_reader::Table;
 use std::alloc::{AllocError, Allocator};
 
 // How many bytes of lines wait before they are written.

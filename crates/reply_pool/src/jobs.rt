@@ -11,7 +11,7 @@ use fuse_answer::{answer, moves};
 use fuse_wire::{Op, Replies, Request};
 use reply_model::{Move, Session};
 use reply_pieces::{Rounded, sums};
-use stack_table::Table;
+use table_reader::Table;
 use std::alloc::{AllocError, Allocator};
 
 // Answers jobs one after another.

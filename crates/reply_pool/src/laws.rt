@@ -11,7 +11,7 @@ use draw_board::{Board, Hand};
 use fuse_wire::Request;
 use reply_model::Session;
 use reply_pieces::Piece;
-use stack_table::Table;
+use table_reader::Table;
 use std::alloc::Allocator;
 
 /// Moves have one list of sums.

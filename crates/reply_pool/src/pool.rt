@@ -14,7 +14,7 @@ use reply_model::Session;
 use reply_pieces::Gathered;
 use round_plan::{LookupsAhead, Plan, pass_batch, worth_workers};
 use serve_loop::{AnswersOne, AnswersRounds, RoundEnd, walk};
-use stack_table::Table;
+use table_reader::Table;
 use std::alloc::{AllocError, Allocator};
 use work_gate::Gate;
 

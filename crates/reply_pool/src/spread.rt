@@ -16,7 +16,7 @@ use reply_model::Session;
 use reply_pieces::RoundPieces;
 use round_plan::Plan;
 use serve_loop::RoundEnd;
-use stack_table::Table;
+use table_reader::Table;
 use std::alloc::{AllocError, Allocator};
 use std::thread::Threads;
 use work_gate::Gate;

@@ -12,7 +12,7 @@ use draw_board::{Board, Hand};
 use fuse_wire::Request;
 use reply_model::Session;
 use reply_pieces::{Piece, Rounded, batch};
-use stack_table::Table;
+use table_reader::Table;
 use std::alloc::{AllocError, Allocator};
 use std::thread::Threads;
 use work_gate::{Gate, Work};

@@ -24,7 +24,7 @@ use fuse_wire::Request;
 use reply_model::Session;
 use reply_pieces::{Piece, Rounded, count_batches, in_order};
 use round_plan::Plan;
-use stack_table::Table;
+use table_reader::Table;
 use std::alloc::{AllocError, Allocator};
 use std::thread::{Threads, join};
 use work_gate::Gate;

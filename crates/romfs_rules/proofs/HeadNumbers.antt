@@ -12,7 +12,7 @@ use Rattle.slot_sets.specs.Sets.{rank}
 use Rattle.slot_sets.specs.Listed.{AreCollected}
 use Rattle.romfs_rules.specs.Marks.{AreMarks, IsListOf}
 use Rattle.successor_graph.specs.Climb.{AreBelow}
-use Rattle.equal_keys.specs.Names.{AreClasses}
+use Rattle.duplicate_keys.specs.Names.{AreClasses}
 use Rattle.romfs_rules.specs.SameNames.{IsNextNumber, AreNextNumbers, AreChosen}
 
 -- the list has, for each of the first headers, the number of the header after it

@@ -4,9 +4,9 @@
 use Rattle.std.proofs.Common.{◌≡◌, ◌≢◌, ◌∙◌, sym, ap, ℕ, ◌+◌, ◌<◌, inl, inr, List, [], ◌∷◌, ◌++◌, length, Bool, Option, Some, None, arith, length-append}
 use Rattle.std.specs.Prelude.{slice_index}
 use Rattle.std.proofs.lemmas.List.{get_or_at, get_or_append_left}
-use Rattle.equal_keys.specs.Once.{AreSeenOnce}
-use Rattle.equal_keys.specs.Names.{name_hash, AreNamesApart}
-use Rattle.equal_keys.proofs.Keyed.{below_or_at}
+use Rattle.duplicate_keys.specs.Once.{AreSeenOnce}
+use Rattle.duplicate_keys.specs.Names.{name_hash, AreNamesApart}
+use Rattle.duplicate_keys.proofs.Keyed.{below_or_at}
 use Rattle.romfs_rules.specs.Names.{AreNameHashes, HaveTheirsAlone}
 
 -- names that are there, and equal as such, are equal

@@ -5,8 +5,8 @@ use Rattle.std.proofs.Common.{◌≡◌, ◌∙◌, sym, ap, subst, ℕ, zero, s
 use Rattle.std.specs.List.{count_by}
 use Rattle.std.proofs.lemmas.List.{length-set, get_or_at, get_or_append_left}
 use Rattle.std.proofs.lemmas.Bool.{true≢false, cases_lt}
-use Rattle.equal_keys.proofs.Keyed.{below_or_at}
-use Rattle.equal_keys.specs.Names.{name_hash}
+use Rattle.duplicate_keys.proofs.Keyed.{below_or_at}
+use Rattle.duplicate_keys.specs.Names.{name_hash}
 use Rattle.romfs_format.specs.Fields.{name}
 use Rattle.romfs_format.specs.Chains.{IsFirst, IsNext, IsAt}
 use Rattle.romfs_rules.specs.declared.plain.Folder.{Folder}

@@ -9,7 +9,7 @@ use Rattle.romfs_format.specs.Fields.{root, IsInside, name, next, is_dot_name}
 use Rattle.romfs_format.specs.Chains.{IsNext, IsAt, IsInChain, IsPassedOver, IsDotted, IsOpened, IsMember}
 use Rattle.romfs_rules.specs.Marks.{IsElsewhere, HasSameName, AreMarks}
 use Rattle.successor_graph.specs.Climb.{After, one, more, AreNoted}
-use Rattle.equal_keys.specs.Names.{AreNamesApart}
+use Rattle.duplicate_keys.specs.Names.{AreNamesApart}
 use Rattle.romfs_rules.specs.Names.{unless_dotted, kept_name, AreClassesOf}
 use Rattle.slot_sets.specs.Listed.{AreCollected}
 use Rattle.romfs_rules.specs.SameNames.{IsLinked, AreNumbered, IsNextNumber, AreNextNumbers, AreChosen, HaveSameNames}

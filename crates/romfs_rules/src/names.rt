@@ -7,12 +7,12 @@
 ghost use Rattle.std.specs.Prelude.{◌≡◌, ◌+◌, ◌<◌, ◌≤◌, ◌^◌, ℕ, IfOk, IsTrue, MatchOption, length, get_or, slice_index};
 ghost use Rattle.std.specs.Option.{option_map};
 ghost use Rattle.romfs_format.specs.declared.limits.TheConstants.{HEAD_SIZE};
-ghost use Rattle.equal_keys.specs.Once.{AreSeenOnce};
-ghost use Rattle.equal_keys.specs.Names.{HoldTheShared};
+ghost use Rattle.duplicate_keys.specs.Once.{AreSeenOnce};
+ghost use Rattle.duplicate_keys.specs.Names.{HoldTheShared};
 ghost use Rattle.romfs_rules.specs.Names.{kept_name, kept_names, AreClassesOf, AreNameHashes, HaveNamesApart, HaveTheirsAlone};
 
 use crate::volume::Volume;
-use equal_keys::{NumberedName, classes, hash_of, seen_once};
+use duplicate_keys::{NumberedName, classes, hash_of, seen_once};
 use romfs_format::limits::HEAD_SIZE;
 use romfs_format::read::{is_dot_name, text_at};
 use std::alloc::{AllocError, Allocator};

@@ -13,7 +13,7 @@ use crate::header::{has_data, is_bad_name, is_data_outside, is_major_large, is_t
 use crate::plain::Folder;
 use crate::slot::is_inside;
 use crate::volume::Volume;
-use equal_keys::hash_of;
+use duplicate_keys::hash_of;
 use romfs_format::head::Kind;
 use romfs_format::limits::{HEAD_SIZE, MAX_NAMES};
 use romfs_format::read::{cleared, is_dot_name, kind_of, text_at, word};

@@ -4,7 +4,7 @@
 //! [`worth_workers`] how many of the first messages of a stream workers are to answer, as the table
 //! tells how long their replies are; [`LookupsAhead`] has read what the LOOKUPs of a round will
 //! read. No reply follows from any of these: they decide who answers, and how soon. The crate
-//! stands on `stack_table` for the table, on `fuse_wire` for messages and on `work_gate` for the
+//! stands on `table_reader` for the table, on `fuse_wire` for messages and on `work_gate` for the
 //! limits of a plan. It knows no reply and no session, and is proved beside `fuse_answer`.
 #![tactic(auto)]
 

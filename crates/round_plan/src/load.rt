@@ -16,7 +16,7 @@ use fuse_wire::{Framed, Op, Request, frame};
 use romfs_format::Kind;
 use romfs_format::limits::MAX_TARGET_SIZE;
 use serve_loop::limits::MAX_ROUND_MESSAGES;
-use stack_table::Table;
+use table_reader::Table;
 use std::alloc::Allocator;
 
 /// A round is worth workers that one thread answers in so many nanoseconds. Within 2 MiB of replies

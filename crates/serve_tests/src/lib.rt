@@ -11,7 +11,7 @@
 //! request for memory of a call refused in turn, and no device called after it (`memory`), and the
 //! same of runs by workers (`refused_workers`); images that are refused, with no call of a device,
 //! and the strict profile (`layers`); each writer of `fuse_wire` with its request for memory
-//! refused (`writers`). What all share is in `serve_kit`.
+//! refused (`writers`). What all share is in `serve_test_kit`.
 #![tactic(auto)]
 
 #[cfg(test)]

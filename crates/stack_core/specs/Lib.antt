@@ -1,1 +1,1 @@
-pub use Rattle.shown_tree.specs.Trees
+pub use Rattle.whiteout_tree.specs.Trees

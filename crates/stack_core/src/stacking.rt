@@ -5,7 +5,7 @@ ghost use Rattle.std.specs.Option.{option_map};
 ghost use Rattle.std.specs.Thread.{IsSync};
 ghost use denote.Param.Send.{IsSend, Frees};
 ghost use Rattle.stack_model.specs.declared.limits.TheConstants.{MAX_LAYERS};
-ghost use Rattle.shown_tree.specs.Trees.{IsTreeOf, entry_at};
+ghost use Rattle.whiteout_tree.specs.Trees.{IsTreeOf, entry_at};
 
 use layer_tree::{OfLayer, Place, Tree, lay};
 use romfs_reader::Image;

@@ -12,7 +12,7 @@ ghost use Rattle.strata.specs.Sessions.{accepting, fault_of, status_at, EndWith,
 use crate::faults::Fault;
 use devices::{Clients, Listening, Spout, Tap};
 use serve_core::{Done, FreePass, MAX_TURNS, Plan, Session, Stop, Terms, run};
-use stack_table::Table;
+use table_reader::Table;
 use std::alloc::Allocator;
 use std::io::Write;
 use std::os::unix::net::{UnixListener, UnixStream};

@@ -9,10 +9,10 @@ use Rattle.std.specs.declared.cmp.Ordering.TheVariants.{Less, Equal, Greater}
 use Rattle.std.specs.List.{AllByRecursion}
 use Rattle.std.specs.Slice.{IsItemAt}
 use Rattle.std.specs.Borrow.{Bor}
-use Rattle.path_tree.specs.Rows.{Subtree, name_cmp, named, NamesRise, IsRising, IsForest, at_path, spread, whole, prefixed, length_prefixed}
+use Rattle.name_tree.specs.Rows.{Subtree, name_cmp, named, NamesRise, IsRising, IsForest, at_path, spread, whole, prefixed, length_prefixed}
 use Rattle.tree_merge.specs.Laying.{laid_at, IsLaid, AreLaid}
-use Rattle.path_tree.proofs.Names.{same_or_not, named_below, all_above, above_of}
-use Rattle.path_tree.proofs.Spread.{through, at_spread}
+use Rattle.name_tree.proofs.Names.{same_or_not, named_below, all_above, above_of}
+use Rattle.name_tree.proofs.Spread.{through, at_spread}
 use Rattle.tree_merge.proofs.Rising.{branch_rises}
 
 -- which branches come of both

@@ -5,8 +5,8 @@ use Rattle.std.proofs.Common.{◌≡◌, ℕ, List, [], ◌∷◌, ◌++◌, ref
 use Rattle.std.specs.declared.cmp.Ordering.TheVariants.{Less}
 use Rattle.std.specs.Cmp.Lexicographic.{slice_cmp}
 use Rattle.std.specs.List.{AllByRecursion}
-use Rattle.path_tree.specs.Rows.{Subtree, name_cmp, prefixed, spread, NamesRise, PathsRise, whole, IsRising, IsForest}
-use Rattle.path_tree.proofs.Names.{itself}
+use Rattle.name_tree.specs.Rows.{Subtree, name_cmp, prefixed, spread, NamesRise, PathsRise, whole, IsRising, IsForest}
+use Rattle.name_tree.proofs.Names.{itself}
 
 abbrev Above : {T : Type 0} → List (List ℕ) → List (List (List ℕ) × T) → Type 0
 Above p xs = AllByRecursion (λ y. slice_cmp name_cmp p y.0 ≡ Less) xs

@@ -1,6 +1,6 @@
 -- One tree laid on another: at each path the values of both.
 use Rattle.std.specs.Prelude.{◌≡◌, ℕ, List, [], ◌∷◌, ◌++◌, Option, Some, None}
-use Rattle.path_tree.specs.Rows.{Subtree, spread, whole, at_path, IsRising, IsForest}
+use Rattle.name_tree.specs.Rows.{Subtree, spread, whole, at_path, IsRising, IsForest}
 
 -- what is at a path where one tree lies on another: f of both values where both have one, else that
 -- of the one that has

@@ -1,11 +1,11 @@
 //! Trees laid one on another.
 
 ghost use Rattle.std.specs.Prelude.{◌≡◌, ◌<◌, ◌++◌, length, IfOk, OnOk};
-ghost use Rattle.path_tree.specs.Rows.{IsForest};
+ghost use Rattle.name_tree.specs.Rows.{IsForest};
 ghost use Rattle.tree_merge.specs.Laying.{IsLaid, AreLaid, CoversFirst};
 
 use crate::moving::{pass_first, take_first};
-use path_tree::{Branch, Lay};
+use name_tree::{Branch, Lay};
 use std::alloc::{AllocError, Allocator};
 use std::cmp::Ordering;
 use std::collections::VecDeque;

@@ -4,10 +4,10 @@
 //! stack is not held on each level of a deep tree.
 
 ghost use Rattle.std.specs.Prelude.{◌≡◌, ◌<◌, [], ◌∷◌, ◌++◌, length, OnOk};
-ghost use Rattle.path_tree.specs.Rows.{spread, IsForest};
+ghost use Rattle.name_tree.specs.Rows.{spread, IsForest};
 ghost use Rattle.tree_merge.specs.Laying.{Passes, PassesWith, DropsFirst, TakesChildren};
 
-use path_tree::{Branch, Name};
+use name_tree::{Branch, Name};
 use std::alloc::{AllocError, Allocator};
 use std::collections::VecDeque;
 

@@ -1,8 +1,8 @@
 //! What a stream of lookups leaves: the balance of each node, by every plan.
 
-use serve_kit::runs::{by, ran, sample_table};
+use serve_test_kit::runs::{by, ran, sample_table};
 use stack_core::FreePass;
-use stack_table::Table;
+use table_reader::Table;
 use std::alloc::Global;
 use std::test::Fail;
 use std::thread::Threads;

@@ -1,8 +1,8 @@
 //! Devices that fail at each place in turn.
 
 use serve_core::Stop;
-use serve_kit::runs::{End, Run, Seen, WHOLE, run_over, sample_table};
-use stack_table::Table;
+use serve_test_kit::runs::{End, Run, Seen, WHOLE, run_over, sample_table};
+use table_reader::Table;
 use std::alloc::Global;
 use std::test::Fail;
 use std::thread::Threads;

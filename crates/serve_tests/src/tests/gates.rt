@@ -1,9 +1,9 @@
 //! Images are checked at the same time, and each piece of work passes its gate once.
 
 use serve_core::prepare;
-use serve_kit::runs::{by, long_table, ran, sample_table};
+use serve_test_kit::runs::{by, long_table, ran, sample_table};
 use stack_core::{Gate, Work};
-use stack_table::Table;
+use table_reader::Table;
 use std::alloc::Global;
 use std::test::Fail;
 use std::thread::Threads;

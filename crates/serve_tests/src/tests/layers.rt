@@ -3,7 +3,7 @@
 use romfs_format::{ImageFault, Profile, Rule};
 use romfs_image::sample::seal;
 use serve_core::{Stop, prepare_as};
-use serve_kit::runs::{Outcome, Run, Seen, WHOLE, serve_of};
+use serve_test_kit::runs::{Outcome, Run, Seen, WHOLE, serve_of};
 use stack_core::FreePass;
 use std::alloc::{AllocError, Global};
 use std::test::Fail;

@@ -2,7 +2,7 @@
 
 use romfs_format::Profile;
 use serve_core::{Stop, prepare};
-use serve_kit::runs::{Run, Seen, Stream, WHOLE, run_of, serve_of};
+use serve_test_kit::runs::{Run, Seen, Stream, WHOLE, run_of, serve_of};
 use stack_core::FreePass;
 use std::alloc::{Allocator, Global};
 use std::test::Fail;

@@ -1,9 +1,9 @@
 //! Runs that workers answer, with each request for memory refused in turn.
 
 use serve_core::Stop;
-use serve_kit::runs::{by, long_table, ran, run_over};
+use serve_test_kit::runs::{by, long_table, ran, run_over};
 use stack_core::FreePass;
-use stack_table::Table;
+use table_reader::Table;
 use std::alloc::Global;
 use std::test::Fail;
 use std::thread::Threads;

@@ -1,8 +1,8 @@
 //! The longest round takes no more memory than a short one.
 
-use serve_kit::runs::{by, ran, table_of};
+use serve_test_kit::runs::{by, ran, table_of};
 use stack_core::FreePass;
-use stack_table::Table;
+use table_reader::Table;
 use std::alloc::Global;
 use std::test::Fail;
 use std::thread::Threads;

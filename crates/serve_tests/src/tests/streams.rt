@@ -2,7 +2,7 @@
 //! without a reply.
 
 use serve_core::{Profile, Stop};
-use serve_kit::runs::{Outcome, Run, Seen, Stream, TURNS, WHOLE, run_of, serve_of};
+use serve_test_kit::runs::{Outcome, Run, Seen, Stream, TURNS, WHOLE, run_of, serve_of};
 use std::test::Fail;
 use test_kit::sample_images::samples;
 

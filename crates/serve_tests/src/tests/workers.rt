@@ -1,8 +1,8 @@
 //! Streams whose rounds are worth workers: for every plan they give what one worker gives.
 
-use serve_kit::runs::{Finished, by, long_table, ran};
+use serve_test_kit::runs::{Finished, by, long_table, ran};
 use stack_core::{FreePass, Gate, Work};
-use stack_table::Table;
+use table_reader::Table;
 use std::alloc::Global;
 use std::sync::atomic::{AtomicU64, Ordering};
 use std::test::Fail;

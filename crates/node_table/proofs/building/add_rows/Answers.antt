@@ -3,7 +3,7 @@ use Rattle.std.proofs.Common.{◌≡◌, ◌<◌, ◌+◌, ◌∙◌, length, Li
 use Rattle.std.specs.Prelude.{slice_index}
 use Rattle.std.proofs.lemmas.List.{get_or_default}
 use Rattle.node_table.specs.Numbering.{number_among}
-use Rattle.stack_table.specs.Rows.{Line}
+use Rattle.table_reader.specs.Rows.{Line}
 use Rattle.node_table.specs.Building.{line_in, AreFollowing}
 use Rattle.node_table.proofs.Built.{AddsRow, directory, other, follows}
 use Rattle.node_table.proofs.building.add_rows.Goals as goal

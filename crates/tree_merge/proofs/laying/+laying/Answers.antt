@@ -2,7 +2,7 @@ use Rattle.std.proofs.Common.{rules, ◌≡◌, ◌∙◌, sym, ap, List, ◌++�
 use Rattle.std.proofs.lemmas.Bool.{eqb-true}
 use Rattle.std.proofs.lemmas.List.{nil_from_length}
 use Rattle.std.specs.declared.cmp.Ordering.TheVariants.{Less, Equal, Greater}
-use Rattle.path_tree.specs.Rows.{Subtree, name_cmp, spread}
+use Rattle.name_tree.specs.Rows.{Subtree, name_cmp, spread}
 use Rattle.tree_merge.proofs.Merging.{branch_laid, are_laid, no_lows, no_highs, merging_begun, low_first, high_first, both_first, below_measure, left_measure, lows_left, highs_left, low_less, high_less, both_less, shown, some_shown, nothing_shown}
 use Rattle.tree_merge.proofs.laying.+laying.Goals as goal
 use Rattle.tree_merge.proofs.laying.+laying.Goals.{merge-in_default, merge-in_default-2}

@@ -1,5 +1,5 @@
 use Rattle.std.proofs.Common.{length, ◌+◌, ◌*◌}
-use Rattle.path_tree.specs.Rows.{spread}
+use Rattle.name_tree.specs.Rows.{spread}
 use Rattle.tree_merge.proofs.Merging.{Merging}
 use Rattle.tree_merge.proofs.laying.+laying.Given as goal
 

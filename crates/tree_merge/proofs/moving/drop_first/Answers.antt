@@ -1,4 +1,4 @@
-use Rattle.path_tree.specs.Rows.{spread}
+use Rattle.name_tree.specs.Rows.{spread}
 use Rattle.tree_merge.proofs.moving.drop_first.Goals as goal
 
 pub returns : goal.returns

@@ -1,4 +1,4 @@
-use Rattle.path_tree.specs.Rows.{spread}
+use Rattle.name_tree.specs.Rows.{spread}
 use Rattle.tree_merge.proofs.moving.pass_with.Goals as goal
 
 pub returns : goal.returns

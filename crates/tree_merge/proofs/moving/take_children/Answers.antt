@@ -1,6 +1,6 @@
 use Rattle.std.proofs.Common.{◌∷◌, ◌∙◌, ap, drop}
 use Rattle.std.specs.Prelude.{slice_set}
-use Rattle.path_tree.specs.Rows.{Subtree}
+use Rattle.name_tree.specs.Rows.{Subtree}
 use Rattle.tree_merge.proofs.Merging.{front_is}
 use Rattle.tree_merge.proofs.moving.take_children.Goals as goal
 

@@ -1,6 +1,6 @@
 use Rattle.std.proofs.Common.{◌∙◌, ap, ◌-◌, ◌++◌, ◌∷◌, [], drop, length-drop, take_all, arith}
 use Rattle.path_list.specs.declared.fields.TheConstants.{FIELDS_SIZE}
-use Rattle.stack_table.specs.Readers.{placed}
+use Rattle.table_reader.specs.Readers.{placed}
 use Rattle.path_list.proofs.Gaining.{puts_more, puts_same}
 use Rattle.path_list.proofs.Lining.{line_is}
 use Rattle.path_list.proofs.room.Room.put_line.Goals as goal

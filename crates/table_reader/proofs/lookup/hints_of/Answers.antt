@@ -1,0 +1,19 @@
+use Rattle.table_reader.proofs.Noting.{one_more, no_more}
+use Rattle.table_reader.proofs.lookup.hints_of.Goals.{in-Some, in_default}
+use Rattle.table_reader.proofs.lookup.hints_of.Goals as goal
+
+pub loop-at-preserved : goal.loop-at-preserved
+loop-at-preserved g c = elim c.match-directory_at.branch [
+  | in-Some w ↦ record {
+    noted = rw w.filter-is (one_more c.args.nodes.now c.args.directories.now c.loop-at.filter _ c.loop-at.at _
+        c.loop-at.invariant.noted w.note_all.ensures.kept w.in-Some.ensures (rw w.keys_of.ensures at w.note_all.ensures.noted));
+    guesses = rw (w.guesses-is, w.note_rows.ensures) c.loop-at.invariant.guesses;
+    filter = rw (w.filter-is, w.note_all.ensures.kept.level) c.loop-at.invariant.filter;
+  }
+  | in_default w ↦ record {
+    noted = rw w.filter-is (no_more c.args.nodes.now c.args.directories.now c.loop-at.filter c.loop-at.at
+        c.loop-at.invariant.noted w.in_default.ensures);
+    guesses = rw w.guesses-is c.loop-at.invariant.guesses;
+    filter = rw w.filter-is c.loop-at.invariant.filter;
+  }
+]

@@ -1,0 +1,29 @@
+use Rattle.std.proofs.Common.{refl, List, ap, subst}
+use Rattle.stack_model.specs.Listing.{Entry, IsListing}
+use Rattle.table_reader.specs.Held.{IsTable}
+use Rattle.table_reader.specs.Stacked.{Listed, listed_once}
+use Rattle.table_reader.proofs.Nodes.{have_keys}
+use Rattle.table_reader.proofs.table.Table.of_parts.Goals as goal
+
+pub hints_of-requires : goal.hints_of-requires
+hints_of-requires g c = rw c.deref.ensures.value (have_keys _ _ _ _ c.requires.1)
+
+pub invariant_of-result-2 : goal.invariant_of-result-2
+invariant_of-result-2 g c =
+    let mine : Listed c.args.images.items = (c.requires.0, ∣ c.requires.1.listing ∣₁) in
+    record {
+      table = subst (λ (e : List Entry). IsTable (record { layers = c.args.images.items; entries = e }) c.args.nodes.items
+          c.args.directories c.args.blocks)
+          (ap (λ x. x.0) (listed_once c.args.images.items mine c.result-1.given.0)) c.requires.1;
+      noted = rw c.deref.ensures.value at c.in_ok-hints.ensures.noted;
+      briefs_are = rw c.deref-2.ensures.value at c.in_ok-briefs.ensures;
+    }
+
+pub returns : goal.returns
+returns g c =
+    let mine : Listed c.args.images.items = (c.requires.0, ∣ c.requires.1.listing ∣₁) in
+    record {
+      layers_are = refl;
+      listing = subst (λ (e : List Entry). IsListing c.args.images.items e)
+          (ap (λ x. x.0) (listed_once c.args.images.items mine c.result-1.given.0)) c.requires.1.listing;
+    }

@@ -1,0 +1,129 @@
+-- What a table holds, and what of it agrees with the listing of its layers.
+use Rattle.std.specs.Prelude.{◌≡◌, ℕ, zero, suc, ◌≤◌, List, length, map, slice_get, slice_range, All, Bool, Option, Some, None, true, if◌then◌else◌}
+use Rattle.std.specs.Option.{option_and_then}
+use Rattle.romfs_reader.specs.Readers.{bytes_at, IsPart}
+use Rattle.stack_model.specs.Listing.{Entry, IsListing}
+use Rattle.stack_model.specs.Numbers.{Place, nodes, number, parent}
+use Rattle.stack_model.specs.Attributes.{is_directory, kind_at, mode, size_at, rdev, nlink, blocks_of, blocks_all, data_of}
+use Rattle.node_attr.specs.declared.attr.Attr.{Attr}
+use Rattle.table_reader.specs.declared.node.Node.{Node}
+use Rattle.table_reader.specs.declared.node.Brief.{Brief}
+use Rattle.table_reader.specs.declared.directory.Directory.{Directory}
+use Rattle.name_lookup.specs.Keyed.{AreKeyed}
+use Rattle.name_lookup.specs.Noted.{IsNoted}
+use Rattle.stack_model.specs.Listing.{Stacked}
+use Rattle.table_reader.specs.Rows.{names}
+use Rattle.table_reader.specs.Directories.{HeldDirectories}
+use Rattle.table_reader.specs.Readers.{placed, rows_of}
+
+-- what is held of a number, counted from 1
+abbrev pub held_at : {A : Type 0} → List A → ℕ → Option A
+held_at held zero = None
+held_at held (suc k) = slice_get held k
+
+-- what is held of a node that is a directory
+abbrev pub kept_of : HeldDirectories → Node → Option Directory
+kept_of directories node =
+    if is_directory node.kind then slice_get directories.all node.directory else None
+
+-- the directory of a number
+abbrev pub directory_held : List Node → HeldDirectories → ℕ → Option Directory
+directory_held held directories n = option_and_then (kept_of directories) (held_at held n)
+
+-- the attributes of a node but for its number
+abbrev pub brief_of : Node → Brief
+brief_of node = record {
+  size = node.part.len;
+  mode = node.mode;
+  nlink = node.nlink;
+  rdev = node.rdev;
+}
+
+-- the attributes of the node with a number
+abbrev pub attr_held : ℕ → Brief → Attr
+attr_held n brief = record {
+  ino = n;
+  size = brief.size;
+  blocks = blocks_of brief.size;
+  mode = brief.mode;
+  nlink = brief.nlink;
+  rdev = brief.rdev;
+}
+
+-- the data that the node holds lie in the place's layer, and are the place's
+pub record HoldsData (layers : List (List ℕ)) (layer : ℕ) (node : Node) (p : Place) : Type 0 where
+  pub image : List ℕ
+  pub is : slice_get layers layer ≡ Some image
+  pub lies : IsPart image node.part
+  pub data_is : bytes_at image node.part.start node.part.len ≡ data_of layers p
+
+-- a directory holds the number of the one above, and its rows with their keys
+pub record IsHeldDirectory (stack : Stacked) (held : HeldDirectories) (directory : Directory)
+    (p : Place) : Type 0 where
+  pub parent_is : directory.parent ≡ number stack.entries (parent stack.entries p)
+  pub start : directory.rows_start ≤ directory.rows_end
+  pub end : directory.rows_end ≤ length held.rows
+  pub rows_are : slice_range held.rows directory.rows_start directory.rows_end
+      ≡ rows_of stack p
+  pub keyed : AreKeyed directory.shared
+      (slice_range held.keys directory.rows_start directory.rows_end)
+      (names (slice_range held.rows directory.rows_start directory.rows_end))
+
+-- the directory of this node is held, and is the place's
+pub record HoldsDirectory (stack : Stacked) (held : HeldDirectories) (node : Node) (p : Place)
+    : Type 0 where
+  pub directory : Directory
+  pub is : slice_get held.all node.directory ≡ Some directory
+  pub holds : IsHeldDirectory stack held directory p
+
+-- the node holds what the definitions say of its place
+pub record IsNode (stack : Stacked) (directories : HeldDirectories) (node : Node) (p : Place)
+    : Type 0 where
+  pub place : placed node.place ≡ p
+  pub holds : HoldsData stack.layers node.place.layer node p
+  pub kind : node.kind ≡ kind_at stack.layers p
+  pub size : node.part.len ≡ size_at stack.layers p
+  pub mode_is : node.mode ≡ mode stack.layers p
+  pub nlink_is : node.nlink ≡ nlink stack p
+  pub rdev_is : node.rdev ≡ rdev stack.layers p
+  pub directory_is : is_directory node.kind ≡ true → HoldsDirectory stack directories node p
+
+-- the nodes in the order of their numbers, what is held of the directories, and a key beside each
+-- row
+pub record AreNodes (stack : Stacked) (held : List Node) (directories : HeldDirectories)
+    : Type 0 where
+  pub level : length held ≡ length (nodes stack.entries)
+  pub keys_level : length directories.keys ≡ length directories.rows
+  pub each : (k : ℕ) (node : Node) (p : Place) → slice_get held k ≡ Some node
+      → slice_get (nodes stack.entries) k ≡ Some p → IsNode stack directories node p
+
+-- a table of the stack's layers and their listing
+pub record IsTable (stack : Stacked) (held : List Node) (directories : HeldDirectories)
+    (blocks : ℕ) : Type 0 where
+  pub listing : IsListing stack.layers stack.entries
+  pub are : AreNodes stack held directories
+  pub blocks_are : blocks ≡ blocks_all stack.layers
+
+-- the keys of each directory's rows are there
+pub record HaveKeys (held : List Node) (directories : HeldDirectories) : Type 0 where
+  pub each : (n : ℕ) (d : Directory) → directory_held held directories n ≡ Some d
+      → (d.rows_start ≤ d.rows_end) × (d.rows_end ≤ length directories.keys)
+
+-- the keys of the directories with numbers up to one are noted, each under its directory's
+pub record AreNotedUpTo (held : List Node) (directories : HeldDirectories) (filter : List Bool)
+    (last : ℕ) : Type 0 where
+  pub each : (n : ℕ) (d : Directory) → n ≤ last → directory_held held directories n ≡ Some d
+      → All (IsNoted filter n) (slice_range directories.keys d.rows_start d.rows_end)
+
+-- what a table holds: the attributes of its nodes are held once more, and all keys are noted
+pub record IsHeld (stack : Stacked) (held : List Node) (briefs : List Brief)
+    (directories : HeldDirectories) (filter : List Bool) (blocks : ℕ) : Type 0 where
+  pub table : IsTable stack held directories blocks
+  pub briefs_are : briefs ≡ map brief_of held
+  pub noted : AreNotedUpTo held directories filter (length held)
+
+-- some listing of the layers makes it a table
+abbrev pub IsSomeTable : List (List ℕ) → List Node → HeldDirectories → ℕ → Type 0
+IsSomeTable layers held directories blocks =
+    (entries : List Entry)
+    × IsTable (record { layers = layers; entries = entries }) held directories blocks

@@ -1,0 +1,27 @@
+//! The nodes of a stack of layers by number, as they are read: kinds and places, attributes, rows
+//! and data.
+//!
+//! A [`Table`] stands for a stack: its layers, and the listing of the paths that they show. Each
+//! reader answers by the definitions of `stack_model`, as `specs/Readers.antt` puts them together,
+//! for every number up to 2^64 - 1, and takes no memory. What the table's parts have to say of the
+//! listing is its invariant (`specs/Held.antt`). `node_table` makes them: the crates are two, so
+//! that what answers from a table is proved beside its making, and not after it. The crate stands
+//! on `whiteout_tree` for places, on `romfs_reader` for images and on `name_lookup` for look-ups.
+#![tactic(auto)]
+
+mod directory;
+mod guess;
+mod lookup;
+mod node;
+mod row;
+mod table;
+
+pub use directory::{Directories, Directory};
+pub use guess::Guess;
+pub use name_lookup::hashed;
+pub use node::Node;
+pub use node_attr::Attr;
+pub use romfs_reader::Kind;
+pub use row::Row;
+pub use whiteout_tree::Place;
+pub use table::Table;

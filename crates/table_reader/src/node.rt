@@ -1,0 +1,33 @@
+//! What a table holds of a node.
+
+use romfs_reader::{Kind, Part};
+use whiteout_tree::Place;
+
+/// A node: what stands at one place of the stack, under however many paths.
+#[derive(Clone, Copy, Debug)]
+pub struct Node {
+    /// Its kind, which is never a hard link.
+    pub kind: Kind,
+    /// Whether its header says that it is executable.
+    pub exec: bool,
+    pub place: Place,
+    /// Where its data lie in the image of its layer.
+    pub part: Part,
+    /// Type and permissions; 0 until the node is completed.
+    pub mode: u32,
+    pub nlink: u32,
+    /// The numbers of a device; until the node is completed, its header's spec.info.
+    pub rdev: u32,
+    /// Where a directory stands among all directories; of other kinds it says nothing.
+    pub directory: usize,
+}
+
+/// The attributes of a node but for its number, in 16 bytes: four nodes' lie in a line of the
+/// processor's cache, where requests for attributes in any order find more of them than of nodes.
+#[derive(Clone, Copy, Debug)]
+pub(crate) struct Brief {
+    pub(crate) size: u32,
+    pub(crate) mode: u32,
+    pub(crate) nlink: u32,
+    pub(crate) rdev: u32,
+}

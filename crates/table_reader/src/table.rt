@@ -1,0 +1,221 @@
+//! The table of a stack.
+
+ghost use Rattle.std.specs.Prelude.{◌≡◌, ◌<◌, ◌+◌, ◌^◌, length, IfOk};
+ghost use Rattle.stack_model.specs.Listing.{IsListing};
+ghost use Rattle.stack_model.specs.Numbers.{nodes};
+ghost use Rattle.stack_model.specs.Attributes.{blocks_all};
+ghost use Rattle.table_reader.specs.Stacked.{Listed, listed_once, IsTableOf};
+ghost use Rattle.table_reader.specs.Held.{IsSomeTable};
+ghost use Rattle.table_reader.specs.Readers.{TellsNode, attr_at, parent_at, child_at, rows_at, data_of_number};
+
+use crate::directory::{Directories, Directory};
+use crate::guess::Guess;
+use crate::lookup::{
+    Hints, attr_of, briefs_of, directory_at, hints_of, node_at, numbered, place_of,
+};
+use crate::node::{Brief, Node};
+use crate::row::Row;
+use node_attr::Attr;
+use romfs_reader::Image;
+use std::alloc::{AllocError, Allocator, Global};
+use std::marker::Model;
+
+/// The nodes of a stack of layers, by number: attributes, rows and data.
+///
+/// A clause sees the layers and their listing. Each node and row takes at most 113 bytes beside
+/// a name of more than 22 (16 of them for guesses of where names stand), and a directory 32 more.
+/// No reader takes memory, and each answers for every number: 1 is the root, and a number that is
+/// not in use has nothing.
+///
+/// ```text
+/// if let Some(number) = table.child(1, b"etc") {
+///     for row in table.rows(number) {
+///         show(row.name(), table.attr(row.number));
+///     }
+/// }
+/// ```
+///
+/// All nodes lie in one vector by their numbers, and all rows in another, those of a directory
+/// together; beside each row lies the key by which its name is found (`name_lookup`), where a guess
+/// does not tell the row. A node keeps where its data lie, so no answer parses a header, and only a
+/// directory keeps more: where its rows lie, and which directory is above. Attributes lie once more
+/// in a list of their own, since most requests ask for nothing else of a node.
+#[derive(Drop)]
+pub struct Table<A: Allocator> {
+    images: Vec<Image<A>, A>,
+    nodes: Vec<Node, A>,
+    // The attributes of the nodes, in the same order.
+    briefs: Vec<Brief, A>,
+    directories: Directories<A>,
+    hints: Hints<A>,
+    blocks: u64,
+    ghost listing: { Listed images.items } by { listed_once images.items },
+}
+
+const _: () = prove!(size_of::<Node>() <= 40);
+
+const _: () = prove!(size_of::<Brief>() <= 16);
+
+const _: () = prove!(size_of::<Node>() + size_of::<Row<Global>>() + size_of::<u64>() <= 80);
+
+const _: () = prove!(size_of::<Directory>() <= 32);
+
+impl<A: Allocator> Model for Table<A> {
+    ghost use Rattle.stack_model.specs.Listing.{Stacked};
+    ghost use Rattle.table_reader.specs.Held.{IsHeld};
+
+    ghost Value = { Stacked };
+
+    ghost view = { λ held. record { layers = held.images.items; entries = held.listing.0 } };
+
+    ghost invariant = { λ held.
+        IsHeld (record { layers = held.images.items; entries = held.listing.0 })
+        held.nodes.items held.briefs.items held.directories held.hints.filter held.blocks };
+}
+
+impl<A: Allocator + Copy> Table<A> {
+    /// The table of images, the lowest layer first, from what it holds of their nodes and
+    /// directories. An error comes only where memory was refused.
+    pub fn of_parts(
+        alloc: A,
+        images: Vec<Image<A>, A>,
+        nodes: Vec<Node, A>,
+        directories: Directories<A>,
+        blocks: u64,
+    ) -> Result<Self, AllocError>
+        requires { IsSomeTable images.items nodes.items directories blocks }
+        ensures { IfOk result (λ table. IsTableOf images.items table) }
+    {
+        let hints = hints_of(alloc, &nodes, &directories)?;
+        let briefs = briefs_of(alloc, &nodes)?;
+        Ok(Table {
+            images,
+            nodes,
+            briefs,
+            directories,
+            hints,
+            blocks,
+        })
+    }
+}
+
+impl<A: Allocator> Table<A> {
+    /// How many nodes there are. They have the numbers from 1 on.
+    pub fn len(&self) -> u64
+        ensures value { result ≡ length (nodes self.now.entries) }
+        ensures listing { IsListing self.now.layers self.now.entries }
+    {
+        self.nodes.len() as u64
+    }
+
+    /// The images of the layers, the lowest first.
+    pub fn images(&self) -> &[Image<A>]
+        ensures { result.now ≡ self.now.layers }
+    {
+        self.images.as_slice()
+    }
+
+    /// The node of a number; none where the number is not in use.
+    pub fn node(&self, number: u64) -> Option<&Node>
+        ensures { TellsNode self.now number result }
+    {
+        node_at(&self.nodes, number)
+    }
+
+    /// The number of the child with this name in a directory; none where the number is no directory
+    /// that shows such a child. Names compare byte by byte, and neither `.` nor `..` is a child.
+    ///
+    /// Where the row is guessed it looks at one row, or at few. Else it takes as many steps over
+    /// the keys of the directory's rows as their number has binary digits, and where many names
+    /// have one key at most as many over these names again.
+    #[inline(always)]
+    pub fn child(&self, number: u64, name: &[u8]) -> Option<u64>
+        ensures { result ≡ child_at self.now number name.now }
+    {
+        self.child_guessed(number, name, Guess::Unknown)
+    }
+
+    /// The same, where a [`guess`](Table::guess) was made before. Any guess gives the same child,
+    /// and of one that is right no other row is looked at.
+    #[inline(always)]
+    pub fn child_guessed(&self, number: u64, name: &[u8], guess: Guess) -> Option<u64>
+        ensures { result ≡ child_at self.now number name.now }
+    {
+        let directory = directory_at(&self.nodes, &self.directories, number)?;
+        let rows = self.directories.rows_of(directory);
+        let keys = self.directories.keys_of(directory);
+        let at = place_of(rows, keys, &self.hints, number, directory, name, guess)?;
+        let row = &rows[at];
+        Some(row.number)
+    }
+
+    /// Reads ahead what [`guess`](Table::guess) reads for these hashes. What comes of it says
+    /// nothing.
+    pub fn read_guesses(&self, hashes: &[u64]) -> u32 {
+        self.hints.guesses.read_ahead(hashes)
+    }
+
+    /// Where the row of a directory's child may stand among all rows, by the
+    /// [`hash`](crate::hashed) of the directory's number and the child's name. It is a guess, for
+    /// whoever reads ahead: no answer follows from it.
+    pub fn guess(&self, hash: u64) -> Option<usize> {
+        self.hints.guesses.first(hash)
+    }
+
+    /// The row that stands at a guessed place among all rows; none beyond the last.
+    pub fn guessed(&self, place: usize) -> Option<&Row<A>> {
+        self.directories.rows.get(place)
+    }
+
+    /// The children of a directory in the order of their names, without `.` and `..`; empty where
+    /// the number is no directory.
+    #[inline(always)]
+    pub fn rows(&self, number: u64) -> &[Row<A>]
+        ensures { result.now ≡ rows_at self.now number }
+    {
+        match directory_at(&self.nodes, &self.directories, number) {
+            Some(directory) => self.directories.rows_of(directory),
+            None => &[],
+        }
+    }
+
+    /// The number of the directory above a directory, that of the root being the root's; none where
+    /// the number is no directory.
+    #[inline(always)]
+    pub fn parent(&self, number: u64) -> Option<u64>
+        ensures { result ≡ parent_at self.now number }
+    {
+        let directory = directory_at(&self.nodes, &self.directories, number)?;
+        Some(directory.parent)
+    }
+
+    /// The attributes of a node; none where the number is not in use.
+    pub fn attr(&self, number: u64) -> Option<Attr>
+        ensures { result ≡ attr_at self.now number }
+    {
+        let brief = numbered(&self.briefs, number)?;
+        Some(attr_of(number, brief))
+    }
+
+    /// The data of a regular file, or the target of a symbolic link; empty where the number is
+    /// neither. A reply's header can say how many they are.
+    pub fn bytes(&self, number: u64) -> &[u8]
+        ensures value { result.now ≡ data_of_number self.now number }
+        ensures short { 16 + length result.now < 2 ^ 32 }
+    {
+        match node_at(&self.nodes, number) {
+            Some(node) => {
+                let image = &self.images[node.place.layer as usize];
+                image.part(node.part)
+            }
+            None => &[],
+        }
+    }
+
+    /// The full sizes of all layers in blocks of 512 bytes, each rounded up, then summed.
+    pub fn blocks_all(&self) -> u64
+        ensures { result ≡ blocks_all self.now.layers }
+    {
+        self.blocks
+    }
+}
