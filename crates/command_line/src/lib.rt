@@ -4,8 +4,8 @@
 //! images, files and numbers. Its contract is by `clap`'s own definition of what a command's words
 //! are, over the program's commands as `specs/CommandLine.antt` gives them, and by the ranges of
 //! the numbers, so that words are refused only where they are no command or give another number.
-//! Words may also ask for the [`version`] of the program. `line_laws` says that words have one line at most, and `line_examples` holds worked command
-//! lines.
+//! Words may also ask for the [`version`] of the program. `line_laws` says that words have one line
+//! at most, and `line_examples` holds worked command lines.
 #![tactic(auto)]
 
 mod commands;

@@ -12,8 +12,8 @@ use crate::outcome::Answer;
 use crate::rows::line_at;
 use fuse_wire::forget::{Forget, Forgets};
 use lookup_balances::add_move;
-use table_reader::Table;
 use std::alloc::Allocator;
+use table_reader::Table;
 
 /// Adds what an answer gives and takes to the balances, in which node n has the place n - 1.
 #[inline(always)]

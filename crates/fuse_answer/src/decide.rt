@@ -13,8 +13,8 @@ use crate::sessions::{agreement_of, is_spoken};
 use fuse_wire::forget::Forget;
 use fuse_wire::{Errno, InitOut, Op, Request, opcode};
 use reply_model::{Agreement, Session};
-use table_reader::{Guess, Table};
 use std::alloc::Allocator;
+use table_reader::{Guess, Table};
 
 /// What is decided about a request.
 #[inline(always)]

@@ -16,8 +16,8 @@ use fuse_wire::limits::MAX_DATA_SIZE;
 use fuse_wire::{Errno, dirent_size};
 use reply_model::Agreement;
 use romfs_format::Kind;
-use table_reader::{Row, Table};
 use std::alloc::Allocator;
+use table_reader::{Row, Table};
 
 /// The bytes of a `struct fuse_entry_out`, which stands before each row of READDIRPLUS.
 const ENTRY_SIZE: usize = 128;

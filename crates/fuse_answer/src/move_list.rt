@@ -17,8 +17,8 @@ use crate::rows::line_at;
 use fuse_wire::Request;
 use fuse_wire::forget::{Forget, Forgets};
 use reply_model::{Move, Session};
-use table_reader::{Guess, Table};
 use std::alloc::{AllocError, Allocator};
+use table_reader::{Guess, Table};
 
 /// Appends what a request gives and takes, in order: one lookup for the entry of a LOOKUP and for
 /// each row of a READDIRPLUS but `.` and `..`, and what FORGET and BATCH_FORGET take back. Numbers

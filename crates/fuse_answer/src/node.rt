@@ -11,8 +11,8 @@ use fuse_wire::flags::{FOPEN_CACHE_DIR, FOPEN_KEEP_CACHE};
 use fuse_wire::limits::MAX_DATA_SIZE;
 use reply_model::Agreement;
 use romfs_format::Kind;
-use table_reader::Table;
 use std::alloc::Allocator;
+use table_reader::Table;
 
 /// What GETATTR is answered.
 #[inline(always)]

@@ -16,8 +16,8 @@ use crate::rows::put_rows_and_move;
 use crate::write::write;
 use fuse_wire::{Errno, Op, Replies, Request, opcode, put_error};
 use reply_model::Session;
-use table_reader::{Guess, Table};
 use std::alloc::{AllocError, Allocator};
+use table_reader::{Guess, Table};
 
 // A request, the session before it, and a guess of the row that it finds.
 #[derive(Clone, Copy)]

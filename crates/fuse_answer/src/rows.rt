@@ -15,8 +15,8 @@ use fuse_wire::{
     Attr, Dirent, Replies, put_data_head, put_dirent, put_direntplus, put_short_direntplus,
     set_data_head,
 };
-use table_reader::Table;
 use std::alloc::{AllocError, Allocator};
+use table_reader::Table;
 
 /// The names of the first two rows, with zeros behind them.
 const DOT: &[u8; 22] = b".\0\0\0\0\0\0\0\0\0\0\0\0\0\0\0\0\0\0\0\0\0";

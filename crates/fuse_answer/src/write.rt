@@ -10,8 +10,8 @@ use fuse_wire::{
     Replies, put_attr, put_data, put_entry, put_head, put_init, put_negative_entry, put_open,
     put_statfs,
 };
-use table_reader::Table;
 use std::alloc::{AllocError, Allocator};
+use table_reader::Table;
 
 /// Appends the reply with an answer.
 #[inline(always)]

@@ -1,7 +1,7 @@
 //! The bytes of an image: in memory, or in a file in which they stay.
 //!
-//! - [`Contents`] is what the bytes of an image are read from, a part at a time. No read changes it,
-//!   so several may read at the same time.
+//! - [`Contents`] is what the bytes of an image are read from, a part at a time. No read changes
+//!   it, so several may read at the same time.
 //! - [`InMemory`] reads bytes that are held, and never fails. [`InFile`] reads a file.
 //! - [`fill`] reads on until a room is full: however short the single reads are, what is there is
 //!   had whole or not at all.

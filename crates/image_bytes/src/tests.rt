@@ -1,5 +1,5 @@
-//! Reads of a file that gives little at a time, is interrupted, ends or fails; and of bytes that are
-//! held.
+//! Reads of a file that gives little at a time, is interrupted, ends or fails; and of bytes that
+//! are held.
 
 use crate::{Contents, InFile, InMemory, Unread, fill};
 use std::cell::Cell;

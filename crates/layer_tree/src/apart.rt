@@ -10,8 +10,8 @@ ghost use Rattle.layer_tree.specs.Laying.{AreApart, IsApart};
 use crate::clashes::is_bare;
 use crate::laying::seek;
 use name_tree::Branch;
-use whiteout_tree::Cuts;
 use std::alloc::Allocator;
+use whiteout_tree::Cuts;
 
 /// Whether the branches of two directories clash nowhere, as far as it is told.
 #[cycle(meeting)]

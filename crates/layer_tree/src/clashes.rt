@@ -12,8 +12,8 @@ use crate::apart::are_apart;
 use crate::laying::seek;
 use crate::reading::{CUT, UNCUT, leaf};
 use name_tree::{Branch, Name};
-use whiteout_tree::{Cuts, Mark};
 use std::alloc::{AllocError, Allocator};
+use whiteout_tree::{Cuts, Mark};
 
 /// The marks of all paths at which one of two trees has a file, and the other one a directory or
 /// something below: of the files of the upper tree, and of those of the lower one. Both roots are

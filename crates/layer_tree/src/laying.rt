@@ -15,11 +15,11 @@ ghost use Rattle.layer_tree.specs.Laying.{AreKept, AreChildrenLeft, AreUnited, A
 
 use crate::clashes::clashes_both_ways;
 use name_tree::{Branch, place};
-use whiteout_tree::{Child, Mark, Tree};
 use std::alloc::{AllocError, Allocator};
 use std::cmp::Ordering;
 use std::collections::VecDeque;
 use tree_merge::{cover, drop_first, pass_first, pass_with, take_children};
+use whiteout_tree::{Child, Mark, Tree};
 
 /// How many marks at most are looked for one by one.
 const FEW: usize = 8;

@@ -18,9 +18,9 @@ ghost use Rattle.layer_tree.specs.Members.{members_in, IsRead, HasFront, ShareFr
 ghost use Rattle.layer_tree.specs.Reading.{AreSorted};
 
 use romfs_reader::{Head, Image, Kind, Members};
-use whiteout_tree::is_marker;
 use std::alloc::{AllocError, Allocator};
 use std::cmp::Ordering;
+use whiteout_tree::is_marker;
 
 /// How many members a directory gets room for at once: most have no more.
 const FEW: usize = 16;

@@ -20,9 +20,9 @@ use crate::members::{KeyedMember, sorted_members, whiteout_of};
 use name_tree::{Branch, Name, child};
 use romfs_format::limits::MAX_NAMES;
 use romfs_reader::{Ends, Head, Image, Kind};
-use whiteout_tree::{Child, Entry, Mark, Place, Tree, is_marker};
 use std::alloc::{AllocError, Allocator};
 use tree_merge::merge;
+use whiteout_tree::{Child, Entry, Mark, Place, Tree, is_marker};
 
 /// What the name of the marker of a whole directory says after `.wh.`.
 const WHOLE: &[u8; 8] = b".wh..opq";

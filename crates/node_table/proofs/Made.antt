@@ -300,7 +300,8 @@ table_made layers made new tail directories n blocks (entries, listing, are) don
   entries,
   record {
     listing = listing;
-    are = subst (λ x. AreNodes (record { layers = layers; entries = entries }) x directories) (sym (take_at new tail n (sym len) ∙ done)) are;
+    are = subst (λ x. AreNodes (record { layers = layers; entries = entries }) x directories)
+        (sym (take_at new tail n (sym len) ∙ done)) are;
     blocks_are = sum;
   },
 )

@@ -7,8 +7,8 @@
 
 use crate::walk::Walked;
 use romfs_reader::Image;
-use whiteout_tree::Entry;
 use std::alloc::Allocator;
+use whiteout_tree::Entry;
 
 /// How many headers are read together.
 const TOGETHER: usize = 64;

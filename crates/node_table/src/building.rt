@@ -13,9 +13,9 @@ use crate::walk::Walked;
 use name_lookup::add_keys;
 use name_tree::Branch;
 use romfs_reader::{Image, Kind};
-use whiteout_tree::{Child, Entry};
-use table_reader::{Directories, Directory, Node, Row};
 use std::alloc::{AllocError, Allocator};
+use table_reader::{Directories, Directory, Node, Row};
+use whiteout_tree::{Child, Entry};
 
 /// What a table is made of beside its images.
 #[derive(Drop)]

@@ -9,9 +9,9 @@ ghost use Rattle.node_table.specs.Building.{completed};
 
 use rayon::prelude::*;
 use romfs_reader::{Image, Kind};
-use table_reader::Node;
 use std::alloc::Allocator;
 use std::thread::Threads;
+use table_reader::Node;
 
 /// Fewer nodes than this are completed by the caller alone, since a thread costs more.
 const MANY: usize = 0x2_0000;

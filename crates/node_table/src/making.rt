@@ -13,10 +13,10 @@ use crate::completing::{blocks_of, complete_all};
 use crate::numbering::number_places;
 use crate::walk::{Walked, count_branches, walk};
 use romfs_reader::Image;
-use whiteout_tree::Tree;
-use table_reader::Table;
 use std::alloc::{AllocError, Allocator};
 use std::thread::Threads;
+use table_reader::Table;
+use whiteout_tree::Tree;
 
 /// What is made of the tree of a stack.
 pub trait OfTree: Sized {

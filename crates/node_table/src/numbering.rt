@@ -5,8 +5,8 @@ ghost use Rattle.node_table.specs.Numbering.{place_key, one_more, AreKeys, AreNu
 
 use crate::firsts::firsts_of;
 use name_tree::Branch;
-use whiteout_tree::{Entry, Place};
 use std::alloc::{AllocError, Allocator};
+use whiteout_tree::{Entry, Place};
 
 /// The places of branches, numbered from 1 in the order of their first branch.
 #[derive(Drop)]

@@ -11,8 +11,8 @@ use crate::path_text::PathText;
 use crate::room::Room;
 use devices::{Failed, Sink};
 use romfs_reader::Image;
-use table_reader::Table;
 use std::alloc::{AllocError, Allocator};
+use table_reader::Table;
 
 // How many bytes of lines wait before they are written.
 const PIECE: usize = 65_536;

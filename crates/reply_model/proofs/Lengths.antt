@@ -95,8 +95,8 @@ said_header n error unique rest l = little_number-reads_back 4 n (u32 error ++ (
 module _ (bs : List (List ℕ)) (stack : Stacked) (sound : All (IsSound Usual) bs) (are : stack.layers ≡ map image bs)
     (l : IsListing stack.layers stack.entries) where
   -- a symbolic link with a number has a short target
-  short_link : (node : ℕ) (p : Place) → node_of stack.entries node ≡ Some p → kind_at stack.layers p ≡ SymLink → length (data_of stack.layers p)
-      ≤ MAX_TARGET_SIZE
+  short_link : (node : ℕ) (p : Place) → node_of stack.entries node ≡ Some p → kind_at stack.layers p ≡ SymLink
+      → length (data_of stack.layers p) ≤ MAX_TARGET_SIZE
   short_link node p e k =
       let m = number_listed stack.entries node p e in
       let t = subst (λ q. IsLedTo stack.layers q.0 q.1) m.2 (led_to stack.layers stack.entries m.0 l m.1) in

@@ -43,7 +43,8 @@ none_taken s stream js none = subst (AreFirstJobs s stream (record { used = 0; m
     (record { messages = []; first = none_first stream; count = refl; session = refl; as_jobs = tt })
 
 -- one message more, as the code cuts it
-pub one_taken : (s : Session) (stream : List ℕ) (round : RoundEnd) (js all : List Job) (rest : List ℕ) (len : ℕ) (after : Session) (job : Job)
+pub one_taken : (s : Session) (stream : List ℕ) (round : RoundEnd) (js all : List Job) (rest : List ℕ) (len : ℕ) (after : Session)
+    (job : Job)
     → AreFirstJobs s stream round js → rest ≡ drop round.used stream → BeginsMessage rest len → job.0 ≡ round.session
     → asked_of job.1 ≡ asked (take len rest) → after ≡ session_after round.session (asked (take len rest)).op → all ≡ js ++ job ∷ []
     → AreFirstJobs s stream (record { used = round.used + len; messages = round.messages + 1; session = after }) all
@@ -109,8 +110,8 @@ moved_same : (xs ys : List Move) (a b : List ℤ) → ((node : ℕ) → balance 
 moved_same xs ys a b e m = record { same = m.same; each = λ i h. (m.each i h ∙ ap (λ z. balance_at a i +ℤ z) (e (i + 1))) }
 
 -- the pieces of all batches of the first messages' jobs, appended in order, are a round
-pub by_jobs : {A : Type 0} (first : Session) (stack : Stacked) (s : Session) (stream : List ℕ) (round : RoundEnd) (jobs : List Job) (size : ℕ)
-    (pieces : List (Piece A)) (old new : Output) → 1 ≤ size → ((k : ℕ) → slice_index stream k < 256)
+pub by_jobs : {A : Type 0} (first : Session) (stack : Stacked) (s : Session) (stream : List ℕ) (round : RoundEnd) (jobs : List Job)
+    (size : ℕ) (pieces : List (Piece A)) (old new : Output) → 1 ≤ size → ((k : ℕ) → slice_index stream k < 256)
     → AreFirstJobs s stream round jobs → (0 < round.messages) ⊎ IsRest (drop round.used stream) → AnswerAll stack jobs size pieces
     → AreAppended pieces old new → AppendsRound (answering first stack) s stream round old new
 by_jobs first stack s stream round jobs size pieces old new some bytes f o a p = (

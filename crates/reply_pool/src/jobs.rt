@@ -11,8 +11,8 @@ use fuse_answer::{answer, moves};
 use fuse_wire::{Op, Replies, Request};
 use reply_model::{Move, Session};
 use reply_pieces::{Rounded, sums};
-use table_reader::Table;
 use std::alloc::{AllocError, Allocator};
+use table_reader::Table;
 
 // Answers jobs one after another.
 pub(crate) fn answer_jobs<A: Allocator, B: Allocator + Copy>(

@@ -11,8 +11,8 @@ use draw_board::{Board, Hand};
 use fuse_wire::Request;
 use reply_model::Session;
 use reply_pieces::Piece;
-use table_reader::Table;
 use std::alloc::Allocator;
+use table_reader::Table;
 
 /// Moves have one list of sums.
 #[tactic(auto, using(reply_pieces::proofs::Ordered::one_form))]

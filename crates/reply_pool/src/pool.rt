@@ -14,8 +14,8 @@ use reply_model::Session;
 use reply_pieces::Gathered;
 use round_plan::{LookupsAhead, Plan, pass_batch, worth_workers};
 use serve_loop::{AnswersOne, AnswersRounds, RoundEnd, walk};
-use table_reader::Table;
 use std::alloc::{AllocError, Allocator};
+use table_reader::Table;
 use work_gate::Gate;
 
 /// What answers requests over a table by a plan. A gate is passed before the first request of each

@@ -16,9 +16,9 @@ use reply_model::Session;
 use reply_pieces::RoundPieces;
 use round_plan::Plan;
 use serve_loop::RoundEnd;
-use table_reader::Table;
 use std::alloc::{AllocError, Allocator};
 use std::thread::Threads;
+use table_reader::Table;
 use work_gate::Gate;
 
 // The first messages of a stream as jobs, and how far they go.

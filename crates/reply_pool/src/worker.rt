@@ -12,9 +12,9 @@ use draw_board::{Board, Hand};
 use fuse_wire::Request;
 use reply_model::Session;
 use reply_pieces::{Piece, Rounded, batch};
-use table_reader::Table;
 use std::alloc::{AllocError, Allocator};
 use std::thread::Threads;
+use table_reader::Table;
 use work_gate::{Gate, Work};
 
 /// Draws batches from a board until none is left, and answers those drawn, in that order. The gate

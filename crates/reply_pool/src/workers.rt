@@ -24,9 +24,9 @@ use fuse_wire::Request;
 use reply_model::Session;
 use reply_pieces::{Piece, Rounded, count_batches, in_order};
 use round_plan::Plan;
-use table_reader::Table;
 use std::alloc::{AllocError, Allocator};
 use std::thread::{Threads, join};
+use table_reader::Table;
 use work_gate::Gate;
 
 /// Answers jobs, which are requests, each with the session before it: at most 256 of them.

@@ -2,9 +2,9 @@
 //!
 //! Chains may merge and go round, so that a header may stand in the chains of many directories, and
 //! to compare the names of each chain on its own would be quadratic. But each header leads on to
-//! one, in whatever chain. So the headers are numbered, equal names are one class (`duplicate_keys`),
-//! and `successor_graph` notes the numbers with a lower one of their class on their way or before
-//! them. Where no two names are equal, there is nothing to be climbed.
+//! one, in whatever chain. So the headers are numbered, equal names are one class
+//! (`duplicate_keys`), and `successor_graph` notes the numbers with a lower one of their class on
+//! their way or before them. Where no two names are equal, there is nothing to be climbed.
 
 ghost use Rattle.std.specs.Prelude.{◌+◌, ◌/◌, ◌^◌, ◌<◌, ◌≤◌, ℕ, IfOk, length, get_or};
 ghost use Rattle.romfs_rules.specs.Marks.{HasRootElsewhere};

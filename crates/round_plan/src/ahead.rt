@@ -14,8 +14,8 @@ ghost use Rattle.serve_loop.specs.declared.limits.TheConstants.{MAX_ROUND_MESSAG
 
 use fuse_wire::{Framed, frame, glance};
 use serve_loop::limits::MAX_ROUND_MESSAGES;
-use table_reader::{Guess, Row, Table, hashed};
 use std::alloc::Allocator;
+use table_reader::{Guess, Row, Table, hashed};
 
 /// A table with fewer nodes than this stays in the processor's second cache, with some 80 bytes a
 /// node.

@@ -16,8 +16,8 @@ use fuse_wire::{Framed, Op, Request, frame};
 use romfs_format::Kind;
 use romfs_format::limits::MAX_TARGET_SIZE;
 use serve_loop::limits::MAX_ROUND_MESSAGES;
-use table_reader::Table;
 use std::alloc::Allocator;
+use table_reader::Table;
 
 /// A round is worth workers that one thread answers in so many nanoseconds. Within 2 MiB of replies
 /// READ and READDIRPLUS take less: what workers save on them, one more copy of their replies costs.

@@ -68,12 +68,14 @@ pub record IsNotBegun {A : Type 0} (call : Call) (result : Result (Done A) Stop)
 
 -- the stream was served over the images, or not begun
 abbrev pub ServesBetween : {A : Type 0} → Call → Result (Done A) Stop → Devices → Devices → Type 0
-ServesBetween call result old new = IsServedOver call result old new ⊎ IsNotBegun call result old new
+ServesBetween call result old new =
+    IsServedOver call result old new ⊎ IsNotBegun call result old new
 
 -- ---- what it means
 
 -- the images are good, and all messages of the stream were answered over their stack, to its end
-pub record HasServedAll {A : Type 0} (call : Call) (done : Done A) (old new : Devices) : Type 0 where
+pub record HasServedAll {A : Type 0} (call : Call) (done : Done A) (old new : Devices)
+    : Type 0 where
   pub stack : Stacked
   pub stacked : AreStacked call.profile call.images stack
   pub served :

@@ -91,7 +91,8 @@ write_told : {A : Type 0} (r : Result (Done A) StreamFault) (old new : ℕ) → 
 write_told (Err Write) old new e = (λ _. e, λ _. refl)
 write_told _ old new e = (λ q. absurd (cc), λ f. absurd (omega arith))
 
-module _ {A : Type 0} (by : Answering) (nodes turns : ℕ) (t : Trace) (result : Result (Done A) StreamFault) (r : IsRun by nodes turns t result)
+module _ {A : Type 0} (by : Answering) (nodes turns : ℕ) (t : Trace) (result : Result (Done A) StreamFault)
+    (r : IsRun by nodes turns t result)
   where
     -- a run ends with `Read` exactly where the source failed once in it
     pub read_is_exact : (result ≡ Err Read) ↔ (t.source.failures ≡ t.source_before.failures + 1)

@@ -74,7 +74,8 @@ pub some_messages : (by : Answering) (s : Session) (round : RoundEnd) (put rest 
 some_messages by s round put rest old new r n = let c = r.count in omega (arith, n)
 
 -- what holds of the error `Memory` holds of a failure that has no other reason
-pub from_memory : {X : Type 0} (r : Result X StreamFault) (Q : StreamFault → Type 0) → IsErrAnd r (λ fault. fault ≡ Memory) → Q Memory → IfErr r Q
+pub from_memory : {X : Type 0} (r : Result X StreamFault) (Q : StreamFault → Type 0) → IsErrAnd r (λ fault. fault ≡ Memory) → Q Memory
+    → IfErr r Q
 from_memory (Ok x) Q i q = absurd i
 from_memory (Err fault) Q i q = subst Q (sym i) q
 

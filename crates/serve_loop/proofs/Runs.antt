@@ -158,7 +158,8 @@ module _ (by : Answering) (nodes : ℕ) where
       quiet : last_size new.last ≡ 0
       quiet = ap last_size counts.3
 
-      counted : {A : Type 0} (result : Result (Done A) StreamFault) → ends_met result ≡ 1 → read_failures result ≡ 0 → write_failures result ≡ 0
+      counted : {A : Type 0} (result : Result (Done A) StreamFault) → ends_met result ≡ 1 → read_failures result ≡ 0
+          → write_failures result ≡ 0
           → IsCounted turns (pulled_on t new x) result
       counted result e f w = record {
         pulls = (let a = counts.0 in let b = r.pulls in omega arith);
@@ -391,7 +392,8 @@ small_fed by nodes turn t v rest ms f s h = record {
 }
 
 -- a run that fails with `Memory` keeps the promise if that end does
-pub run_memory : {A : Type 0} (by : Answering) (nodes turns : ℕ) (t : Trace) (r : Result (Done A) StreamFault) → IsErrAnd r (λ fault. fault ≡ Memory)
+pub run_memory : {A : Type 0} (by : Answering) (nodes turns : ℕ) (t : Trace) (r : Result (Done A) StreamFault)
+    → IsErrAnd r (λ fault. fault ≡ Memory)
     → IsRun {A = A} by nodes turns t (Err Memory) → IsRun by nodes turns t r
 run_memory by nodes turns t (Ok done) i p = absurd i
 run_memory {A} by nodes turns t (Err fault) i p = subst (λ (s : StreamFault). IsRun {A = A} by nodes turns t (Err s)) (sym i) p

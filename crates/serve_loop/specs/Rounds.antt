@@ -54,7 +54,8 @@ pub record AreAnswered (by : Answering) (s : Session) (messages : List (List ℕ
   pub light : IsLight (moves_by by.moved s (map asked messages)) (length (joined messages))
 
 -- a round answered the first messages of a stream with these bytes: at least one, if one is whole
-pub record IsRound (by : Answering) (s : Session) (stream : List ℕ) (round : RoundEnd) (put : List ℕ)
+pub record IsRound (by : Answering) (s : Session) (stream : List ℕ) (round : RoundEnd)
+    (put : List ℕ)
     (b : Balances) : Type 0 where
   pub messages : List (List ℕ)
   pub first : AreFirst stream messages round.used

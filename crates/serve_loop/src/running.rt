@@ -26,8 +26,8 @@ use std::alloc::Allocator;
 /// - `Write` and `Memory`: some of the first replies are written.
 ///
 /// `Read` and `Write` come exactly where the source's or the sink's count of failures rose in this
-/// call. No pull follows an end, a bad length or a failure, and no device is called after memory was
-/// refused. With no turns it answers `Turns` at once.
+/// call. No pull follows an end, a bad length or a failure, and no device is called after memory
+/// was refused. With no turns it answers `Turns` at once.
 pub fn run_by<T: AnswersRounds, S: Source, K: Sink, A: Allocator + Copy>(
     alloc: A,
     answers: &T,

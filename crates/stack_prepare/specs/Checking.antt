@@ -30,8 +30,8 @@ Checks first profile images result =
     × IfErr result (IsBroken first profile images)
 
 -- both halves of a run were checked, and these are the images of both
-abbrev pub AreBoth : {A : Type 0} → Result (Vec (List ℕ) A) Refusal → Result (Vec (List ℕ) A) Refusal
-    → List (List ℕ) → Type 0
+abbrev pub AreBoth : {A : Type 0} → Result (Vec (List ℕ) A) Refusal
+    → Result (Vec (List ℕ) A) Refusal → List (List ℕ) → Type 0
 AreBoth (Ok low) (Ok high) all = all ≡ low.items ++ high.items
 AreBoth _ _ all = ⊥
 

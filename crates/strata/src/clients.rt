@@ -12,11 +12,11 @@ ghost use Rattle.strata.specs.Sessions.{accepting, fault_of, status_at, EndWith,
 use crate::faults::Fault;
 use devices::{Clients, Listening, Spout, Tap};
 use serve_core::{Done, FreePass, MAX_TURNS, Plan, Session, Stop, Terms, run};
-use table_reader::Table;
 use std::alloc::Allocator;
 use std::io::Write;
 use std::os::unix::net::{UnixListener, UnixStream};
 use std::thread::Threads;
+use table_reader::Table;
 
 /// Serves `count` sessions over a table to the clients of a listener, one after another, and gives
 /// the exit status. Each begins in a fresh session, and has at most 2^40 pulls.

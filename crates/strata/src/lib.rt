@@ -7,10 +7,10 @@
 //! clients. [`faults`] has a line and an exit status for each thing that can go wrong.
 //!
 //! `command_line` reads the words, `image_files` the files of images; `stack_prepare` checks images
-//! and stacks them, for each command that needs their stack, `serve_core` serves a stream over that,
-//! `path_list` writes the paths that it shows, and `fuse_device` knows where a mount was taken away.
-//! `checking`, `listing`, `serving` and `listening` are the four commands; the two first know nothing
-//! that serves.
+//! and stacks them, for each command that needs their stack, `serve_core` serves a stream over
+//! that, `path_list` writes the paths that it shows, and `fuse_device` knows where a mount was
+//! taken away. `checking`, `listing`, `serving` and `listening` are the four commands; the two
+//! first know nothing that serves.
 #![tactic(auto)]
 
 mod balances;

@@ -23,5 +23,5 @@ pub use node::Node;
 pub use node_attr::Attr;
 pub use romfs_reader::Kind;
 pub use row::Row;
-pub use whiteout_tree::Place;
 pub use table::Table;
+pub use whiteout_tree::Place;

@@ -2,10 +2,10 @@
 
 use serve_core::Stop;
 use serve_test_kit::runs::{End, Run, Seen, WHOLE, run_over, sample_table};
-use table_reader::Table;
 use std::alloc::Global;
 use std::test::Fail;
 use std::thread::Threads;
+use table_reader::Table;
 use test_kit::script::{script, script_replies};
 
 /// The plans by which each is tried: workers, and the messages of a batch.

@@ -2,10 +2,10 @@
 
 use serve_test_kit::runs::{by, ran, table_of};
 use stack_core::FreePass;
-use table_reader::Table;
 use std::alloc::Global;
 use std::test::Fail;
 use std::thread::Threads;
+use table_reader::Table;
 use test_kit::long::{mebibyte, reads};
 use test_kit::refusing::Refusing;
 use test_kit::sample_images::alone;

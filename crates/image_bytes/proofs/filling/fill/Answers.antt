@@ -5,5 +5,6 @@ use Rattle.image_bytes.proofs.filling.fill.Goals as goal
 pub loop-done-preserved : goal.loop-done-preserved
 loop-done-preserved g c = record {
   within = search rules;
-  at = filled_more _ _ _ _ _ _ _ c.loop-done.invariant.within (omega (arith, c.in_ok-count.ensures.bound)) c.loop-done.invariant.at c.in_ok-count.ensures.bytes;
+  at = filled_more _ _ _ _ _ _ _ c.loop-done.invariant.within (omega (arith, c.in_ok-count.ensures.bound)) c.loop-done.invariant.at
+      c.in_ok-count.ensures.bytes;
 }

@@ -16,4 +16,5 @@ returns-clause-stopped g c =
 pub returns-in_err-done-clause-stopped : goal.returns-in_err-done-clause-stopped
 returns-in_err-done-clause-stopped g c =
     stopped g.row.A.Denot c.args.line.now _ _ _ _ (rw c.profile_of.ensures at c.in_ok-table.ensures.ok) c.serve_stream.result
-    c.in_err-done.field-0.0 c.from_residual-in_err-done.result c.serve_stream.ensures c.in_err-done.was c.from_residual-in_err-done.ensures.1
+    c.in_err-done.field-0.0 c.from_residual-in_err-done.result c.serve_stream.ensures c.in_err-done.was
+    c.from_residual-in_err-done.ensures.1
