@@ -137,7 +137,7 @@ where
         (devices (T.state input.old) (K.state output.old))
         (devices (T.state input.new) (K.state output.new)) }
 {
-    match run(rt, alloc, line, input, output, faults) {
+    match do_steps(rt, alloc, line, input, output, faults) {
         Ok(status) => status,
         Err(fault) => fault.end(faults),
     }
@@ -174,7 +174,7 @@ where
     ensures { (words : List (List ℕ)) → IsLineOf words line.now → IsRunOnDevice A words result
         (ends I.remaining input.old output.old) (ends I.remaining input.new output.new) }
 {
-    match run(rt, alloc, line, input, output, faults) {
+    match do_steps(rt, alloc, line, input, output, faults) {
         Ok(status) => status,
         Err(fault) => end_on_device(&fault, input.is_gone(), output.is_gone(), faults),
     }
@@ -182,7 +182,7 @@ where
 
 // Does all the steps after the line was read, and gives the exit status, which sessions at a socket
 // may make another than 0: what they stop for is told as it comes.
-fn run<
+fn do_steps<
     R: Files + Net + Threads + Sync,
     A: Allocator + Copy + Send + Sync,
     T: Source,

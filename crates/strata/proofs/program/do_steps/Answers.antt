@@ -6,7 +6,7 @@ use Rattle.command_line.specs.CommandLine.{IsLineOf}
 use Rattle.strata.proofs.Ended.{all_named, ended, unread}
 use Rattle.strata.proofs.AtSocket.{over_there, stopped_there}
 use Rattle.command_line.specs.declared.options.Verb.TheVariants as verbs
-use Rattle.strata.proofs.program.run.Goals as goal
+use Rattle.strata.proofs.program.do_steps.Goals as goal
 
 pub returns-in_err-images-clause-stopped : goal.returns-in_err-images-clause-stopped
 returns-in_err-images-clause-stopped g c = λ words read.
