@@ -32,6 +32,25 @@ where
     }
 }
 
+/// Whether the program that is asked for its version tells that memory was refused, and writes
+/// nothing else.
+fn version_is_told<R: Files + Net + Threads + Sync>(rt: &R, memories: &Memories) -> bool
+where
+    R::File: Send,
+    R::Dir: Send,
+{
+    let (global, refusing) = (memories.global, &memories.refusing);
+    let mut output = Vec::new(global);
+    let (requests, line) = (REQUESTS.as_slice(), b"out of memory\n");
+    let words = ["--version"];
+    let status = status_of(rt, global, refusing, &words, requests, &mut output, line);
+    if refusing.refused() {
+        status == Some(5) && output.is_empty()
+    } else {
+        status == Some(0)
+    }
+}
+
 /// How many requests for memory a run makes, each of which is refused once and told.
 fn told_refusals<R: Files + Net + Threads + Sync>(
     rt: &R,
@@ -60,6 +79,13 @@ fn refused_memory_is_told_of_lines(rt: HostRuntime) -> Result<(), Fail> {
         matches!((checking, listing), (Ok(6..), Ok(6..))),
         "{checking:?} {listing:?}"
     );
+    Ok(())
+}
+
+#[test]
+fn refused_memory_is_told_of_the_version(rt: HostRuntime) -> Result<(), Fail> {
+    let told = refuse_in_turn(rt.alloc(), |memories| version_is_told(&rt, memories));
+    assert!(rt; matches!(told, Ok(1..)), "{told:?}");
     Ok(())
 }
 
