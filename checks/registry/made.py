@@ -62,7 +62,7 @@ SHOWN = {
     "/tmp": ("040755", 4, 0), "/var": ("040755", 3, 0), "/var/cache": ("040755", 3, 0),
     "/var/cache/3": ("100644", 3, 5),
 }
-RUN = {"Entrypoint": ["/bin/say", "it's"], "Cmd": ["a b"], "Env": ["PATH=/bin", "WORD=x y"],
+RUN = {"Entrypoint": ["/bin/say", "it's"], "Cmd": ["a b"], "Env": ["PATH=/bin", "WORD=x y", "HOME"],
        "WorkingDir": "/var", "User": "7:8"}
 
 

@@ -4,6 +4,7 @@ import json
 import os
 import shlex
 import shutil
+import stat
 import subprocess
 
 from checks import ROOT
@@ -63,7 +64,8 @@ def check_convert(room):
     hold("shown", made.SHOWN, shown_by(room, paths))
     room.layers("convert", source.path + ":1", again + ":1", store=room.name())
     hold("the same bytes in another store", files_of(out), files_of(again))
-    room.layers("convert", source.path, out + ":2")
+    for _ in range(2):
+        room.layers("convert", source.path, out + ":2")
     with open(os.path.join(out, "index.json"), "rb") as file:
         tags = [it["annotations"][made.TAG] for it in json.load(file)["manifests"]]
     hold("tags", ["1", "2"], tags)
@@ -121,6 +123,8 @@ def check_pull(room):
         hold("images", ["other:latest", name],
              [it.split()[0] for it in room.layers("images", store=store).splitlines()])
         hold("verified", "", room.layers("verify", store=store))
+    hold("modes", {0o700, 0o100444}, {stat.S_IMODE(os.stat(store).st_mode)} | {os.stat(it).st_mode for it in
+                                     mounted_layers(room, "other:latest", store)})
     hold("a name of its own", "%s:1: 5 layers, 5 of them new\n" % os.path.basename(plain),
          room.layers("pull", "oci:" + plain))
 
@@ -175,14 +179,15 @@ def check_names(room):
 def check_config(room):
     """Entry point, environment, folder and user, for people and as words that a shell evaluates."""
     room.layers("pull", "oci:" + made.layout(room.name()).path, "a")
-    hold("config", "entrypoint /bin/say 'it'\"'\"'s'\ncommand 'a b'\nenv PATH=/bin\nenv 'WORD=x y'\nfolder /var\nuser 7:8\n",
+    hold("config", "entrypoint /bin/say 'it'\"'\"'s'\ncommand 'a b'\nenv PATH=/bin\nenv 'WORD=x y'\nenv HOME\nfolder /var\nuser 7:8\n",
          room.layers("config", "a"))
     words = shlex.split(room.layers("config", "--bwrap", "a"))
-    hold("bwrap", ["--clearenv", "--setenv", "PATH", "/bin", "--setenv", "WORD", "x y", "--chdir", "/var",
+    hold("bwrap", ["--clearenv", "--setenv", "PATH", "/bin", "--setenv", "WORD", "x y", "--setenv", "HOME", "",
+                   "--chdir", "/var",
                    "--unshare-user", "--uid", "7", "--gid", "8", "--", "/bin/say", "it's", "a b"], words)
     words = shlex.split(room.layers("config", "--podman", "a"))
     hold("podman", ["--entrypoint", '["/bin/say", "it\'s", "a b"]', "--workdir", "/var", "--env", "PATH=/bin",
-                    "--env", "WORD=x y", "--user", "7:8"], words)
+                    "--env", "WORD=x y", "--env", "HOME=", "--user", "7:8"], words)
 
 
 def check_lost(room):
