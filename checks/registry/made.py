@@ -62,15 +62,15 @@ SHOWN = {
     "/tmp": ("040755", 4, 0), "/var": ("040755", 3, 0), "/var/cache": ("040755", 3, 0),
     "/var/cache/3": ("100644", 3, 5),
 }
-RUN = {"Entrypoint": ["/bin/say", "it's"], "Cmd": ["a b"], "Env": ["PATH=/bin", "WORD=x y", "HOME"],
+RUN = {"Entrypoint": ["/bin/say", "it's"], "Cmd": ["a b"], "Env": ["PATH=/bin", "WORD=x y"],
        "WorkingDir": "/var", "User": "7:8"}
 
 
 class Layout:
     """An image layout that is written into a new folder."""
 
-    def __init__(self, path):
-        self.path = path
+    def __init__(self, path, run=None):
+        self.path, self.run = path, run or RUN
         os.makedirs(os.path.join(path, "blobs", "sha256"))
         self.write("oci-layout", json.dumps({"imageLayoutVersion": "1.0.0"}).encode())
 
@@ -92,7 +92,7 @@ class Layout:
         return self.image_of(layers, diff_ids or [digest(it) for it in archives], platform, **more)
 
     def image_of(self, layers, diff_ids, platform=("linux", "amd64"), **more):
-        config = self.blob(CONFIG, {"os": platform[0], "architecture": platform[1], "config": RUN,
+        config = self.blob(CONFIG, {"os": platform[0], "architecture": platform[1], "config": self.run,
                                     "rootfs": {"type": "layers", "diff_ids": diff_ids}})
         value = {"schemaVersion": 2, "mediaType": MANIFEST, "config": config, "layers": layers}
         return self.blob(MANIFEST, value, **more)

@@ -178,7 +178,9 @@ def check_names(room):
 
 def check_config(room):
     """Entry point, environment, folder and user, for people and as words that a shell evaluates."""
-    room.layers("pull", "oci:" + made.layout(room.name()).path, "a")
+    source = made.Layout(room.name(), {**made.RUN, "Env": [*made.RUN["Env"], "HOME"]})
+    source.index(made.tagged(source.image(made.LAYERS), "1"))
+    room.layers("pull", "oci:" + source.path, "a")
     hold("config", "entrypoint /bin/say 'it'\"'\"'s'\ncommand 'a b'\nenv PATH=/bin\nenv 'WORD=x y'\nenv HOME\nfolder /var\nuser 7:8\n",
          room.layers("config", "a"))
     words = shlex.split(room.layers("config", "--bwrap", "a"))
