@@ -1,4 +1,5 @@
-"""Images for these checks: archives by Python's tarfile, layouts of them, and what they show, said by hand."""
+"""Images for these checks: archives by Python's tarfile, layouts of them, and what they show, said
+by hand."""
 import gzip
 import hashlib
 import io

@@ -108,7 +108,8 @@ def check_platforms(room):
 
 
 def check_pull(room):
-    """An image from archives, from layers of romfs, and from packed ones is the same image of the store."""
+    """An image from archives, from layers of romfs, and from packed ones is the same image of the
+    store."""
     source, plain, packed = made.layout(room.name()), room.name(), room.name()
     elsewhere = room.name()
     room.layers("convert", source.path, plain, store=elsewhere)
@@ -130,7 +131,8 @@ def check_pull(room):
 
 
 def check_shared(room):
-    """A second image that shares three layers brings the others; remove and prune leave what is needed."""
+    """A second image that shares three layers brings the others; remove and prune leave what is
+    needed."""
     one = made.layout(room.name())
     two = made.layout(room.name(), (*made.LAYERS[:3], made.archive(made.entry("x", b"x")),
                                     made.archive(made.entry("y", b"y"))))
@@ -203,7 +205,8 @@ def check_lost(room):
 
 
 def check_other_forms(room):
-    """An archive of docker save and a folder of skopeo's are named with what makes a layout of them."""
+    """An archive of docker save and a folder of skopeo's are named with what makes a layout of
+    them."""
     path, where = room.name(), room.name()
     with open(path, "wb") as out:
         out.write(made.archive(made.entry("manifest.json", b"[]")))
