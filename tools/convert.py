@@ -25,7 +25,8 @@ def pieces_of(layer, number, where, heard):
         heard(len(data))
         yield data
     if found.hexdigest() != layer.digits:
-        raise Refused("%s: the layer sha256:%s has the digest sha256:%s" % (where, layer.digits, found.hexdigest()))
+        raise Refused("%s: the layer sha256:%s has the digest sha256:%s"
+                      % (where, layer.digits, found.hexdigest()))
 
 
 class Converter:
@@ -38,8 +39,9 @@ class Converter:
         """Writes an image with its layers of the store; the descriptor of its manifest."""
         rootfs = {**image.config["rootfs"], "diff_ids": ["sha256:" + it.digits for it in layers]}
         described = self.target.document(CONFIG, {**image.config, "rootfs": rootfs})
+        found = [self.layer(it, source_of(image, number)) for number, it in enumerate(layers)]
         value = {"schemaVersion": 2, "mediaType": MANIFESTS[0], "config": described,
-                 "layers": [self.layer(it, source_of(image, number)) for number, it in enumerate(layers)]}
+                 "layers": found}
         if isinstance(image.manifest.get("annotations"), dict):
             value["annotations"] = image.manifest["annotations"]
         return self.target.document(MANIFESTS[0], value, **platform_of(image))
@@ -65,7 +67,8 @@ class Converter:
             os.close(number)
 
     def packed_blob(self, layer, number):
-        """The same packed; where it was packed once, and is in the layout still, it is not packed again."""
+        """The same packed; where it was packed once, and is in the layout still, it is not packed
+        again."""
         found = self.maker.packed(layer, self.packing)
         if found is not None and self.target.has(*found):
             return found
@@ -113,12 +116,14 @@ def new_name(layout, tag, word):
 
 def convert(store, layout, tag, word, options, lost):
     """Writes the images of a layout that a tag and a platform mean into the layout of a word,
-    `LAYOUT[:TAG]`; its folder and tag. `options` has `platform` (None: this machine's) and `packing`."""
+    `LAYOUT[:TAG]`; its folder and tag. `options` has `platform` (None: this machine's) and
+    `packing`."""
     folder, new_tag = new_name(layout, tag, word)
     images = images_asked(layout, tag, options.platform)
     with store.locked():
         maker = Maker(store, lost, checks_archives=False)
-        with Progress("layers", sum(it.size for image in images for it in image.layers)) as progress:
+        size = sum(it.size for image in images for it in image.layers)
+        with Progress("layers", size) as progress:
             layout.heard = progress.add
             layers = [maker.layers(layout, image) for image in images]
         converter = Converter(maker, LayoutWriter(folder), options.packing)

@@ -1,7 +1,8 @@
 """Fetches an image from a registry by skopeo: only the layers that a store lacks.
 
-skopeo copies the image into a layout in the store's folder of new files. It doesn't fetch a blob that is
-there already; so for each layer that the store has, an empty file of its name and size stands there.
+skopeo copies the image into a layout in the store's folder of new files. It doesn't fetch a blob
+that is there already; so for each layer that the store has, an empty file of its name and size
+stands there.
 """
 import contextlib
 import ctypes
@@ -32,7 +33,8 @@ def end_with_parent():
 
 
 def skopeo(*words):
-    """What skopeo prints; Refused with what it says where it fails. On a terminal it tells what it does."""
+    """What skopeo prints; Refused with what it says where it fails. On a terminal it tells what it
+    does."""
     program = shutil.which("skopeo")
     if program is None:
         raise Refused("docker:// needs the program skopeo")
@@ -43,7 +45,8 @@ def skopeo(*words):
     if done.returncode != 0:
         said = done.stderr.decode(errors="replace").strip()
         found = MESSAGE.search(said)
-        raise Refused("skopeo: %s" % (found[1].replace('\\"', '"') if found else said or done.returncode))
+        said = found[1].replace('\\"', '"') if found else " ".join(said.split())
+        raise Refused("skopeo: %s" % (said or "status %d" % done.returncode))
     return done.stdout
 
 
@@ -85,8 +88,8 @@ class Reference:
 
 @contextlib.contextmanager
 def fetched(store, reference, asked, is_known):
-    """A layout with an image of a registry, and the digest of its manifest there. `is_known` tells of a
-    layer's descriptor whether the store has it; such a layer is an empty file of its size."""
+    """A layout with an image of a registry, and the digest of its manifest there. `is_known` tells
+    of a layer's descriptor whether the store has it; such a layer is an empty file of its size."""
     it = Reference(reference)
     manifest, digest, where = it.manifest(asked)
     folder = os.path.join(store.place, "new", secrets.token_hex(8))

@@ -1,4 +1,5 @@
-"""What an image's configuration says of how it is run, for people and for the programs that run it."""
+"""What an image's configuration says of how it is run, for people and for the programs that run
+it."""
 import json
 import re
 import shlex
@@ -8,12 +9,16 @@ from refused import Refused
 NUMBERS = re.compile(r"([0-9]+)(?::([0-9]+))?")
 
 
+def is_text(value):
+    return isinstance(value, str) and "\0" not in value
+
+
 def texts(value, name):
     """A list of texts of a configuration; none where there is none."""
     found = value.get(name)
     if found is None:
         return []
-    if not isinstance(found, list) or not all(isinstance(it, str) and "\0" not in it for it in found):
+    if not isinstance(found, list) or not all(is_text(it) for it in found):
         raise Refused("the image's configuration has no good '%s'" % name)
     return found
 
@@ -22,7 +27,7 @@ def one_text(value, name):
     found = value.get(name)
     if found is None:
         return ""
-    if not isinstance(found, str) or "\0" in found:
+    if not is_text(found):
         raise Refused("the image's configuration has no good '%s'" % name)
     return found
 
@@ -57,8 +62,8 @@ def config_lines(config):
 
 
 def bwrap_words(it):
-    """The last words of bwrap: environment, folder, user where it is a number, and the program. No word
-    of the image is taken as an option."""
+    """The last words of bwrap: environment, folder, user where it is a number, and the program. No
+    word of the image is taken as an option."""
     words = ["--clearenv"]
     for text in it.environment:
         name, _, value = text.partition("=")

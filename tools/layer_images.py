@@ -1,4 +1,5 @@
-"""Makes the romfs image of a layer: the bytes of files go from the archive straight into the image."""
+"""Makes the romfs image of a layer: the bytes of files go from the archive straight into the
+image."""
 import romfs
 import tars
 from layouts import PACKED, digest_of
@@ -42,7 +43,8 @@ def put(image, path, entry):
         image.fifo(path)
         return 0o644
     else:
-        raise Refused("%s: an entry of the unknown type '%s'" % (shown(entry.name), shown(entry.kind)))
+        raise Refused("%s: an entry of the unknown type '%s'"
+                      % (shown(entry.name), shown(entry.kind)))
     return 0o755 if executable else 0o644
 
 
@@ -76,8 +78,8 @@ def write_unpacked(blob, number, descriptor, out, lost, unpacked):
 
 
 def write_layer(layout, number, descriptor, out, lost, unpacked=None):
-    """Writes the image of a layer, whose archive must have the digest `unpacked`, where one is given.
-    Where the blob is not what its own digest says, that is why it is refused."""
+    """Writes the image of a layer, whose archive must have the digest `unpacked`, where one is
+    given. Where the blob is not what its own digest says, that is why it is refused."""
     blob = layout.open(descriptor)
     try:
         try:

@@ -89,28 +89,31 @@ def run_config(asked):
 
 
 HELP = {
-    "convert": "Writes an image layout whose layers are images of romfs, made of those of LAYOUT in the"
-               " same order. Layers are made in the store, each once, and copied from there. Prints the new"
-               " layout as skopeo names it.",
-    "pull": "Brings an image into the store, from a layout or, by skopeo, from a registry: only the layers"
-            " that are missing. Layers may be images of romfs or archives, which are converted. Without a"
-            " NAME it is the layout's folder, or the image's name in the registry without the host.",
-    "images": "Prints a line for each image: its name, how many layers it has, their bytes, and the digest of"
-              " its manifest.",
-    "verify": "Reads all layers, and prints a line for each whose digest is wrong or that is missing; then"
-              " the status is 1.",
+    "convert": "Writes an image layout whose layers are images of romfs, made of those of LAYOUT in"
+               " the same order. Layers are made in the store, each once, and copied from there."
+               " Prints the new layout as skopeo names it.",
+    "pull": "Brings an image into the store, from a layout or, by skopeo, from a registry: only the"
+            " layers that are missing. Layers may be images of romfs or archives, which are"
+            " converted. Without a NAME it is the layout's folder, or the image's name in the"
+            " registry without the host.",
+    "images": "Prints a line for each image: its name, how many layers it has, their bytes, and the"
+              " digest of its manifest.",
+    "verify": "Reads all layers, and prints a line for each whose digest is wrong or that is"
+              " missing; then the status is 1.",
     "remove": "Takes the name of an image away; prune takes its layers away.",
     "prune": "Takes away the layers that no image names and no mount uses.",
-    "config": "Prints entry point, command, environment, working folder and user of an image, as words of the"
-              " shell; or all of it as words for bwrap or podman run, to be used by eval.",
+    "config": "Prints entry point, command, environment, working folder and user of an image, as"
+              " words of the shell; or all of it as words for bwrap or podman run, to be used"
+              " by eval.",
 }
 
 
 def parser():
     it = argparse.ArgumentParser(prog=command("layers"))
     verbs = it.add_subparsers(dest="verb", required=True)
-    parts = {verb: verbs.add_parser(verb, description=textwrap.fill(text, 100), help=text.split(";")[0],
-                                    formatter_class=argparse.RawDescriptionHelpFormatter)
+    form = argparse.RawDescriptionHelpFormatter
+    parts = {verb: verbs.add_parser(verb, description=textwrap.fill(text, 100),
+                                    formatter_class=form, help=text.split(";")[0])
              for verb, text in HELP.items()}
     for part in parts.values():
         part.add_argument("--store", metavar="DIR", default=default_place(),
@@ -122,13 +125,15 @@ def parser():
 def add_words(parts):
     """What each verb is asked."""
     platform = "linux/ARCHITECTURE[/VARIANT]; by default this machine's"
-    parts["convert"].add_argument("--platform", metavar="PLATFORM", help=platform + "; all: every one")
+    parts["convert"].add_argument("--platform", metavar="PLATFORM",
+                                  help=platform + "; all: every one")
     parts["convert"].add_argument("--compress", dest="packing", choices=PACKINGS, default="",
                                   help="pack layers; machines unpack them once, at pull")
     parts["convert"].add_argument("layout", metavar="LAYOUT[:TAG]")
     parts["convert"].add_argument("new_layout", metavar="LAYOUT2[:TAG2]")
     parts["pull"].add_argument("--platform", metavar="PLATFORM", help=platform)
-    parts["pull"].add_argument("source", metavar="SOURCE", help="oci:LAYOUT[:TAG] or docker://HOST/NAME[:TAG]")
+    parts["pull"].add_argument("source", metavar="SOURCE",
+                               help="oci:LAYOUT[:TAG] or docker://HOST/NAME[:TAG]")
     parts["pull"].add_argument("name", metavar="NAME[:TAG]", nargs="?")
     for verb in ("remove", "config"):
         parts[verb].add_argument("name", metavar="NAME[:TAG]")

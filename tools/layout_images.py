@@ -1,7 +1,9 @@
-"""The images of a layout as convert and pull read them: manifest, configuration and layers together.
+"""The images of a layout as convert and pull read them: manifest, configuration and layers
+together.
 
     image = image_of(layout, descriptor)
-    image.layers[0], image.archives[0]     the lowest layer, and the digest of what it was before it was packed
+    image.layers[0]      the lowest layer
+    image.archives[0]    the digest of what it was before it was packed
 """
 import collections
 
@@ -27,7 +29,8 @@ def layers_in(manifest, where):
 
 
 def archives_in(config, count, where):
-    """The digests that a configuration names its layers by, as they were before they were packed."""
+    """The digests that a configuration names its layers by, as they were before they were
+    packed."""
     found = field(field(config, "rootfs", dict, where), "diff_ids", list, where)
     if len(found) != count or not all(isinstance(it, str) for it in found):
         raise Refused("%s: no digest for each of %d layers in 'diff_ids'" % (where, count))
@@ -55,7 +58,8 @@ def all_images(layout, tag):
         found += [it for it in images if it not in found]
         # an index that is named many times is read once
         indexes = {it.digits: it for it in todo if it.media in INDEXES}
-        todo = [below for it in indexes.values() for below in layout.manifests(*layout.document(it))]
+        inner = [layout.manifests(*layout.document(it)) for it in indexes.values()]
+        todo = [below for found_there in inner for below in found_there]
         if not todo:
             break
     if not found:

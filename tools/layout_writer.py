@@ -1,8 +1,8 @@
 """Writes images into an OCI image layout, which is made where it isn't there.
 
-Blobs are written beside their place and renamed; the index, which names them, comes last. Two runs over
-one layout wait for one another. Nothing is waited for until it is on the disk, as in a store: whoever
-copies a layout looks at the digests, and it can be written again.
+Blobs are written beside their place and renamed; the index, which names them, comes last. Two runs
+over one layout wait for one another. Nothing is waited for until it is on the disk, as in a store:
+whoever copies a layout looks at the digests, and it can be written again.
 """
 import contextlib
 import errno
@@ -25,7 +25,8 @@ PIECE = 1 << 26
 
 
 def split_new_name(word):
-    """The folder and the tag of `LAYOUT[:TAG]`, where LAYOUT need not be there: a tag has no slash."""
+    """The folder and the tag of `LAYOUT[:TAG]`, where LAYOUT need not be there: a tag has no
+    slash."""
     end = len(word)
     while end > 0:
         if os.path.isdir(word[:end]):
@@ -66,7 +67,8 @@ class LayoutWriter:
         self.blobs = self.made("sha256", self.made("blobs", self.root))
 
     def begin(self):
-        """Takes away what an interrupted run has left, and sees that the folder is a layout or empty."""
+        """Takes away what an interrupted run has left, and sees that the folder is a layout or
+        empty."""
         for name in os.listdir(self.root):
             if name.startswith(NEW):
                 os.unlink(name, dir_fd=self.root)
@@ -79,7 +81,8 @@ class LayoutWriter:
     def made(name, above):
         with contextlib.suppress(FileExistsError):
             os.mkdir(name, dir_fd=above)
-        return os.open(name, os.O_RDONLY | os.O_DIRECTORY | os.O_NOFOLLOW | os.O_CLOEXEC, dir_fd=above)
+        flags = os.O_RDONLY | os.O_DIRECTORY | os.O_NOFOLLOW | os.O_CLOEXEC
+        return os.open(name, flags, dir_fd=above)
 
     # --- files ---
 

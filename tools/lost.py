@@ -22,7 +22,8 @@ def is_opened(entry, shown_mode):
 
 
 class Lost:
-    """Of each kind of loss how many entries, and the first; and the first ten that others may read."""
+    """Of each kind of loss how many entries, and the first; and the first ten that others may
+    read."""
 
     def __init__(self):
         self.found, self.opened, self.opened_count = {}, [], 0
@@ -53,7 +54,8 @@ class Lost:
         for kind, words in LOST.items():
             if kind in self.found:
                 count, (layer, name) = self.found[kind]
-                yield "%s: %s, first layer %d: %s" % (words, entries_text(count), layer, shown(name))
+                yield "%s: %s, first layer %d: %s" % (
+                    words, entries_text(count), layer, shown(name))
         if self.opened:
             yield ("others may read or enter in the mount, and could not in the layer: %s"
                    % entries_text(self.opened_count))

@@ -1,10 +1,13 @@
-"""Opens the layout that a word names; of other forms of images it says what makes a layout of them."""
+"""Opens the layout that a word names; of other forms of images it says what makes a layout of
+them."""
 import os
 
 from layouts import Layout, split_name
 from refused import Refused, shown
 
 TAR_MAGIC = b"ustar"
+# of gzip and of zstd
+PACKED_MAGIC = (b"\x1f\x8b", b"\x28\xb5\x2f\xfd")
 
 
 def first_bytes(path):
@@ -19,7 +22,7 @@ def other_form(word):
     """The transport by which skopeo reads a file or folder that is no layout, or None."""
     if os.path.isfile(word):
         data = first_bytes(word)
-        is_archive = data[257:262] == TAR_MAGIC or data.startswith((b"\x1f\x8b", b"\x28\xb5\x2f\xfd"))
+        is_archive = data[257:262] == TAR_MAGIC or data.startswith(PACKED_MAGIC)
         return "docker-archive" if is_archive else None
     if first_bytes(os.path.join(word, "version")).startswith(b"Directory Transport Version"):
         return "dir"

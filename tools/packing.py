@@ -17,6 +17,8 @@ from refused import Refused
 # so many bytes fit into a processor's own memory
 PIECE = 1 << 17
 GZIP_WINDOW = 31
+# as Python's own module says it
+CUT_OFF = "Compressed file ended before the end-of-stream marker was reached"
 PACKINGS = ("gzip", "zstd")
 NO_ZSTD = "zstd, which this python has no module for (3.14 and later have), and there is no zstd"
 
@@ -64,7 +66,7 @@ class Gunzip:
             if not self.packed and not self.is_full:
                 self.packed = self.source.read(PIECE)
                 if not self.packed:
-                    raise EOFError("Compressed file ended before the end-of-stream marker was reached")
+                    raise EOFError(CUT_OFF)
             data = self.member.decompress(self.packed, PIECE)
             self.is_full = len(data) == PIECE
             self.packed = self.member.unconsumed_tail
@@ -159,7 +161,8 @@ def unpacker(source, packed):
 
 
 class Unpacked:
-    """The bytes of a source as they were before they were packed; their digest, where it is asked for."""
+    """The bytes of a source as they were before they were packed; their digest, where it is asked
+    for."""
 
     def __init__(self, source, packed, is_hashed=False):
         self.unpacker = unpacker(source, packed)

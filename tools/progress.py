@@ -1,4 +1,5 @@
-"""One line of progress, where standard error is a terminal and the work takes more than a second."""
+"""One line of progress, where standard error is a terminal and the work takes more than a
+second."""
 import os
 import sys
 import time

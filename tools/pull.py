@@ -15,8 +15,8 @@ LAYOUT = "oci:"
 
 
 def name_of(source, tag):
-    """The name that an image gets where none is said: the last name of the layout's path, with its tag;
-    of an image of a registry its name there, without the host."""
+    """The name that an image gets where none is said: the last name of the layout's path, with its
+    tag; of an image of a registry its name there, without the host."""
     if source.startswith(TRANSPORT):
         name, rest = split_reference(source[len(TRANSPORT):])
         _, slash, path = name.partition("/")
@@ -31,7 +31,8 @@ def checked_name(word):
 
 @contextlib.contextmanager
 def opened(maker, source, platform):
-    """The layout that an image is read from, its descriptor there, and the digest that it is known by."""
+    """The layout that an image is read from, its descriptor there, and the digest that it is known
+    by."""
     if source.startswith(TRANSPORT):
         reference = source[len(TRANSPORT):]
         with fetched(maker.store, reference, platform, maker.has_made) as (layout, digest):
@@ -43,10 +44,11 @@ def opened(maker, source, platform):
 
 
 def pull(store, source, name, platform, lost):
-    """Brings an image into a store under a name; its whole name, how many layers it has, and how many of
-    them are new."""
+    """Brings an image into a store under a name; its whole name, how many layers it has, and how
+    many of them are new."""
     if not source.startswith((LAYOUT, TRANSPORT)):
-        raise Refused("%s: oci:LAYOUT[:TAG] or docker://HOST/NAME[:TAG] is wanted" % shown(os.fsencode(source)))
+        raise Refused("%s: oci:LAYOUT[:TAG] or docker://HOST/NAME[:TAG] is wanted"
+                      % shown(os.fsencode(source)))
     name = checked_name(name or name_said(source))
     with store.locked():
         maker = Maker(store, lost, checks_archives=True)

@@ -6,8 +6,8 @@
     STORE/new/                  what is being written; who holds the lock may clear it
     STORE/lock                  held by the one run that writes
 
-Files are written in STORE/new, and renamed when they are whole and on the disk. So whoever reads sees
-whole files alone, and needs no lock.
+Files are written in STORE/new, and renamed when they are whole and on the disk. So whoever reads
+sees whole files alone, and needs no lock.
 """
 import contextlib
 import errno
@@ -28,6 +28,8 @@ MARK, MARK_TEXT = "strata-store", b"1\n"
 DIGEST = re.compile(r"sha256:[0-9a-f]{64}")
 PIECE = 1 << 18
 SMALL_MOST = 8 << 20
+# no link is followed, and no pipe is waited for
+READING = os.O_RDONLY | os.O_NOFOLLOW | os.O_NONBLOCK | os.O_CLOEXEC
 
 
 def default_place():
@@ -71,8 +73,8 @@ def file_digits(number, heard=unheard):
 
 
 class Store:
-    """The store in a folder, which is made where `make` says so; none but its owner may look into it.
-    Refused where there is none, or where the folder holds something else."""
+    """The store in a folder, which is made where `make` says so; none but its owner may look into
+    it. Refused where there is none, or where the folder holds something else."""
 
     def __init__(self, place, make=False):
         self.place, self.name = os.path.abspath(place), shown(os.fsencode(place))
@@ -87,17 +89,20 @@ class Store:
         opened = make_folder if make else open_folder
         try:
             self.blobs = opened("sha256", opened("blobs", self.root))
-            self.images, self.records, self.new = (opened(it, self.root) for it in ("images", "made", "new"))
+            self.images, self.records = opened("images", self.root), opened("made", self.root)
+            self.new = opened("new", self.root)
         except FileNotFoundError:
             # the run that made it was killed before it brought anything
             raise Refused("%s: no store of layers" % self.name) from None
 
     def mark(self, make):
-        """Sees that the folder is a store, or, where it is empty, makes it one: the mark comes first."""
+        """Sees that the folder is a store, or, where it is empty, makes it one: the mark comes
+        first."""
         fcntl.flock(self.root, fcntl.LOCK_EX if make else fcntl.LOCK_SH)
         found = self.small_file(self.root, MARK)
         if found is None and make and not os.listdir(self.root):
-            number = os.open(MARK, os.O_WRONLY | os.O_CREAT | os.O_EXCL | os.O_CLOEXEC, 0o644, dir_fd=self.root)
+            flags = os.O_WRONLY | os.O_CREAT | os.O_EXCL | os.O_CLOEXEC
+            number = os.open(MARK, flags, 0o644, dir_fd=self.root)
             os.write(number, MARK_TEXT)
             os.close(number)
             found = MARK_TEXT
@@ -159,7 +164,7 @@ class Store:
     def small_file(self, folder, name):
         """The bytes of a small file, or None where there is none."""
         try:
-            number = os.open(name, os.O_RDONLY | os.O_NOFOLLOW | os.O_NONBLOCK | os.O_CLOEXEC, dir_fd=folder)
+            number = os.open(name, READING, dir_fd=folder)
         except FileNotFoundError:
             return None
         except OSError as fault:
@@ -192,8 +197,7 @@ class Store:
     def open_layer(self, digits):
         """An open file of a layer, or None where it is missing."""
         try:
-            number = os.open(digits, os.O_RDONLY | os.O_NOFOLLOW | os.O_NONBLOCK | os.O_CLOEXEC,
-                             dir_fd=self.blobs)
+            number = os.open(digits, READING, dir_fd=self.blobs)
         except FileNotFoundError:
             return None
         if not stat.S_ISREG(os.fstat(number).st_mode):

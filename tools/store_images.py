@@ -14,8 +14,8 @@ TAG = re.compile(r"[A-Za-z0-9_][A-Za-z0-9._-]*")
 NAME_MOST, TAG_MOST = 120, 128
 LATEST = "latest"
 
-# what is known of an image: where it came from, its manifest's digest there, its layers from the lowest
-# up, and its configuration
+# what is known of an image: where it came from, its manifest's digest there, its layers from the
+# lowest up, and its configuration
 StoredImage = collections.namedtuple("StoredImage", "source manifest layers config")
 StoredLayer = collections.namedtuple("StoredLayer", "digits size")
 
@@ -25,8 +25,8 @@ def split_image(word):
     name, colon, tag = word.partition(":")
     is_name = NAME.fullmatch(name) and ".." not in name and len(name) <= NAME_MOST
     if not is_name or colon and not (TAG.fullmatch(tag) and len(tag) <= TAG_MOST):
-        raise Refused("%s: no name of an image; NAME[:TAG] is wanted, of letters, digits, `.`, `_` and `-`,"
-                      " and `/` within NAME" % shown(os.fsencode(word)))
+        raise Refused("%s: no name of an image; NAME[:TAG] is wanted, of letters, digits, `.`, `_`"
+                      " and `-`, and `/` within NAME" % shown(os.fsencode(word)))
     return name, tag if colon else None
 
 
@@ -78,7 +78,7 @@ def put_image(store, word, image):
     """Gives an image its name in the store; one of this name that was there is replaced."""
     name, tag = split_image(word)
     layers = [{"digest": "sha256:" + it.digits, "size": it.size} for it in image.layers]
-    value = {"source": image.source, "manifest": image.manifest, "layers": layers, "config": image.config}
+    value = {**image._asdict(), "layers": layers}
     data = json.dumps(value, indent=1).encode()
     store.write_small(store.images, file_name(name, tag or LATEST), data)
 
@@ -91,20 +91,22 @@ def remove_image(store, word):
 # --- mounts ---
 
 def held_layer(store, layer, word, heard):
-    """An open file of a layer, with a lock on it that lasts as long as any process has this file open.
-    Its digest is looked at where `heard` is given."""
+    """An open file of a layer, with a lock on it that lasts as long as any process has this file
+    open. Its digest is looked at where `heard` is given."""
     number = store.open_layer(layer.digits)
+    missing = "%s: its layer sha256:%s is missing; pull it again" % (word, layer.digits)
     if number is None:
-        raise Refused("%s: its layer sha256:%s is missing; pull it again" % (word, layer.digits))
+        raise Refused(missing)
     try:
         fcntl.flock(number, fcntl.LOCK_SH)
         found = os.fstat(number)
         # prune may have taken it away before it was locked
         if found.st_nlink == 0:
-            raise Refused("%s: its layer sha256:%s is missing; pull it again" % (word, layer.digits))
+            raise Refused(missing)
         if found.st_size != layer.size or heard and file_digits(number, heard) != layer.digits:
-            raise Refused("%s: its layer %s has other bytes than its digest says; remove it, and pull it again"
-                          % (word, shown(os.fsencode(store.path_of(layer.digits)))))
+            where = shown(os.fsencode(store.path_of(layer.digits)))
+            raise Refused("%s: its layer %s has other bytes than its digest says; remove it, and"
+                          " pull it again" % (word, where))
     except BaseException:
         os.close(number)
         raise
@@ -112,8 +114,8 @@ def held_layer(store, layer, word, heard):
 
 
 def layers_of(store, word, is_verified=False):
-    """The paths of an image's layers, the lowest first, and open files of them: prune leaves a layer as
-    long as any process has such a file, which the server of a mount is given."""
+    """The paths of an image's layers, the lowest first, and open files of them: prune leaves a
+    layer as long as any process has such a file, which the server of a mount is given."""
     image, marks = image_in(store, word), []
     with Progress("verified", sum(it.size for it in image.layers)) as progress:
         for layer in image.layers:
@@ -127,8 +129,8 @@ def is_file(word):
 
 
 def image_meant(word, store):
-    """The image that a word of a mount means, or None where it is a file. `image:NAME:TAG` always is an
-    image; else a file that is there comes before an image."""
+    """The image that a word of a mount means, or None where it is a file. `image:NAME:TAG` always
+    is an image; else a file that is there comes before an image."""
     if word.startswith("image:"):
         return word.partition(":")[2]
     if store is None or is_file(word):
@@ -153,8 +155,8 @@ def store_for(words, place):
 
 
 def mounted_words(words, place=None, is_verified=False):
-    """The paths that the words of a mount mean, files and images of the store at a place, and the open
-    files that mark layers of the store as in use. OSError where an image can't be had."""
+    """The paths that the words of a mount mean, files and images of the store at a place, and the
+    open files that mark layers of the store as in use. OSError where an image can't be had."""
     paths, marks = [], []
     try:
         store = store_for(words, place or default_place())

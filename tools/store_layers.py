@@ -1,4 +1,5 @@
-"""Brings the layers of an image into a store: what is there already is neither read nor made again."""
+"""Brings the layers of an image into a store: what is there already is neither read nor made
+again."""
 import json
 import os
 
@@ -23,8 +24,9 @@ def record_name(it):
 
 
 class Maker:
-    """Makes layers of the blobs of layouts, in a store that is locked. Where `checks_archives` says so, an
-    archive must have the digest that the image's configuration says of it; its blob's always is checked."""
+    """Makes layers of the blobs of layouts, in a store that is locked. Where `checks_archives` says
+    so, an archive must have the digest that the image's configuration says of it; its blob's always
+    is checked."""
 
     def __init__(self, store, lost, checks_archives):
         self.store, self.lost, self.checks_archives = store, lost, checks_archives
@@ -37,15 +39,16 @@ class Maker:
         return StoredLayer(digits, size) if self.store.size_of(digits) == size else None
 
     def made_of(self, it):
-        """The layer that was made of a blob, where it is there, and the digest of what the blob unpacks to,
-        where that is known; else twice None."""
+        """The layer that was made of a blob, where it is there, and the digest of what the blob
+        unpacks to, where that is known; else twice None."""
         if PACKED_ROMFS.get(it.media) == "" and it.algorithm == "sha256":
             return self.stored(it.digits, it.size), "sha256:" + it.digits
         value = self.store.small_json(self.store.records, record_name(it))
         if value is None or value.get("maker") != MAKER:
             return None, None
         where = "%s: %s" % (self.store.name, record_name(it))
-        return self.stored(digits_of(value.get("layer"), where), value.get("size")), value.get("archive")
+        digits = digits_of(value.get("layer"), where)
+        return self.stored(digits, value.get("size")), value.get("archive")
 
     def has_made(self, it):
         """Whether the layer of a blob is there."""
@@ -55,12 +58,13 @@ class Maker:
     def hold_unpacked(it, unpacked, archive):
         """Sees that what a blob unpacks to, where that is known, is what an image says of it."""
         if unpacked not in (None, archive):
-            raise Refused("blob %s: unpacked its digest is %s, and the image's configuration says %s"
-                          % (digest_of(it), shown(str(unpacked)), shown(archive)))
+            raise Refused("blob %s: unpacked its digest is %s, and the image's configuration says"
+                          " %s" % (digest_of(it), shown(str(unpacked)), shown(archive)))
 
     def note(self, name, layer, archive):
         """Notes that a layer was made of the blob that a record is named by."""
-        value = {"maker": MAKER, "layer": "sha256:" + layer.digits, "size": layer.size, "archive": archive}
+        value = {"maker": MAKER, "layer": "sha256:" + layer.digits, "size": layer.size,
+                 "archive": archive}
         self.store.write_small(self.store.records, name, json.dumps(value).encode())
 
     def packed(self, layer, packing):

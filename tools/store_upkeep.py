@@ -39,8 +39,8 @@ def users_of(found):
 
 
 def verified(store):
-    """A line for each layer whose digest is wrong or that is missing, and for each image that can't be
-    read."""
+    """A line for each layer whose digest is wrong or that is missing, and for each image that can't
+    be read."""
     found, faults = found_images(store)
     yield from faults
     users, there = users_of(found), store.layers()
@@ -66,9 +66,9 @@ def digits_now(store, digits, heard):
 
 
 def prune(store):
-    """Takes away layers that no image names and no mount uses: how many, their bytes, and how many a
-    mount uses. The store must be locked. Refused where an image can't be read, since what it needs is
-    not known then."""
+    """Takes away layers that no image names and no mount uses: how many, their bytes, and how many
+    a mount uses. The store must be locked. Refused where an image can't be read, since what it
+    needs is not known then."""
     found, faults = found_images(store)
     if faults:
         raise Refused(faults[0])
@@ -84,8 +84,8 @@ def prune(store):
 
 
 def taken_away(store, digits):
-    """Takes a layer away; its size, or None where a mount uses it: then its server has the file open, with
-    a lock on it."""
+    """Takes a layer away; its size, or None where a mount uses it: then its server has the file
+    open, with a lock on it."""
     number = store.open_layer(digits)
     try:
         fcntl.flock(number, fcntl.LOCK_EX | fcntl.LOCK_NB)
@@ -103,6 +103,8 @@ def forget(store):
     there = {*store.layers()}
     for name in os.listdir(store.records):
         value = store.small_json(store.records, name)
-        digits = name.partition("-")[2].partition(".")[0] if "." in name else str(value.get("layer"))[7:]
+        # of how a layer was packed the name says the layer, of what it was made of the record does
+        packed_layer = name[len("sha256-"):].partition(".")[0]
+        digits = packed_layer if "." in name else str(value.get("layer"))[len("sha256:"):]
         if digits not in there:
             os.unlink(name, dir_fd=store.records)

@@ -1,4 +1,5 @@
-"""Checks of what must not go wrong: strangers' layouts, broken bytes, runs that are killed, two at once, a full disk."""
+"""Checks of what must not go wrong: strangers' layouts, broken bytes, runs that are killed, two at
+once, a full disk."""
 import gzip
 import os
 import random
@@ -47,7 +48,8 @@ def flip(path):
 
 
 def check_verify(room):
-    """verify names a layer whose byte is flipped, and one that is missing; pulling again heals both."""
+    """verify names a layer whose byte is flipped, and one that is missing; pulling again heals
+    both."""
     source = made.layout(room.name())
     room.layers("pull", "oci:" + source.path, "a:1")
     first, second = mounted_layers(room, "a:1")[:2]
@@ -225,7 +227,8 @@ def check_killed_a_hundred_times(room):
 
 
 def check_two_at_once(room):
-    """Four runs over one empty store, which share layers: each layer is made once, and all is right."""
+    """Four runs over one empty store, which share layers: each layer is made once, and all is
+    right."""
     layers = large_layers(5)
     sources = [made.layout(room.name(), layers[:3] + layers[3 + it:4 + it]) for it in range(2)]
     runs = [subprocess.Popen(room.words("pull", "oci:" + sources[it % 2].path, "a:%d" % it), stdout=subprocess.PIPE,

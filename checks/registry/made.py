@@ -1,4 +1,5 @@
-"""Images for these checks: archives by Python's tarfile, layouts of them, and what they show, said by hand."""
+"""Images for these checks: archives by Python's tarfile, layouts of them, and what they show, said
+by hand."""
 import gzip
 import hashlib
 import io
@@ -69,8 +70,8 @@ RUN = {"Entrypoint": ["/bin/say", "it's"], "Cmd": ["a b"], "Env": ["PATH=/bin", 
 class Layout:
     """An image layout that is written into a new folder."""
 
-    def __init__(self, path):
-        self.path = path
+    def __init__(self, path, run=None):
+        self.path, self.run = path, run or RUN
         os.makedirs(os.path.join(path, "blobs", "sha256"))
         self.write("oci-layout", json.dumps({"imageLayoutVersion": "1.0.0"}).encode())
 
@@ -92,7 +93,7 @@ class Layout:
         return self.image_of(layers, diff_ids or [digest(it) for it in archives], platform, **more)
 
     def image_of(self, layers, diff_ids, platform=("linux", "amd64"), **more):
-        config = self.blob(CONFIG, {"os": platform[0], "architecture": platform[1], "config": RUN,
+        config = self.blob(CONFIG, {"os": platform[0], "architecture": platform[1], "config": self.run,
                                     "rootfs": {"type": "layers", "diff_ids": diff_ids}})
         value = {"schemaVersion": 2, "mediaType": MANIFEST, "config": config, "layers": layers}
         return self.blob(MANIFEST, value, **more)

@@ -51,7 +51,8 @@ WANTED = {path: (mode, size) for path, (mode, _, size) in made.SHOWN.items()}
 
 
 def check_mounts_by_name(room):
-    """By NAME, NAME:TAG and image:NAME:TAG; over and under other images; a file of that name comes first."""
+    """By NAME, NAME:TAG and image:NAME:TAG; over and under other images; a file of that name comes
+    first."""
     room.layers("pull", "oci:" + made.layout(room.name()).path, "team/app:1")
     for word in ("team/app", "team/app:1", "image:team/app:1"):
         hold(word, WANTED, seen(mounted(room, word)))
@@ -94,7 +95,8 @@ def check_used_layers(room):
 
 
 def check_verified_mounts(room):
-    """--verify refuses a layer whose bytes are not those that its digest says, and mounts what is right."""
+    """--verify refuses a layer whose bytes are not those that its digest says, and mounts what is
+    right."""
     room.layers("pull", "oci:" + made.layout(room.name()).path, "a:1")
     hold("right", WANTED, seen(mounted(room, "--verify", "a")))
     layer = mounted_layers(room, "a:1")[1]

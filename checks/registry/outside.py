@@ -23,7 +23,8 @@ umount "$7"
 
 
 def on_another_machine(room, source):
-    """What is seen of an image that is pulled and mounted in a mount namespace and store of its own."""
+    """What is seen of an image that is pulled and mounted in a mount namespace and store of its
+    own."""
     needs("unshare", "umount")
     needs_root()
     at = room.name()
@@ -68,7 +69,8 @@ def check_back_unchanged(room):
 
 
 def check_only_what_is_missing(room):
-    """A second image that shares three layers brings the others: bytes are counted at the registry."""
+    """A second image that shares three layers brings the others: bytes are counted at the
+    registry."""
     registry = Registry(room)
     more = [made.archive(made.entry(it, os.urandom(50000))) for it in "xy"]
     for name, layers in (("one", made.LAYERS), ("two", [*made.LAYERS[:3], *more])):
@@ -106,7 +108,8 @@ def check_broken_registry(room):
 
 
 def check_killed_while_it_fetches(room):
-    """Pulls from a registry that are killed at random moments: no skopeo goes on, and what stands there is right."""
+    """Pulls from a registry that are killed at random moments: no skopeo goes on, and what stands
+    there is right."""
     registry, out, draw = Registry(room), room.name(), random.Random(5)
     room.layers("convert", "--compress", "gzip", made.layout(room.name(), large_layers(4)).path, out, store=room.name())
     push(room, registry, out + ":1", "app")
@@ -157,7 +160,8 @@ $b rm $c
 
 
 def check_built_by_buildah(room):
-    """What buildah builds, converted and pulled on another machine, is what umoci unpacks; its configuration stays."""
+    """What buildah builds, converted and pulled on another machine, is what umoci unpacks; its
+    configuration stays."""
     needs("buildah", "umoci")
     needs_root()
     place = room.name()

@@ -1,4 +1,5 @@
-"""Checks of the commands that docs/MOUNTING.md prints for images on many machines, by bwrap and podman."""
+"""Checks of the commands that docs/MOUNTING.md prints for images on many machines, by bwrap and
+podman."""
 import gzip
 import os
 import re
@@ -15,8 +16,8 @@ PAGE = os.path.join(ROOT, "docs", "MOUNTING.md")
 
 
 def printed_blocks():
-    """The commands that the page prints for many machines: where images are built, on each machine, and what else
-    can be run there."""
+    """The commands that the page prints for many machines: where images are built, on each machine,
+    and what else can be run there."""
     with open(PAGE, encoding="utf-8") as file:
         part = file.read().split("## Images on many machines")[1].split("\n## ")[0]
     first, second = re.findall(r"```sh\n(.*?)```", part, re.S)
@@ -81,7 +82,8 @@ def on_machine(room, registry, text):
 
 
 def begun(room):
-    """A registry to which the commands of the page have brought an image, and what is printed for each machine."""
+    """A registry to which the commands of the page have brought an image, and what is printed for
+    each machine."""
     needs("bwrap", "unshare")
     needs_root()
     registry, (built, each, more) = Registry(room), printed_blocks()

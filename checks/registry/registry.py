@@ -1,6 +1,7 @@
 """Checks of layers on many machines: python3 checks registry PROGRAM [--quick]
 
---quick leaves out what takes long or needs other programs: a registry, skopeo, umoci, and sandboxes.
+--quick leaves out what takes long or needs other programs: a registry, skopeo, umoci, and
+sandboxes.
 """
 import os
 import sys

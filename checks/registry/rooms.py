@@ -1,4 +1,5 @@
-"""What these checks stand on: a folder for each, the programs that users run, and how a check fails."""
+"""What these checks stand on: a folder for each, the programs that users run, and how a check
+fails."""
 import io
 import os
 import shutil
@@ -143,7 +144,8 @@ def said(wrong):
 
 
 def run_checks(checks, strata, what):
-    """Runs checks, each in a room of its own, and prints a line for each that fails or is left out."""
+    """Runs checks, each in a room of its own, and prints a line for each that fails or is left
+    out."""
     failed, left = 0, 0
     for check in checks:
         room, name = Room(strata), check.__name__.replace("check_", "").replace("_", " ")

@@ -4,6 +4,7 @@ import json
 import os
 import shlex
 import shutil
+import stat
 import subprocess
 
 from checks import ROOT
@@ -63,7 +64,8 @@ def check_convert(room):
     hold("shown", made.SHOWN, shown_by(room, paths))
     room.layers("convert", source.path + ":1", again + ":1", store=room.name())
     hold("the same bytes in another store", files_of(out), files_of(again))
-    room.layers("convert", source.path, out + ":2")
+    for _ in range(2):
+        room.layers("convert", source.path, out + ":2")
     with open(os.path.join(out, "index.json"), "rb") as file:
         tags = [it["annotations"][made.TAG] for it in json.load(file)["manifests"]]
     hold("tags", ["1", "2"], tags)
@@ -106,7 +108,8 @@ def check_platforms(room):
 
 
 def check_pull(room):
-    """An image from archives, from layers of romfs, and from packed ones is the same image of the store."""
+    """An image from archives, from layers of romfs, and from packed ones is the same image of the
+    store."""
     source, plain, packed = made.layout(room.name()), room.name(), room.name()
     elsewhere = room.name()
     room.layers("convert", source.path, plain, store=elsewhere)
@@ -121,12 +124,15 @@ def check_pull(room):
         hold("images", ["other:latest", name],
              [it.split()[0] for it in room.layers("images", store=store).splitlines()])
         hold("verified", "", room.layers("verify", store=store))
+    hold("modes", {0o700, 0o100444}, {stat.S_IMODE(os.stat(store).st_mode)} | {os.stat(it).st_mode for it in
+                                     mounted_layers(room, "other:latest", store)})
     hold("a name of its own", "%s:1: 5 layers, 5 of them new\n" % os.path.basename(plain),
          room.layers("pull", "oci:" + plain))
 
 
 def check_shared(room):
-    """A second image that shares three layers brings the others; remove and prune leave what is needed."""
+    """A second image that shares three layers brings the others; remove and prune leave what is
+    needed."""
     one = made.layout(room.name())
     two = made.layout(room.name(), (*made.LAYERS[:3], made.archive(made.entry("x", b"x")),
                                     made.archive(made.entry("y", b"y"))))
@@ -174,15 +180,18 @@ def check_names(room):
 
 def check_config(room):
     """Entry point, environment, folder and user, for people and as words that a shell evaluates."""
-    room.layers("pull", "oci:" + made.layout(room.name()).path, "a")
-    hold("config", "entrypoint /bin/say 'it'\"'\"'s'\ncommand 'a b'\nenv PATH=/bin\nenv 'WORD=x y'\nfolder /var\nuser 7:8\n",
+    source = made.Layout(room.name(), {**made.RUN, "Env": [*made.RUN["Env"], "HOME"]})
+    source.index(made.tagged(source.image(made.LAYERS), "1"))
+    room.layers("pull", "oci:" + source.path, "a")
+    hold("config", "entrypoint /bin/say 'it'\"'\"'s'\ncommand 'a b'\nenv PATH=/bin\nenv 'WORD=x y'\nenv HOME\nfolder /var\nuser 7:8\n",
          room.layers("config", "a"))
     words = shlex.split(room.layers("config", "--bwrap", "a"))
-    hold("bwrap", ["--clearenv", "--setenv", "PATH", "/bin", "--setenv", "WORD", "x y", "--chdir", "/var",
+    hold("bwrap", ["--clearenv", "--setenv", "PATH", "/bin", "--setenv", "WORD", "x y", "--setenv", "HOME", "",
+                   "--chdir", "/var",
                    "--unshare-user", "--uid", "7", "--gid", "8", "--", "/bin/say", "it's", "a b"], words)
     words = shlex.split(room.layers("config", "--podman", "a"))
     hold("podman", ["--entrypoint", '["/bin/say", "it\'s", "a b"]', "--workdir", "/var", "--env", "PATH=/bin",
-                    "--env", "WORD=x y", "--user", "7:8"], words)
+                    "--env", "WORD=x y", "--env", "HOME=", "--user", "7:8"], words)
 
 
 def check_lost(room):
@@ -196,7 +205,8 @@ def check_lost(room):
 
 
 def check_other_forms(room):
-    """An archive of docker save and a folder of skopeo's are named with what makes a layout of them."""
+    """An archive of docker save and a folder of skopeo's are named with what makes a layout of
+    them."""
     path, where = room.name(), room.name()
     with open(path, "wb") as out:
         out.write(made.archive(made.entry("manifest.json", b"[]")))

@@ -1,7 +1,7 @@
 """Prints what stands below a folder, as JSON: python3 tree.py FOLDER
 
-Of each path the type, whether it may be run, a file's names and its size, device numbers, and a link's target or
-the digest of a file's bytes.
+Of each path the type, whether it may be run, a file's names and its size, device numbers, and a
+link's target or the digest of a file's bytes.
 """
 import hashlib
 import json
