@@ -238,7 +238,7 @@ def lookups_of_long_names(count=65_000):
             of_requests(lambda unique, it: lookup(unique, 1, b"q" * 249 + b"%06d" % it), wanted))
 
 
-# what the words of a name of 24 bytes are multiplied by before their sum is its hash (`hashed` of name_keys)
+# what the words of a name of 24 bytes are multiplied by before their sum is its hash (`hashed` of name_lookup)
 FIRST, MIDDLE, LAST = 0xff51_afd7_ed55_8ccd, 0xc4ce_b9fe_1a85_ec53, 0xd6e8_feb8_6659_fd93
 
 
