@@ -1,13 +1,7 @@
 -- Why images of a list were not read.
-use Rattle.std.specs.Prelude.{◌≡◌, ℕ, ◌+◌, ◌<◌, ◌≤◌, ◌⊎◌, List, ◌++◌, Result, Ok, Err, IsErrAnd, MatchResult}
+use Rattle.std.specs.Prelude.{◌≡◌, ℕ, ◌+◌, ◌<◌, ◌⊎◌, Result, Ok, Err}
 use Rattle.image_files.specs.declared.images.FilesFault.{FilesFault}
 use Rattle.image_files.specs.declared.images.FilesFault.TheVariants.{Unread, Memory}
-
--- one of so many images from number first on could not be read, or memory ran out
-abbrev pub IsUnread : ℕ → ℕ → FilesFault → Type 0
-IsUnread first count fault =
-    (fault ≡ Memory)
-    ⊎ ((image : ℕ) × (first ≤ image) × (image < first + count) × (fault ≡ Unread image))
 
 -- so many images from number first on are read, of these many, and the next one could not be; or
 -- memory ran out
@@ -15,11 +9,8 @@ abbrev pub IsNextUnread : ℕ → ℕ → ℕ → FilesFault → Type 0
 IsNextUnread first count read fault =
     (fault ≡ Memory) ⊎ ((read < count) × (fault ≡ Unread (first + read)))
 
--- what the two halves of a list come to: the fault of the lower one; or else that of the upper one;
--- or else the images of both, in order, but where memory to put them together was refused
-abbrev pub IsOfBoth : {V X : Type 0} → (V → List X) → Result V FilesFault → Result V FilesFault
-    → Result V FilesFault → Type 0
-IsOfBoth items (Err fault) high result = IsErrAnd result (λ told. told ≡ fault)
-IsOfBoth items (Ok lows) (Err fault) result = IsErrAnd result (λ told. told ≡ fault)
-IsOfBoth items (Ok lows) (Ok highs) result =
-    MatchResult result (λ both. items both ≡ items lows ++ items highs) (λ told. told ≡ Memory)
+-- of a run of so many images from number first on these many were read: all of them, or those below
+-- the one that is told, or some where memory ran out
+abbrev pub IsReadUpTo : ℕ → ℕ → ℕ → Result (Unit {0}) FilesFault → Type 0
+IsReadUpTo first count read (Ok u) = read ≡ count
+IsReadUpTo first count read (Err fault) = IsNextUnread first count read fault

@@ -2,10 +2,11 @@
 //!
 //! A list is cut in two, and each half once more; each part is read from its lowest image up, and
 //! what two halves found is put together: a fault of the lower half, of memory or of an image that
-//! cannot be read, is told before one of the upper.
+//! cannot be read, is told before one of the upper. So all images below the one that is told were
+//! read.
 
-ghost use Rattle.std.specs.Prelude.{◌≡◌, ◌⊎◌, ◌+◌, ◌<◌, ◌^◌, ℕ, length, vec_len, IfOk, IfErr, OnOk};
-ghost use Rattle.image_files.specs.Unread.{IsNextUnread, IsOfBoth, IsUnread};
+ghost use Rattle.std.specs.Prelude.{◌≡◌, ◌⊎◌, ◌+◌, ◌<◌, ◌^◌, ℕ, ◌++◌, length, vec_len, IfOk, IfErr, OnOk};
+ghost use Rattle.image_files.specs.Unread.{IsReadUpTo};
 ghost use Rattle.image_files.specs.declared.images.FilesFault.TheVariants.{Unread, Memory};
 ghost use denote.Param.Send.{IsSync, IsSend, Frees};
 
@@ -64,7 +65,16 @@ where
     ensures err { IfErr result (λ fault. (fault ≡ Memory)
         ⊎ ((image : ℕ) × (image < length paths.now) × (fault ≡ Unread image))) }
 {
-    read_from(rt, alloc, 0, paths, FORKS)
+    let Run { images, end } = read_from(rt, alloc, 0, paths, FORKS);
+    end?;
+    Ok(images)
+}
+
+/// What was read of a run of images: its first ones, and why there are no more, if there are not.
+#[derive(Drop)]
+struct Run<A: Allocator> {
+    images: Vec<Vec<u8, A>, A>,
+    end: Result<(), FilesFault>,
 }
 
 /// The bytes of a run of images, of which the lowest has the number `first`: of its halves at the
@@ -76,13 +86,12 @@ fn read_from<R: Files + Threads + Sync, A: Allocator + Copy + Send + Sync>(
     first: usize,
     paths: &[&str],
     forks: u32,
-) -> Result<Vec<Vec<u8, A>, A>, FilesFault>
+) -> Run<A>
 where
     R::File: Send,
     R::Dir: Send,
     requires { first + length paths.now < 2 ^ 64 }
-    ensures ok { IfOk result (λ images. vec_len images ≡ length paths.now) }
-    ensures err { IfErr result (IsUnread first (length paths.now)) }
+    ensures { IsReadUpTo first (length paths.now) (vec_len result.images) result.end }
 {
     if forks == 0 || paths.len() < MANY {
         return read_in_turn(rt, alloc, first, paths);
@@ -94,54 +103,63 @@ where
     // the lowest layer, mostly the largest, waits for no thread to start
     let (high, low) = join(
         rt,
-        move || -> Result<Vec<Vec<u8, A>, A>, FilesFault>
+        move || -> Run<A>
             requires { IsSync R.row × IsSync A.row × IsSend A.row
                 × Frees A.Allocator A.dealloc_token × (next + length highs.now < 2 ^ 64) }
-            ensures ok { IfOk result (λ images. vec_len images ≡ length highs.entry.now) }
-            ensures err { IfErr result (IsUnread next (length highs.entry.now)) }
+            ensures { IsReadUpTo next (length highs.entry.now) (vec_len result.images) result.end }
         { read_from(rt, alloc, next, highs, less) },
-        move || -> Result<Vec<Vec<u8, A>, A>, FilesFault>
+        move || -> Run<A>
             requires { IsSync R.row × IsSync A.row × IsSend A.row
                 × Frees A.Allocator A.dealloc_token × (first + length lows.now < 2 ^ 64) }
-            ensures ok { IfOk result (λ images. vec_len images ≡ length lows.entry.now) }
-            ensures err { IfErr result (IsUnread first (length lows.entry.now)) }
+            ensures { IsReadUpTo first (length lows.entry.now) (vec_len result.images) result.end }
         { read_from(rt, alloc, first, lows, less) },
     );
     both(low, high)
 }
 
-/// The images of both halves, the lower ones first; or the fault of the lower half, or else of the
-/// upper one.
-fn both<A: Allocator>(
-    low: Result<Vec<Vec<u8, A>, A>, FilesFault>,
-    high: Result<Vec<Vec<u8, A>, A>, FilesFault>,
-) -> Result<Vec<Vec<u8, A>, A>, FilesFault>
-    ensures { IsOfBoth (λ images. images.items) low high result }
+/// What was read of both halves: all of the lower one and then of the upper one; or of the lower
+/// one alone, where that is not whole.
+fn both<A: Allocator>(low: Run<A>, high: Run<A>) -> Run<A>
+    ensures order { OnOk result.end (result.images.items
+        ≡ low.images.items ++ high.images.items) }
+    ensures read { (first lows highs : ℕ) → IsReadUpTo first lows (vec_len low.images) low.end →
+        IsReadUpTo (first + lows) highs (vec_len high.images) high.end →
+        IsReadUpTo first (lows + highs) (vec_len result.images) result.end }
 {
-    match (low, high) {
-        (Ok(mut lows), Ok(mut highs)) => {
-            lows.append(&mut highs)?;
-            Ok(lows)
-        }
-        (Err(fault), _) | (Ok(_), Err(fault)) => Err(fault),
+    let Run { mut images, end } = low;
+    if let Err(fault) = end {
+        return Run {
+            images,
+            end: Err(fault),
+        };
+    }
+    let Run {
+        images: mut highs,
+        end,
+    } = high;
+    match images.append(&mut highs) {
+        Ok(()) => Run { images, end },
+        Err(_) => Run {
+            images,
+            end: Err(FilesFault::Memory),
+        },
     }
 }
 
-/// The bytes of a run of images, of which the lowest has the number `first`, read from the lowest
+/// What was read of a run of images, of which the lowest has the number `first`, from the lowest
 /// up.
 fn read_in_turn<R: Files, A: Allocator + Copy>(
     rt: &R,
     alloc: A,
     first: usize,
     paths: &[&str],
-) -> Result<Vec<Vec<u8, A>, A>, FilesFault>
+) -> Run<A>
     requires { first + length paths.now < 2 ^ 64 }
-    ensures ok { IfOk result (λ images. vec_len images ≡ length paths.now) }
-    ensures err { IfErr result (IsUnread first (length paths.now)) }
+    ensures { IsReadUpTo first (length paths.now) (vec_len result.images) result.end }
 {
-    let mut images = Vec::with_capacity(alloc, paths.len())?;
-    add_in_turn(rt, alloc, first, paths, &mut images)?;
-    Ok(images)
+    let mut images = Vec::new(alloc);
+    let end = add_in_turn(rt, alloc, first, paths, &mut images);
+    Run { images, end }
 }
 
 /// Adds the bytes of a run of images, of which the lowest has the number `first`, to an empty list,
@@ -155,9 +173,9 @@ fn add_in_turn<R: Files, A: Allocator + Copy>(
 ) -> Result<(), FilesFault>
     requires empty { vec_len images.old ≡ 0 }
     requires few { first + length paths.now < 2 ^ 64 }
-    ensures ok { OnOk result (vec_len images.new ≡ length paths.now) }
-    ensures err { IfErr result (IsNextUnread first (length paths.now) (vec_len images.new)) }
+    ensures { IsReadUpTo first (length paths.now) (vec_len images.new) result }
 {
+    images.reserve_exact(paths.len())?;
     for (at, path) in paths.iter().enumerate() {
         images.push(read_image(rt, alloc, (first + at) as u64, path)?)?;
     }

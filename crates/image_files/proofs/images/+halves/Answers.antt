@@ -1,4 +1,5 @@
-use Rattle.std.proofs.Common.{arith}
+use Rattle.std.proofs.Common.{◌≡◌, ◌+◌, sym, subst, length, vec_len, arith}
+use Rattle.image_files.specs.Unread.{IsReadUpTo}
 use Rattle.image_files.proofs.images.+halves.Goals as goal
 
 pub split_at-requires : goal.split_at-requires
@@ -6,3 +7,15 @@ split_at-requires g t c = omega arith
 
 pub overflow_add-next : goal.overflow_add-next
 overflow_add-next g t c = omega arith
+
+pub returns : goal.returns
+returns g t c =
+    let (lows, highs) = c.split_at.result in
+    let (high, low) = c.join-high.result in
+    let front = c.split_at.ensures.front_len in
+    let back = c.split_at.ensures.back_len in
+    let upper = subst (λ n. IsReadUpTo (c.args.first + n) (length highs.now) (vec_len high.images) high.end) (sym front)
+    c.join-high.ensures.first in
+    let all : length lows.now + length highs.now ≡ length c.args.paths.now = omega (arith, front, back) in
+    subst (λ n. IsReadUpTo c.args.first n (vec_len c.both.result.images) c.both.result.end) all
+    (c.both.ensures.read c.args.first (length lows.now) (length highs.now) c.join-high.ensures.second upper)
