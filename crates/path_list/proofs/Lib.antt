@@ -5,6 +5,7 @@ pub mod OnePath
 pub mod Trees
 pub mod Lengths
 pub mod Gaining
+pub mod Ended
 pub mod Lining
 pub mod Visits
 pub mod Turns

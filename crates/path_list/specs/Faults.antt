@@ -1,6 +1,7 @@
 -- What a list leaves in its sink.
 use Rattle.std.specs.Prelude.{◌≡◌, ◌+◌, ◌≤◌}
 use Rattle.std.specs.Io.KnownBytes.{Appends}
+use Rattle.devices.specs.Pushing.{GainsFront}
 use Rattle.devices.specs.States.{SinkState}
 use Rattle.stack_model.specs.Listing.{Stacked}
 use Rattle.path_list.specs.declared.walk.ListFault.{ListFault}
@@ -12,7 +13,10 @@ pub record Lists (table : Stacked) (old new : SinkState) : Type 0 where
   pub gained : Appends old.held new.held (lines table.layers table.entries)
   pub flushed : new.counts.unflushed ≤ old.counts.unflushed
 
--- the list stopped: memory ran out and the sink is as it was, or the sink failed once more
+-- the list stopped: memory ran out and the sink is as it was; or the sink failed once more, and
+-- gained the first bytes of the lines at most
 abbrev pub IsBrokenOff : Stacked → SinkState → SinkState → ListFault → Type 0
 IsBrokenOff table old new Memory = new ≡ old
-IsBrokenOff table old new Write = new.counts.failures ≡ old.counts.failures + 1
+IsBrokenOff table old new Write =
+    (new.counts.failures ≡ old.counts.failures + 1)
+    × GainsFront (lines table.layers table.entries) old.held new.held

@@ -1,9 +1,9 @@
 -- What a walk over a table prints, and on what it stands.
-use Rattle.std.specs.Prelude.{◌≡◌, ℕ, List, [], ◌∷◌, ◌++◌, flat_map, Result, OnOk}
+use Rattle.std.specs.Prelude.{◌≡◌, ℕ, List, [], ◌∷◌, ◌++◌, flat_map, Result, OnOk, OnErr}
 use Rattle.std.specs.Option.{option_map_or}
-use Rattle.std.specs.Io.KnownBytes.{Appends, append_known}
+use Rattle.std.specs.Io.KnownBytes.{Appends}
 use Rattle.devices.specs.States.{SinkState}
-use Rattle.devices.specs.Pushing.{Settles}
+use Rattle.devices.specs.Pushing.{Settles, GainsFront}
 use Rattle.stack_model.specs.Stack.{Path}
 use Rattle.stack_model.specs.Listing.{Entry, IsAmong}
 use Rattle.stack_model.specs.Numbers.{place, number, node_of}
@@ -21,16 +21,22 @@ pub record Passage : Type 0 where
 abbrev pub passage : SinkState → List ℕ → Passage
 passage sink waiting = record { sink = sink; waiting = waiting }
 
--- all that a sink holds and that is on its way to it grew by these bytes
+-- these bytes are on their way behind those that were: the first of all of them went to the sink
 pub record Gains (old new : Passage) (bytes : List ℕ) : Type 0 where
-  pub gained : Appends (append_known old.sink.held old.waiting)
-      (append_known new.sink.held new.waiting) bytes
+  pub put : List ℕ
+  pub gained : Appends old.sink.held new.sink.held put
+  pub left : old.waiting ++ bytes ≡ put ++ new.waiting
 
--- a call put these bytes behind those on their way, or the sink failed once more; where it succeeds
--- no byte more waits for a flush
+-- the sink gained the first of what was on its way and of these bytes at most
+pub record Loses (old new : Passage) (bytes : List ℕ) : Type 0 where
+  pub gained : GainsFront (old.waiting ++ bytes) old.sink.held new.sink.held
+
+-- a call put these bytes behind those on their way, or the sink failed once more and gained the
+-- first of them at most; where it succeeds no byte more waits for a flush
 pub record Puts {X E : Type 0} (result : Result X E) (old new : Passage) (bytes : List ℕ)
     : Type 0 where
   pub gained : OnOk result (Gains old new bytes)
+  pub lost : OnErr result (Loses old new bytes)
   pub counted : Settles result old.sink new.sink
 
 -- the line of a number with this text of a path
@@ -66,9 +72,11 @@ abbrev pub IsOnWay : Stacked → ℕ → List ℕ → Type 0
 IsOnWay stack n text = (path : Path) × IsVisited stack n text path
 
 -- a call put the lines of all paths below the one that is visited at this number and this text, or
--- the sink failed once more
+-- the sink failed once more and gained the first of them at most
 pub record PutsBelow {X E : Type 0} (stack : Stacked) (n : ℕ) (text : List ℕ) (result : Result X E)
     (old new : Passage) : Type 0 where
   pub gained : (path : Path) → IsVisited stack n text path
       → OnOk result (Gains old new (lines_below stack path))
+  pub lost : (path : Path) → IsVisited stack n text path
+      → OnErr result (Loses old new (lines_below stack path))
   pub counted : Settles result old.sink new.sink

@@ -1,8 +1,6 @@
 //! Bytes on their way to a sink.
 
 ghost use Rattle.std.specs.Prelude.{◌≡◌, ◌≤◌, ◌<◌, ◌+◌, ◌^◌, [], ◌∷◌, ◌++◌, length, IfOk, OnOk, vec_len, vec_capacity};
-ghost use Rattle.std.specs.Io.KnownBytes.{Appends};
-ghost use Rattle.devices.specs.Pushing.{Settles};
 ghost use Rattle.path_list.specs.Walks.{passage, Puts};
 
 use devices::{Failed, Sink, hand_on};
@@ -27,11 +25,10 @@ impl<A: Allocator> Room<A> {
     /// Hands on all bytes that wait.
     pub(crate) fn drain<K: Sink>(&mut self, sink: &mut K) -> Result<(), Failed>
         requires { (K.state sink.old).counts.failures < 2 ^ 63 }
-        ensures put { OnOk result (Appends (K.state sink.old).held (K.state sink.new).held
-            self.old.waiting.items) }
+        ensures put { Puts result (passage (K.state sink.old) self.old.waiting.items)
+            (passage (K.state sink.new) self.new.waiting.items) [] }
         ensures items { OnOk result (self.new.waiting.items ≡ []) }
         ensures length { OnOk result (vec_len self.new.waiting ≡ 0) }
-        ensures counted { Settles result (K.state sink.old) (K.state sink.new) }
     {
         hand_on(sink, self.waiting.as_slice())?;
         self.waiting.clear();

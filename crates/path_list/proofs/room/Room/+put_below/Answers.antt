@@ -1,10 +1,10 @@
-use Rattle.std.proofs.Common.{rules, ◌≡◌, ◌<◌, ◌-◌, ◌^◌, ◌++◌, ◌∷◌, ◌∙◌, ap, subst, sym, length, length-append, arith}
+use Rattle.std.proofs.Common.{rules, refl, ◌≡◌, ◌<◌, ◌-◌, ◌^◌, ◌++◌, ◌∷◌, ◌∙◌, ap, subst, sym, length, length-append, arith}
 use Rattle.path_list.specs.declared.path_text.TheConstants.{LONGEST}
 use Rattle.path_list.specs.Lines.{name_text, printed}
 use Rattle.path_list.specs.Walks.{IsOnWay, line_as}
 use Rattle.path_list.proofs.Gaining.{puts_same}
 use Rattle.path_list.proofs.Visits.{turn_of}
-use Rattle.path_list.proofs.Turns.{name_fits, on_way, cut_back, turn_more, all_turns}
+use Rattle.path_list.proofs.Turns.{name_fits, no_turn, on_way, cut_back, line_broken, below_broken, turn_more, all_turns}
 use Rattle.path_list.proofs.room.Room.+put_below.Goals as goal
 
 pub go_down-requires : goal.go_down-requires
@@ -28,6 +28,29 @@ put_below-requires g t c κs within =
     let same_failures = c.in_ok-put_line.ensures.counted.0 ∙ c.loop-row.invariant.put.counted.0 in
     let few = subst (λ n. n < 2 ^ 63) (sym same_failures) c.requires.counts in
     search (rules, on, less, few)
+
+pub loop-row-init : goal.loop-row-init
+loop-row-init g t c = record { back = refl; put = no_turn c.args.table.now c.args.number c.args.path.now c.rows-row-items.result.now _ }
+
+pub returns-in_err-put_line-clause-put : goal.returns-in_err-put_line-clause-put
+returns-in_err-put_line-clause-put g t c =
+    let turn = turn_of c.rows-row-items.ensures c.loop-row-test.true c.row-item.is c.row.view_is c.name.ensures in
+    let down : c.go_down.new.self ≡ c.args.path.now ++ 47 ∷ name_text c.name.result.now =
+    c.go_down.ensures ∙ ap (λ q. q ++ 47 ∷ name_text c.name.result.now) c.loop-row.invariant.back in
+    let line = puts_same (ap (λ q. line_as c.args.table.now c.row.inside.number q) (c.printed.ensures ∙ ap printed down))
+    c.in_err-put_line.ensures in
+    line_broken c.args.table.now c.args.number c.args.path.now c.from_residual.result turn c.loop-row.invariant.put line
+    c.from_residual.ensures.0
+
+pub returns-in_err-put_below-clause-put : goal.returns-in_err-put_below-clause-put
+returns-in_err-put_below-clause-put g t c =
+    let turn = turn_of c.rows-row-items.ensures c.loop-row-test.true c.row-item.is c.row.view_is c.name.ensures in
+    let down : c.go_down.new.self ≡ c.args.path.now ++ 47 ∷ name_text c.name.result.now =
+    c.go_down.ensures ∙ ap (λ q. q ++ 47 ∷ name_text c.name.result.now) c.loop-row.invariant.back in
+    let line = puts_same (ap (λ q. line_as c.args.table.now c.row.inside.number q) (c.printed.ensures ∙ ap printed down))
+    c.in_ok-put_line.ensures in
+    below_broken c.args.table.now c.args.number c.args.path.now c.from_residual-in_err-put_below.result turn
+    c.loop-row.invariant.put line (rw down at c.in_err-put_below.ensures.put) c.from_residual-in_err-put_below.ensures.0
 
 pub loop-row-preserved : goal.loop-row-preserved
 loop-row-preserved g t c =
