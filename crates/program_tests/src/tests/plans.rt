@@ -1,10 +1,12 @@
 //! The plan of a line: how many workers answer, and how many requests a batch has.
 
+ghost use denote.Param.Send.{IsSync, IsSend};
+
 use super::program::{file_path, status_of, written};
-use std::alloc::Global;
+use std::alloc::{Allocator, Global};
 use std::fs::{self, Files};
 use std::io::{Read, Write};
-use std::net::{Net, Shutdown};
+use std::net::{Net, Shutdown, TcpListener, TcpStream};
 use std::os::unix::net::UnixStream;
 use std::test::Fail;
 use std::thread::{Threads, join};
@@ -53,10 +55,10 @@ fn answered<R: Net>(rt: &R, global: Global, socket: &str, stream: &[u8]) -> Opti
 }
 
 /// The status of the program that serves one session at a socket.
-fn status_at<R: Files + Net + Threads + Sync>(
+fn status_at<R: Files + Net + Threads + Sync, A: Allocator + Copy + Send + Sync>(
     rt: &R,
     global: Global,
-    memory: &Refusing<Global>,
+    alloc: A,
     words: &[&str],
 ) -> Option<u8>
 where
@@ -64,11 +66,35 @@ where
     R::Dir: Send,
 {
     let mut output = Vec::new(global);
-    status_of(rt, global, memory, words, b"".as_slice(), &mut output, b"")
+    status_of(rt, global, alloc, words, b"".as_slice(), &mut output, b"")
+}
+
+/// This status, and how much the client of that session is answered.
+fn served_and_answered<R: Files + Net<Listener = TcpListener, Stream = TcpStream> + Threads + Sync>(
+    rt: &R,
+    global: Global,
+    memory: &Refusing<Global>,
+    words: &[&str],
+    socket: &str,
+    stream: &[u8],
+) -> (Option<u8>, Option<usize>)
+where
+    R::File: Send,
+    R::Dir: Send,
+{
+    join(
+        rt,
+        move || -> Option<u8>
+            requires { IsSync R.row × IsSend R.File.row × IsSend R.Dir.row }
+        { status_at(rt, global, memory, words) },
+        move || -> Option<usize>
+            requires { IsSync R.row }
+        { answered(rt, global, socket, stream) },
+    )
 }
 
 /// The same number of requests for memory where a client of a socket asks for the replies.
-fn requests_at<R: Files + Net + Threads + Sync>(
+fn requests_at<R: Files + Net<Listener = TcpListener, Stream = TcpStream> + Threads + Sync>(
     rt: &R,
     global: Global,
     path: &str,
@@ -92,17 +118,13 @@ where
         socket,
         path,
     ];
-    let (status, replies) = join(
-        rt,
-        || status_at(rt, global, &memory, &words),
-        || answered(rt, global, socket, stream),
-    );
+    let (status, replies) = served_and_answered(rt, global, &memory, &words, socket, stream);
     (status == Some(0) && replies.is_some()).then_some(memory.requests())
 }
 
 /// What three plans ask for over 120 pages of the directory of the image at a path: one worker, two
 /// with the largest batches, and two with the smallest; by `serve`, and at a socket.
-fn requests_of_plans<R: Files + Net + Threads + Sync>(
+fn requests_of_plans<R: Files + Net<Listener = TcpListener, Stream = TcpStream> + Threads + Sync>(
     rt: &R,
     global: Global,
     path: &str,
