@@ -150,7 +150,18 @@ module _ {A : Type 0} where
           (subst (λ (bs : List Job). AreSums (flat_map (moved_by stack) bs) rounded.moves.items) is told.sums);
     }
 
-    -- the pieces in order reply to all jobs
+    -- the pieces in order move what all jobs move
+    pub all_move : (pieces ordered : List (Piece A)) (node : ℕ) → 1 ≤ size → All (IsPiece stack jobs size) pieces
+        → ((x : ℕ) → times x (numbers_of pieces) ≡ times x (range_with_len 0 (batches size (length jobs)))) → AreOrdered pieces ordered
+        → balance node (flat_map (λ (p : Piece A). p.moves.items) ordered) ≡ balance node (flat_map (moved_by stack) jobs)
+    all_move pieces ordered node some each once o =
+        all_moved number size jobs (λ (p : Piece A). p.moves.items) (moved_by stack) node ordered 0 (batches size (length jobs))
+        (ordered_numbers pieces ordered (batches size (length jobs)) once o)
+        (All-weaker (IsPiece stack jobs size) _ (λ p is. is.sums.each node) ordered
+        (All-permutation (IsPiece stack jobs size) pieces ordered o.same each))
+        (all_reached jobs size some) ∙ ap (λ (js : List Job). balance node (flat_map (moved_by stack) js)) (all_jobs jobs size)
+
+    -- the pieces in order reply to all jobs, and move what these move
     pub whole : (pieces : List (Piece A)) → 1 ≤ size → All (IsPiece stack jobs size) pieces
         → ((x : ℕ) → times x (numbers_of pieces) ≡ times x (range_with_len 0 (batches size (length jobs))))
         → AreWhole stack jobs size pieces
@@ -162,6 +173,7 @@ module _ {A : Type 0} where
           (All-weaker (IsPiece stack jobs size) _ (λ p is. is.replies) ordered
           (All-permutation (IsPiece stack jobs size) pieces ordered o.same each))
           (all_reached jobs size some) ∙ ap (flat_map (reply_to stack)) (all_jobs jobs size));
+      moves = λ ordered o node. all_move pieces ordered node some each once o;
     }
 
     -- jobs without a batch want no piece
@@ -171,17 +183,6 @@ module _ {A : Type 0} where
       answered = All-nil (IsPiece stack jobs size);
       light = All-nil (λ (p : Piece A). weight p.moves.items ≤ 2 ^ 104);
     })
-
-    -- and they move what all jobs move
-    pub all_move : (pieces ordered : List (Piece A)) (node : ℕ) → 1 ≤ size → All (IsPiece stack jobs size) pieces
-        → ((x : ℕ) → times x (numbers_of pieces) ≡ times x (range_with_len 0 (batches size (length jobs)))) → AreOrdered pieces ordered
-        → balance node (flat_map (λ (p : Piece A). p.moves.items) ordered) ≡ balance node (flat_map (moved_by stack) jobs)
-    all_move pieces ordered node some each once o =
-        all_moved number size jobs (λ (p : Piece A). p.moves.items) (moved_by stack) node ordered 0 (batches size (length jobs))
-        (ordered_numbers pieces ordered (batches size (length jobs)) once o)
-        (All-weaker (IsPiece stack jobs size) _ (λ p is. is.sums.each node) ordered
-        (All-permutation (IsPiece stack jobs size) pieces ordered o.same each))
-        (all_reached jobs size some) ∙ ap (λ (js : List Job). balance node (flat_map (moved_by stack) js)) (all_jobs jobs size)
 
     -- pieces that are put in order come to the round of all jobs
     pub rounds : (pieces : List (Piece A)) (rounded : Rounded A) → 1 ≤ size → All (IsPiece stack jobs size) pieces

@@ -11,7 +11,8 @@ use Rattle.draw_board.specs.Positions.{Unites, numbers, times}
 use Rattle.stack_model.specs.Listing.{Stacked}
 use Rattle.reply_pieces.specs.declared.pieces.Piece.{Piece}
 use Rattle.reply_pieces.specs.Batches.{AreOrdered, IsPiece, batches, numbers_of}
-use Rattle.reply_pieces.specs.Jobs.{Job, reply_to}
+use Rattle.reply_model.specs.Moves.{balance}
+use Rattle.reply_pieces.specs.Jobs.{Job, reply_to, moved_by}
 
 -- the hand stays one of the board, with its share, and keeps what it drew before
 pub record KeepsHand {B : Type 0} (board : Board B) (old new : Hand) : Type 0 where
@@ -84,10 +85,13 @@ pub record IsLast (hand : Hand) (draws : ℕ) : Type 0 where
   pub seen : seen_below hand ≤ draws
 
 -- each batch is answered once, and none is left out; in the order of their numbers the pieces have
--- the replies to all jobs
+-- the replies to all jobs, and move of each node what all jobs move
 pub record AreWhole {A : Type 0} (stack : Stacked) (jobs : List Job) (size : ℕ)
     (pieces : List (Piece A)) : Type 0 where
   pub once : (number : ℕ) → times number (numbers_of pieces)
       ≡ times number (range_with_len 0 (batches size (length jobs)))
   pub replies : (ordered : List (Piece A)) → AreOrdered pieces ordered
       → flat_map (λ piece. piece.bytes.items) ordered ≡ flat_map (reply_to stack) jobs
+  pub moves : (ordered : List (Piece A)) → AreOrdered pieces ordered → (node : ℕ)
+      → balance node (flat_map (λ piece. piece.moves.items) ordered)
+      ≡ balance node (flat_map (moved_by stack) jobs)

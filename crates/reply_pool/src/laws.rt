@@ -23,7 +23,8 @@ pub fn sums_are_one()
 /// Hands that share a board with one table, the same jobs and one size of batches, and that draw by
 /// [`work`](crate::work) alone, at least once, and never without memory: when they are rejoined
 /// into the last hand, with which the board is closed, their pieces are each batch once, and none
-/// is left out. In the order of their numbers they have the bytes of [`round`](crate::round).
+/// is left out. In the order of their numbers they have the bytes of [`round`](crate::round), and
+/// move of each node what it sums up.
 pub fn each_batch_once<A: Allocator, B: Allocator, C: Allocator>(
     table: &Table<A>,
     jobs: &[(Session, Request<'_>)],
