@@ -54,9 +54,9 @@ impl From<Failed> for ListFault {
 ///
 /// The lines go out in pieces of about 64 KiB, each of which is flushed. Memory is taken first, 64
 /// KiB for a piece and 383 KiB for the longest path that there can be: at `Memory` the sink is as
-/// before. `Write` comes only where the sink failed in this call, once; it has then
-/// gained the first bytes of the lines at most. Besides, it takes as much of the stack as the deepest path has names, and a time
-/// that grows with the length of the lines.
+/// before. `Write` comes only where the sink failed in this call, once; it has then gained the
+/// first bytes of the lines at most. Besides, it takes as much of the stack as the deepest path has
+/// names, and a time that grows with the length of the lines.
 pub fn write_list<A: Allocator + Copy, B: Allocator, K: Sink>(
     alloc: A,
     table: &Table<B>,
