@@ -35,18 +35,6 @@ pub(crate) fn add_answer_moves<A: Allocator>(
     }
 }
 
-// Adds what the rows of a listing give.
-fn add_rows<A: Allocator>(rows: &Listing<'_, A>, balances: &mut [i128])
-    requires whole { IsWhole rows.now }
-    requires within { AreWithin (2 ^ 123) balances.old }
-    ensures { IsMoved (listed_moves rows.now) balances.old balances.new }
-{
-    let (until, _) = fit(rows);
-    for index in rows.from..until {
-        add_row(rows, index, balances);
-    }
-}
-
 /// Adds what a row gives, where rows come with entries.
 #[inline(always)]
 pub(crate) fn add_row<A: Allocator>(rows: &Listing<'_, A>, index: usize, balances: &mut [i128])
@@ -57,6 +45,18 @@ pub(crate) fn add_row<A: Allocator>(rows: &Listing<'_, A>, index: usize, balance
 {
     if rows.with_entries {
         add_entry(rows, index, balances);
+    }
+}
+
+// Adds what the rows of a listing give.
+fn add_rows<A: Allocator>(rows: &Listing<'_, A>, balances: &mut [i128])
+    requires whole { IsWhole rows.now }
+    requires within { AreWithin (2 ^ 123) balances.old }
+    ensures { IsMoved (listed_moves rows.now) balances.old balances.new }
+{
+    let (until, _) = fit(rows);
+    for index in rows.from..until {
+        add_row(rows, index, balances);
     }
 }
 

@@ -60,6 +60,46 @@ pub(crate) fn list<'a, A: Allocator>(
     }
 }
 
+/// How many rows a directory has.
+#[inline(always)]
+pub(crate) fn count<A: Allocator>(children: &[Row<A>]) -> usize
+    ensures { result ≡ 2 + length children.now }
+{
+    2 + children.len()
+}
+
+/// Whether there is a row with this index, and room for it.
+#[inline(always)]
+pub(crate) fn fits<A: Allocator>(rows: &Listing<'_, A>, index: usize, room: usize) -> bool
+    requires { room ≤ MAX_DATA_SIZE }
+    ensures { result ≡ fits_at rows.now index room }
+{
+    index < count(rows.children)
+        && row_size(rows.with_entries, name_length(rows.children, index), room).is_some()
+}
+
+/// Up to which index the rows of a listing fit in its room, and how many bytes they take.
+#[inline(always)]
+pub(crate) fn fit<A: Allocator>(rows: &Listing<'_, A>) -> (usize, usize)
+    requires { IsWhole rows.now }
+    ensures { Fits rows.now.with_entries rows.now.children.now rows.now.from rows.now.room
+        result.0 result.1 }
+{
+    let end = count(rows.children);
+    let mut until = rows.from;
+    let mut room = rows.room;
+    while until < end {
+        match row_size(rows.with_entries, name_length(rows.children, until), room) {
+            None => return (until, rows.room - room),
+            Some(bytes) => {
+                room -= bytes;
+                until += 1;
+            }
+        }
+    }
+    (until, rows.room - room)
+}
+
 // The rows after the first `offset` ones that fit in the size; none where the number is no
 // directory.
 #[inline(always)]
@@ -93,14 +133,6 @@ fn is_too_small<A: Allocator>(rows: &Listing<'_, A>) -> bool
     ensures { result ≡ is_cut_short rows.now }
 {
     rows.from < count(rows.children) && !fits(rows, rows.from, rows.room)
-}
-
-/// How many rows a directory has.
-#[inline(always)]
-pub(crate) fn count<A: Allocator>(children: &[Row<A>]) -> usize
-    ensures { result ≡ 2 + length children.now }
-{
-    2 + children.len()
 }
 
 // The index of the first row after `offset` ones, or after all.
@@ -144,36 +176,4 @@ fn row_size(with_entries: bool, name_length: usize, room: usize) -> Option<usize
     let entry = if with_entries { ENTRY_SIZE } else { 0 };
     let bytes = dirent_size(name_length) + entry;
     (bytes <= room).then_some(bytes)
-}
-
-/// Whether there is a row with this index, and room for it.
-#[inline(always)]
-pub(crate) fn fits<A: Allocator>(rows: &Listing<'_, A>, index: usize, room: usize) -> bool
-    requires { room ≤ MAX_DATA_SIZE }
-    ensures { result ≡ fits_at rows.now index room }
-{
-    index < count(rows.children)
-        && row_size(rows.with_entries, name_length(rows.children, index), room).is_some()
-}
-
-/// Up to which index the rows of a listing fit in its room, and how many bytes they take.
-#[inline(always)]
-pub(crate) fn fit<A: Allocator>(rows: &Listing<'_, A>) -> (usize, usize)
-    requires { IsWhole rows.now }
-    ensures { Fits rows.now.with_entries rows.now.children.now rows.now.from rows.now.room
-        result.0 result.1 }
-{
-    let end = count(rows.children);
-    let mut until = rows.from;
-    let mut room = rows.room;
-    while until < end {
-        match row_size(rows.with_entries, name_length(rows.children, until), room) {
-            None => return (until, rows.room - room),
-            Some(bytes) => {
-                room -= bytes;
-                until += 1;
-            }
-        }
-    }
-    (until, rows.room - room)
 }

@@ -80,18 +80,6 @@ pub(crate) fn open_directory<'a, A: Allocator>(
     }
 }
 
-// The flags of a directory that is opened.
-#[inline(always)]
-fn opendir_flags(lasting: bool) -> u32
-    ensures { result ≡ opendir_flags lasting }
-{
-    if lasting {
-        FOPEN_KEEP_CACHE | FOPEN_CACHE_DIR
-    } else {
-        0
-    }
-}
-
 /// What READ is answered: the bytes from the offset on, at most as many as the size, up to the
 /// file's end.
 #[inline(always)]
@@ -113,6 +101,29 @@ pub(crate) fn read<'a, A: Allocator>(
     }
 }
 
+// The kind of a node.
+#[inline(always)]
+pub(crate) fn kind_of<A: Allocator>(table: &Table<A>, number: u64) -> Result<Kind, Errno>
+    ensures { TellsKind table.now number result }
+{
+    match table.node(number) {
+        Some(node) => Ok(node.kind),
+        None => Err(Errno::ESTALE),
+    }
+}
+
+// The flags of a directory that is opened.
+#[inline(always)]
+fn opendir_flags(lasting: bool) -> u32
+    ensures { result ≡ opendir_flags lasting }
+{
+    if lasting {
+        FOPEN_KEEP_CACHE | FOPEN_CACHE_DIR
+    } else {
+        0
+    }
+}
+
 // The bytes from the offset on, at most as many as the size.
 #[inline(always)]
 fn part(bytes: &[u8], offset: u64, size: u32) -> &[u8]
@@ -126,16 +137,5 @@ fn part(bytes: &[u8], offset: u64, size: u32) -> &[u8]
         &rest[..size as usize]
     } else {
         rest
-    }
-}
-
-// The kind of a node.
-#[inline(always)]
-pub(crate) fn kind_of<A: Allocator>(table: &Table<A>, number: u64) -> Result<Kind, Errno>
-    ensures { TellsKind table.now number result }
-{
-    match table.node(number) {
-        Some(node) => Ok(node.kind),
-        None => Err(Errno::ESTALE),
     }
 }

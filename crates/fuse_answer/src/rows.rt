@@ -48,6 +48,21 @@ pub(crate) fn put_rows_and_move<A: Allocator, O: Allocator>(
     Ok(())
 }
 
+/// The number and the name of the row with this index.
+pub(crate) fn line_at<'a, A: Allocator>(rows: &Listing<'a, A>, index: usize) -> (u64, &'a [u8])
+    requires { index < 2 + length rows.now.children.now }
+    ensures { IsLineAt rows.now index result.0 result.1.now }
+{
+    match index {
+        0 => (rows.number, b".".as_slice()),
+        1 => (rows.parent, b"..".as_slice()),
+        _ => {
+            let row = &rows.children[index - 2];
+            (row.number, row.name())
+        }
+    }
+}
+
 // Makes room for a header and the rows. Where there is room for as many bytes as rows may take,
 // which is so mostly, it is not asked how many they do.
 #[inline(always)]
@@ -189,21 +204,6 @@ fn padded_at<'a, A: Allocator>(rows: &Listing<'a, A>, index: usize) -> Option<&'
         _ => {
             let row = &rows.children[index - 2];
             row.padded_name()
-        }
-    }
-}
-
-/// The number and the name of the row with this index.
-pub(crate) fn line_at<'a, A: Allocator>(rows: &Listing<'a, A>, index: usize) -> (u64, &'a [u8])
-    requires { index < 2 + length rows.now.children.now }
-    ensures { IsLineAt rows.now index result.0 result.1.now }
-{
-    match index {
-        0 => (rows.number, b".".as_slice()),
-        1 => (rows.parent, b"..".as_slice()),
-        _ => {
-            let row = &rows.children[index - 2];
-            (row.number, row.name())
         }
     }
 }

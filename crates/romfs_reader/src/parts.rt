@@ -40,18 +40,6 @@ pub(crate) fn place_at(image: &[u8], root: u32, offset: u32) -> Option<Head>
     }
 }
 
-/// Whether a directory other than the root names its own header as the first, which says that it
-/// is empty.
-fn leads_to_itself(root: u32, directory: &Head) -> bool
-    ensures yes { IsTrue result → (cleared directory.now.spec ≡ directory.now.offset)
-        × (cleared directory.now.spec ≢ root) }
-    ensures no { IsFalse result → cleared directory.now.spec ≡ directory.now.offset →
-        cleared directory.now.spec ≡ root }
-{
-    let first = cleared(directory.spec);
-    first == directory.offset && first != root
-}
-
 /// The members of a header that is given.
 pub(crate) fn members_of<'a>(image: &'a [u8], root: u32, directory: &Head) -> Members<'a>
     requires image { IsImage image.now }
@@ -83,16 +71,6 @@ pub(crate) fn end_of(image: &[u8], head: &Head) -> Head
         end = head_at(image, cleared(end.spec));
     }
     end
-}
-
-/// Some bytes of an image.
-#[tactic(auto, unfolding(crate::specs::Readers::bytes_at))]
-fn bytes_at(image: &[u8], from: u32, len: u32) -> &[u8]
-    requires { from + len ≤ length image.now }
-    ensures { result.now ≡ bytes_at image.now from len }
-{
-    let rest = &image[from as usize..];
-    &rest[..len as usize]
 }
 
 /// The same, where bytes beyond the image are left out.
@@ -146,4 +124,26 @@ pub(crate) fn data_in<'a>(image: &'a [u8], head: &Head) -> &'a [u8]
     ensures { result.now ≡ data_of_header image.now head.now.offset }
 {
     bytes_in(image, data_part(image, head))
+}
+
+/// Whether a directory other than the root names its own header as the first, which says that it
+/// is empty.
+fn leads_to_itself(root: u32, directory: &Head) -> bool
+    ensures yes { IsTrue result → (cleared directory.now.spec ≡ directory.now.offset)
+        × (cleared directory.now.spec ≢ root) }
+    ensures no { IsFalse result → cleared directory.now.spec ≡ directory.now.offset →
+        cleared directory.now.spec ≡ root }
+{
+    let first = cleared(directory.spec);
+    first == directory.offset && first != root
+}
+
+/// Some bytes of an image.
+#[tactic(auto, unfolding(crate::specs::Readers::bytes_at))]
+fn bytes_at(image: &[u8], from: u32, len: u32) -> &[u8]
+    requires { from + len ≤ length image.now }
+    ensures { result.now ≡ bytes_at image.now from len }
+{
+    let rest = &image[from as usize..];
+    &rest[..len as usize]
 }

@@ -28,6 +28,23 @@ struct Step {
     low: u32,
 }
 
+/// Notes the points of which a lower one of the same class comes before or after: `next` is the
+/// point that each leads on to, and `class` the class of each. `AllocError` comes only where memory
+/// was refused.
+pub fn note_repeats<A: Allocator + Copy>(
+    alloc: A,
+    next: Vec<u32, A>,
+    class: Vec<u32, A>,
+) -> Result<Vec<bool, A>, AllocError>
+    requires few { length next.items < 2 ^ 32 }
+    requires leads { AreBelow next.items (length next.items) }
+    requires classes { AreBelow class.items (length next.items) }
+    ensures { IfOk result (λ noted. AreNoted next.items class.items noted.items) }
+{
+    let graph = Graph::of(alloc, next, class)?;
+    note_all(alloc, &graph)
+}
+
 // Puts a point on the path, and notes the higher of it and the lowest of its class there.
 fn enter<A: Allocator>(graph: &Graph<A>, found: &mut Found<A>, at: u32) -> u32
     requires at { at < length graph.now.next.items }
@@ -215,21 +232,4 @@ fn note_all<A: Allocator + Copy>(alloc: A, graph: &Graph<A>) -> Result<Vec<bool,
         noted,
     } = found;
     Ok(noted)
-}
-
-/// Notes the points of which a lower one of the same class comes before or after: `next` is the
-/// point that each leads on to, and `class` the class of each. `AllocError` comes only where memory
-/// was refused.
-pub fn note_repeats<A: Allocator + Copy>(
-    alloc: A,
-    next: Vec<u32, A>,
-    class: Vec<u32, A>,
-) -> Result<Vec<bool, A>, AllocError>
-    requires few { length next.items < 2 ^ 32 }
-    requires leads { AreBelow next.items (length next.items) }
-    requires classes { AreBelow class.items (length next.items) }
-    ensures { IfOk result (λ noted. AreNoted next.items class.items noted.items) }
-{
-    let graph = Graph::of(alloc, next, class)?;
-    note_all(alloc, &graph)
 }

@@ -58,6 +58,39 @@ impl Long {
     }
 }
 
+/// The image of the file and the directory: nodes 2 and 3.
+pub fn image<A: Allocator + Copy>(alloc: A) -> Result<Vec<u8, A>, BuildFault> {
+    let items = items(alloc)?;
+    build(alloc, b"v", &items)
+}
+
+/// INIT, and so many requests.
+pub fn stream(alloc: Global, long: Long, count: u32) -> Result<Vec<u8>, AllocError> {
+    let mut stream = INIT.to_vec(alloc)?;
+    for unique in 0..count {
+        put_request(&mut stream, unique, long.asked(), long.size())?;
+    }
+    Ok(stream)
+}
+
+/// An image of a file of 1 MiB: node 2.
+pub fn mebibyte<A: Allocator + Copy>(alloc: A) -> Result<Vec<u8, A>, BuildFault> {
+    let mut data = Vec::new(alloc);
+    data.resize(1 << 20, 7)?;
+    let mut items = Vec::new(alloc);
+    put(&mut items, alloc, 1, b"a", What::Regular(data))?;
+    build(alloc, b"v", &items)
+}
+
+/// INIT, and READs of so many bytes each.
+pub fn reads(alloc: Global, sizes: &[u32]) -> Result<Vec<u8>, AllocError> {
+    let mut stream = INIT.to_vec(alloc)?;
+    for size in sizes {
+        put_request(&mut stream, 1, Long::Read.asked(), *size)?;
+    }
+    Ok(stream)
+}
+
 fn put<A: Allocator + Copy>(
     items: &mut Vec<Item<A>, A>,
     alloc: A,
@@ -112,12 +145,6 @@ fn items<A: Allocator + Copy>(alloc: A) -> Result<Vec<Item<A>, A>, AllocError> {
     Ok(items)
 }
 
-/// The image of the file and the directory: nodes 2 and 3.
-pub fn image<A: Allocator + Copy>(alloc: A) -> Result<Vec<u8, A>, BuildFault> {
-    let items = items(alloc)?;
-    build(alloc, b"v", &items)
-}
-
 /// Appends a request: READ, READDIR or READDIRPLUS of a node from its beginning on.
 fn put_request(
     stream: &mut Vec<u8>,
@@ -134,31 +161,4 @@ fn put_request(
     request[16] = node;
     request[56..60].copy_from_slice(&size.to_le_bytes());
     stream.extend_from_slice(&request)
-}
-
-/// INIT, and so many requests.
-pub fn stream(alloc: Global, long: Long, count: u32) -> Result<Vec<u8>, AllocError> {
-    let mut stream = INIT.to_vec(alloc)?;
-    for unique in 0..count {
-        put_request(&mut stream, unique, long.asked(), long.size())?;
-    }
-    Ok(stream)
-}
-
-/// An image of a file of 1 MiB: node 2.
-pub fn mebibyte<A: Allocator + Copy>(alloc: A) -> Result<Vec<u8, A>, BuildFault> {
-    let mut data = Vec::new(alloc);
-    data.resize(1 << 20, 7)?;
-    let mut items = Vec::new(alloc);
-    put(&mut items, alloc, 1, b"a", What::Regular(data))?;
-    build(alloc, b"v", &items)
-}
-
-/// INIT, and READs of so many bytes each.
-pub fn reads(alloc: Global, sizes: &[u32]) -> Result<Vec<u8>, AllocError> {
-    let mut stream = INIT.to_vec(alloc)?;
-    for size in sizes {
-        put_request(&mut stream, 1, Long::Read.asked(), *size)?;
-    }
-    Ok(stream)
 }

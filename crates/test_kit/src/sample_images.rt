@@ -16,6 +16,81 @@ pub fn empty(alloc: Global) -> Result<Vec<u8>, AllocError> {
     bytes_of(alloc, &EMPTY)
 }
 
+/// An image with an item for each word, in walk order: a digit for the depth, a sign, and the name.
+///
+/// The sign is `/` for a directory and `*` for an executable one, `-` for a file of the bytes `hi`
+/// and `#` for one of 5,000 bytes, `@` for a symbolic link to `d/x`, `%` for an executable block
+/// device, `$` for a character device, `=` for a socket and `|` for a fifo; and for a hard link a
+/// digit, the index of the word that it leads to.
+pub fn image<A: Allocator + Copy>(
+    alloc: A,
+    volume: &[u8],
+    words: &str,
+) -> Result<Vec<u8, A>, BuildFault> {
+    let items = items_of(alloc, words)?;
+    build(alloc, volume, &items)
+}
+
+pub fn sample<A: Allocator + Copy>(alloc: A) -> Result<Vec<u8, A>, BuildFault> {
+    image(alloc, b"v", SAMPLE)
+}
+
+/// An image with hard links `a`, to the later `d/e`, and `d/h`, to `a`; an executable device `b`;
+/// and a directory in a directory, `d/f`, that holds `g`.
+pub fn mixed(alloc: Global) -> Result<Vec<u8>, BuildFault> {
+    image(alloc, b"v", "13a 1%b 1/d 2|e 2/f 3=g 20h")
+}
+
+/// The image that bytes are, checked.
+pub fn checked<A: Allocator + Copy>(alloc: A, bytes: Vec<u8, A>) -> Result<Image<A>, BuildFault> {
+    match Image::check(alloc, bytes) {
+        Ok(image) => Ok(image),
+        Err(CheckFault::Memory) => Err(BuildFault::Memory),
+        Err(_) => Err(BuildFault::Listing),
+    }
+}
+
+/// Layers of such words, the lowest first, with a `+` between any two.
+pub fn layers<A: Allocator + Copy>(alloc: A, all: &str) -> Result<Vec<Image<A>, A>, BuildFault> {
+    let mut images = Vec::new(alloc);
+    for words in all.split('+') {
+        images.push(layer(alloc, words)?)?;
+    }
+    Ok(images)
+}
+
+/// One image alone.
+pub fn alone<A: Allocator + Copy>(
+    alloc: A,
+    image: Vec<u8, A>,
+) -> Result<Vec<Vec<u8, A>, A>, AllocError> {
+    let mut images = Vec::new(alloc);
+    images.push(image)?;
+    Ok(images)
+}
+
+/// `big` of 5,000 bytes, an executable directory `d` with a file `x`, a link `l` to `d/x`, and the
+/// device `null`.
+pub const SAMPLE: &str = "1#big 1*d 2-x 1@l 1$null";
+
+/// So many sample images.
+pub fn samples<A: Allocator + Copy>(alloc: A, count: usize) -> Option<Vec<Vec<u8, A>, A>> {
+    let mut images = Vec::new(alloc);
+    for _ in 0..count {
+        images.push(sample(alloc).ok()?).ok()?;
+    }
+    Some(images)
+}
+
+/// So many empty images.
+pub fn empties(alloc: Global, count: usize) -> Option<Vec<Vec<u8>>> {
+    let mut images = Vec::new(alloc);
+    for _ in 0..count {
+        images.push(empty(alloc).ok()?).ok()?;
+    }
+    Some(images)
+}
+
 /// 5,000 bytes, each of them its place modulo 251.
 fn big<A: Allocator>(alloc: A) -> Result<Vec<u8, A>, AllocError> {
     let mut big = Vec::new(alloc);
@@ -69,81 +144,6 @@ fn items_of<A: Allocator + Copy>(alloc: A, words: &str) -> Result<Vec<Item<A>, A
     Ok(items)
 }
 
-/// An image with an item for each word, in walk order: a digit for the depth, a sign, and the name.
-///
-/// The sign is `/` for a directory and `*` for an executable one, `-` for a file of the bytes `hi`
-/// and `#` for one of 5,000 bytes, `@` for a symbolic link to `d/x`, `%` for an executable block
-/// device, `$` for a character device, `=` for a socket and `|` for a fifo; and for a hard link a
-/// digit, the index of the word that it leads to.
-pub fn image<A: Allocator + Copy>(
-    alloc: A,
-    volume: &[u8],
-    words: &str,
-) -> Result<Vec<u8, A>, BuildFault> {
-    let items = items_of(alloc, words)?;
-    build(alloc, volume, &items)
-}
-
-/// `big` of 5,000 bytes, an executable directory `d` with a file `x`, a link `l` to `d/x`, and the
-/// device `null`.
-pub const SAMPLE: &str = "1#big 1*d 2-x 1@l 1$null";
-
-pub fn sample<A: Allocator + Copy>(alloc: A) -> Result<Vec<u8, A>, BuildFault> {
-    image(alloc, b"v", SAMPLE)
-}
-
-/// An image with hard links `a`, to the later `d/e`, and `d/h`, to `a`; an executable device `b`;
-/// and a directory in a directory, `d/f`, that holds `g`.
-pub fn mixed(alloc: Global) -> Result<Vec<u8>, BuildFault> {
-    image(alloc, b"v", "13a 1%b 1/d 2|e 2/f 3=g 20h")
-}
-
-/// The image that bytes are, checked.
-pub fn checked<A: Allocator + Copy>(alloc: A, bytes: Vec<u8, A>) -> Result<Image<A>, BuildFault> {
-    match Image::check(alloc, bytes) {
-        Ok(image) => Ok(image),
-        Err(CheckFault::Memory) => Err(BuildFault::Memory),
-        Err(_) => Err(BuildFault::Listing),
-    }
-}
-
 fn layer<A: Allocator + Copy>(alloc: A, words: &str) -> Result<Image<A>, BuildFault> {
     checked(alloc, image(alloc, b"v", words)?)
-}
-
-/// Layers of such words, the lowest first, with a `+` between any two.
-pub fn layers<A: Allocator + Copy>(alloc: A, all: &str) -> Result<Vec<Image<A>, A>, BuildFault> {
-    let mut images = Vec::new(alloc);
-    for words in all.split('+') {
-        images.push(layer(alloc, words)?)?;
-    }
-    Ok(images)
-}
-
-/// One image alone.
-pub fn alone<A: Allocator + Copy>(
-    alloc: A,
-    image: Vec<u8, A>,
-) -> Result<Vec<Vec<u8, A>, A>, AllocError> {
-    let mut images = Vec::new(alloc);
-    images.push(image)?;
-    Ok(images)
-}
-
-/// So many sample images.
-pub fn samples<A: Allocator + Copy>(alloc: A, count: usize) -> Option<Vec<Vec<u8, A>, A>> {
-    let mut images = Vec::new(alloc);
-    for _ in 0..count {
-        images.push(sample(alloc).ok()?).ok()?;
-    }
-    Some(images)
-}
-
-/// So many empty images.
-pub fn empties(alloc: Global, count: usize) -> Option<Vec<Vec<u8>>> {
-    let mut images = Vec::new(alloc);
-    for _ in 0..count {
-        images.push(empty(alloc).ok()?).ok()?;
-    }
-    Some(images)
 }

@@ -97,12 +97,6 @@ fn put_words(out: &mut Vec<u8>, words: &str) -> Result<(), AllocError> {
     Ok(())
 }
 
-fn bytes_of(alloc: Global, words: &str) -> Result<Vec<u8>, AllocError> {
-    let mut bytes = Vec::new(alloc);
-    put_words(&mut bytes, words)?;
-    Ok(bytes)
-}
-
 /// The script, 652 bytes.
 pub fn script(alloc: Global) -> Result<Vec<u8>, AllocError> {
     bytes_of(alloc, SCRIPT)
@@ -160,4 +154,10 @@ pub fn forgets(alloc: Global) -> Result<Vec<u8>, AllocError> {
         stream.extend_from_slice(&forget)?;
     }
     Ok(stream)
+}
+
+fn bytes_of(alloc: Global, words: &str) -> Result<Vec<u8>, AllocError> {
+    let mut bytes = Vec::new(alloc);
+    put_words(&mut bytes, words)?;
+    Ok(bytes)
 }

@@ -16,6 +16,35 @@ pub(super) fn is_listing<A: Allocator>(volume: &[u8], items: &[Item<A>]) -> bool
         && items.iter().all(|item| !item.name.contains(&0) && leads_to(item, items.len()))
 }
 
+pub(super) fn is_directory<A: Allocator>(item: &Item<A>) -> bool {
+    matches!(&item.what, What::Directory)
+}
+
+/// The data that follows an item's header.
+pub(super) fn data_of<A: Allocator>(item: &Item<A>) -> &[u8] {
+    match &item.what {
+        What::Regular(bytes) | What::SymLink(bytes) => bytes,
+        _ => &[],
+    }
+}
+
+/// Where the first item from index `from` on stands that has this depth, unless one that is less
+/// deep comes before it; 0 where none has.
+pub(super) fn place_at<A: Allocator>(
+    layout: &Layout<A>,
+    items: &[Item<A>],
+    from: usize,
+    depth: u16,
+) -> u32 {
+    for index in from..items.len() {
+        if items[index].depth <= depth {
+            let is_there = items[index].depth == depth;
+            return if is_there { layout.place_of(index) } else { 0 };
+        }
+    }
+    0
+}
+
 /// Whether each depth is that of a member of a directory that is still open.
 fn is_walk<A: Allocator>(items: &[Item<A>]) -> bool {
     let mut most: u32 = 1;
@@ -27,26 +56,6 @@ fn is_walk<A: Allocator>(items: &[Item<A>]) -> bool {
         most = if is_directory(item) { depth + 1 } else { depth };
     }
     true
-}
-
-/// Whether an item, if it is a hard link, leads to one of `count` items.
-fn leads_to<A: Allocator>(item: &Item<A>, count: usize) -> bool {
-    match &item.what {
-        What::Hard(index) => *index < count,
-        _ => true,
-    }
-}
-
-pub(super) fn is_directory<A: Allocator>(item: &Item<A>) -> bool {
-    matches!(&item.what, What::Directory)
-}
-
-/// The data that follows an item's header.
-pub(super) fn data_of<A: Allocator>(item: &Item<A>) -> &[u8] {
-    match &item.what {
-        What::Regular(bytes) | What::SymLink(bytes) => bytes,
-        _ => &[],
-    }
 }
 
 /// The places of a header, of the directory that it stands in and, of a directory, of its dots.
@@ -135,21 +144,12 @@ impl<A: Allocator> Layout<A> {
     }
 }
 
-/// Where the first item from index `from` on stands that has this depth, unless one that is less
-/// deep comes before it; 0 where none has.
-pub(super) fn place_at<A: Allocator>(
-    layout: &Layout<A>,
-    items: &[Item<A>],
-    from: usize,
-    depth: u16,
-) -> u32 {
-    for index in from..items.len() {
-        if items[index].depth <= depth {
-            let is_there = items[index].depth == depth;
-            return if is_there { layout.place_of(index) } else { 0 };
-        }
+/// Whether an item, if it is a hard link, leads to one of `count` items.
+fn leads_to<A: Allocator>(item: &Item<A>, count: usize) -> bool {
+    match &item.what {
+        What::Hard(index) => *index < count,
+        _ => true,
     }
-    0
 }
 
 /// Where the next header stands after the one at `at` with this name and data. A volume header is

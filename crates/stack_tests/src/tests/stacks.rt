@@ -14,6 +14,19 @@ use test_kit::sample_images::layers;
 /// Layers by words of `sample_images`; the order in which they are laid; and words of `told`.
 pub type Stack<'a> = (&'a str, &'a str, &'a str);
 
+/// The first word that is wrong of a stack.
+pub fn wrong_of<'a, R: Threads + Sync, A: Allocator + Copy + Send + Sync, G: Gate + Sync>(
+    rt: &R,
+    alloc: A,
+    stack: Stack<'a>,
+    gate: &G,
+) -> Result<Option<&'a str>, BuildFault> {
+    let (words, order, told) = stack;
+    let images = layers(alloc, words)?;
+    let tree = tree_of(rt, alloc, &images, order, gate)?;
+    Ok(first_wrong(&tree, told))
+}
+
 /// The next tree of an order.
 fn next_tree<A: Allocator + Copy>(
     alloc: A,
@@ -64,19 +77,6 @@ fn tree_of<R: Threads + Sync, A: Allocator + Copy + Send + Sync, G: Gate + Sync>
         return Err(BuildFault::Listing);
     }
     Ok(stack(rt, alloc, images, gate)?)
-}
-
-/// The first word that is wrong of a stack.
-pub fn wrong_of<'a, R: Threads + Sync, A: Allocator + Copy + Send + Sync, G: Gate + Sync>(
-    rt: &R,
-    alloc: A,
-    stack: Stack<'a>,
-    gate: &G,
-) -> Result<Option<&'a str>, BuildFault> {
-    let (words, order, told) = stack;
-    let images = layers(alloc, words)?;
-    let tree = tree_of(rt, alloc, &images, order, gate)?;
-    Ok(first_wrong(&tree, told))
 }
 
 /// Stacks, a paragraph each: what it is, its layers, and lines of an order and of words.

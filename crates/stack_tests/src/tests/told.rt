@@ -9,6 +9,16 @@ use romfs_image::Kind;
 use stack_core::shown;
 use std::alloc::Allocator;
 
+/// The first word that is wrong.
+pub fn first_wrong<'a, A: Allocator>(tree: &Tree<A>, words: &'a str) -> Option<&'a str> {
+    for word in words.split_whitespace() {
+        if !is_right(tree, word) {
+            return Some(word);
+        }
+    }
+    None
+}
+
 /// Whether these are the names of the children, in this order.
 fn are_children<A: Allocator>(children: &[Child<A>], names: &[u8]) -> bool {
     if children.len() != names.len() {
@@ -59,14 +69,4 @@ fn is_right<A: Allocator>(tree: &Tree<A>, word: &str) -> bool {
         Some((first, last)) => is_told(tree, &[first.as_bytes(), last.as_bytes()], told),
         None => is_told(tree, &[path.as_bytes()], told),
     }
-}
-
-/// The first word that is wrong.
-pub fn first_wrong<'a, A: Allocator>(tree: &Tree<A>, words: &'a str) -> Option<&'a str> {
-    for word in words.split_whitespace() {
-        if !is_right(tree, word) {
-            return Some(word);
-        }
-    }
-    None
 }

@@ -21,6 +21,19 @@ const FIRST: Move = Move { node: 7, amount: 9 };
 /// Whether a call went through, and how much it appended.
 pub type Left = (bool, usize);
 
+/// The same, over the table of the sample image.
+pub fn appended<R: Threads + Sync>(
+    rt: &R,
+    memories: &Memories,
+    index: usize,
+    moves: bool,
+) -> Option<Left> {
+    let table = sample_table(rt, &memories.plain)?;
+    let left = appended_over(memories, &table, index, moves);
+    drop(table);
+    left
+}
+
 /// An answer behind the front; none where the front is refused, or isn't as it was.
 fn answered<A: Allocator>(alloc: A, table: &Table<A>, job: &Job<'_>) -> Option<Left> {
     let mut out = Replies::new(alloc);
@@ -56,17 +69,4 @@ fn appended_over<'a>(
     } else {
         answered(&memories.refusing, table, job)
     }
-}
-
-/// The same, over the table of the sample image.
-pub fn appended<R: Threads + Sync>(
-    rt: &R,
-    memories: &Memories,
-    index: usize,
-    moves: bool,
-) -> Option<Left> {
-    let table = sample_table(rt, &memories.plain)?;
-    let left = appended_over(memories, &table, index, moves);
-    drop(table);
-    left
 }

@@ -23,6 +23,20 @@ pub enum Jobs {
     Lookups,
 }
 
+/// The same, over the table of the sample image.
+pub fn round_of<R: Threads + Sync>(
+    rt: &R,
+    memories: &Memories,
+    jobs: Jobs,
+    plan: (u32, u32),
+) -> Option<Result<(bool, (u64, u64, u64)), AllocError>> {
+    let plan = Plan::new(plan.0, plan.1)?;
+    let table = sample_table(rt, &memories.plain)?;
+    let rounded = round_over(rt, memories, &table, jobs, plan);
+    drop(table);
+    rounded
+}
+
 fn stream_of(alloc: Global, jobs: Jobs) -> Result<Vec<u8>, AllocError> {
     match jobs {
         Jobs::None => Ok(Vec::new(alloc)),
@@ -67,20 +81,6 @@ fn round_over<'a, R: Threads + Sync>(
         Ok(rounded) => Some(Ok((is_right(&rounded, jobs, &replies), gate.seen()))),
         Err(AllocError) => Some(Err(AllocError)),
     }
-}
-
-/// The same, over the table of the sample image.
-pub fn round_of<R: Threads + Sync>(
-    rt: &R,
-    memories: &Memories,
-    jobs: Jobs,
-    plan: (u32, u32),
-) -> Option<Result<(bool, (u64, u64, u64)), AllocError>> {
-    let plan = Plan::new(plan.0, plan.1)?;
-    let table = sample_table(rt, &memories.plain)?;
-    let rounded = round_over(rt, memories, &table, jobs, plan);
-    drop(table);
-    rounded
 }
 
 #[test]

@@ -39,6 +39,19 @@ impl Promise<Done> for SameHand {
     ghost kept_by = { λ lent back. GivesBack lent.0.value back.hand };
 }
 
+/// The same, over the table of the sample image.
+pub fn pieces_of<R: Threads + Sync, G: Gate>(
+    rt: &R,
+    memories: &Memories,
+    jobs: usize,
+    gate: &G,
+) -> Option<Result<(usize, u64), AllocError>> {
+    let table = sample_table(rt, &memories.plain)?;
+    let pieces = pieces_over(rt, memories, &table, jobs, gate);
+    drop(table);
+    pieces
+}
+
 /// How many batches so many jobs have.
 fn batches_in(jobs: usize) -> u32
     requires { jobs ≤ 256 }
@@ -70,19 +83,6 @@ fn pieces_over<R: Threads + Sync, G: Gate>(
         Ok(pieces) => Some(Ok((pieces.len(), draws))),
         Err(AllocError) => Some(Err(AllocError)),
     }
-}
-
-/// The same, over the table of the sample image.
-pub fn pieces_of<R: Threads + Sync, G: Gate>(
-    rt: &R,
-    memories: &Memories,
-    jobs: usize,
-    gate: &G,
-) -> Option<Result<(usize, u64), AllocError>> {
-    let table = sample_table(rt, &memories.plain)?;
-    let pieces = pieces_over(rt, memories, &table, jobs, gate);
-    drop(table);
-    pieces
 }
 
 /// Answers what it draws of the script's jobs, until nothing is left to draw.
