@@ -61,10 +61,14 @@ def text_of(message):
 # --- replies ---
 
 def attr_text(data):
+    """Attributes; a device's numbers, the owner and the last change are shown where they are not 0."""
     ino, size = struct.unpack_from("<2Q", data)
-    mode, nlink, _, _, rdev = struct.unpack_from("<5I", data, 60)
+    seconds, nanoseconds = struct.unpack_from("<q", data, 32)[0], struct.unpack_from("<I", data, 52)[0]
+    mode, nlink, user, group, rdev = struct.unpack_from("<5I", data, 60)
     text = "ino %d size %d mode %o nlink %d" % (ino, size, mode, nlink)
-    return text + " rdev %d" % rdev if rdev else text
+    text += " rdev %d" % rdev if rdev else ""
+    text += " owner %d:%d" % (user, group) if user or group else ""
+    return text + " time %d.%09d" % (seconds, nanoseconds) if seconds or nanoseconds else text
 
 
 def row_lines(data, plus):

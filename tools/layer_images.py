@@ -2,13 +2,17 @@
 image."""
 import romfs
 import tars
+import trailer
+from below import MARKER, implied
 from layouts import PACKED, digest_of
 from packing import Unpacked
 from refused import Refused, shown
 
 # a volume's name is the digest, as far as Linux's romfs reads names
 VOLUME_NAME_MOST = 127
-MARKER = b".wh."
+# an owner that no number of 32 bits says, as Linux shows one
+NOBODY = 65534
+TIME_LEAST, TIME_MOST = -2 ** 63, 2 ** 63 - 1
 
 
 def path_of(name):
@@ -23,24 +27,24 @@ def path_of(name):
 
 
 def put(image, path, entry):
-    """Puts an entry into an image; the mode that it is shown with."""
+    """Puts an entry into an image; the mode that it is shown with where no trailer is read."""
     executable = entry.mode & 0o111 != 0
     if entry.kind in tars.FILES:
-        image.file(path, executable, entry.size, entry.data)
+        image.file(path, executable, entry.size, entry.data).said = said_by(entry)
     elif entry.kind == tars.DIRECTORY:
-        image.directory(path, executable)
+        image.directory(path, executable).said = said_by(entry)
     elif entry.kind == tars.SYMBOLIC:
-        image.symlink(path, entry.link)
+        image.symlink(path, entry.link).said = said_by(entry)
     elif entry.kind == tars.HARD:
         image.hard_link(path, path_of(entry.link))
-        # what it leads to was there before, with all that is lost of it
+        # what it leads to says of itself what there is to say
         return entry.mode
     elif entry.kind in (tars.CHARACTER, tars.BLOCK_DEVICE):
         kind = romfs.CHARACTER if entry.kind == tars.CHARACTER else romfs.BLOCK
-        image.device(path, kind, entry.major, entry.minor)
+        image.device(path, kind, entry.major, entry.minor).said = said_by(entry)
         return 0o600
     elif entry.kind == tars.FIFO:
-        image.fifo(path)
+        image.fifo(path).said = said_by(entry)
         return 0o644
     else:
         raise Refused("%s: an entry of the unknown type '%s'"
@@ -48,8 +52,21 @@ def put(image, path, entry):
     return 0o755 if executable else 0o644
 
 
-def write_image(out, source, volume_name, note):
-    """Writes the image of an archive."""
+def said_by(entry):
+    """What the row of an entry's node says. Linux knows one mode of symbolic links."""
+    mode = 0o777 if entry.kind == tars.SYMBOLIC else entry.mode
+    owners = [it if is_owner(it) else NOBODY for it in (entry.uid, entry.gid)]
+    seconds, nanoseconds = entry.time
+    return trailer.said(mode, *owners, min(max(seconds, TIME_LEAST), TIME_MOST), nanoseconds)
+
+
+def is_owner(number):
+    return 0 <= number <= trailer.OWNER_MOST
+
+
+def write_image(out, source, volume_name, note, below):
+    """Writes the image of an archive, which lies on the layers `below`; the paths of the folders
+    that it implies without an entry, and that may be shown below."""
     image = romfs.Image(out, volume_name)
     for entry in tars.Tar(source).entries():
         path = path_of(entry.name)
@@ -62,31 +79,39 @@ def write_image(out, source, volume_name, note):
     # what stands behind the archive says nothing, but a packed one has its own checksum at the end
     while source.read(tars.PIECE):
         pass
+    found = list(implied(image.root))
+    for path, folder in found:
+        folder.said = below.said(path)
     image.finish()
+    return [path for path, _ in found]
 
 
-def write_unpacked(blob, number, descriptor, out, lost, unpacked):
+def write_unpacked(blob, number, descriptor, out, lost, below, unpacked):
     source = Unpacked(blob, PACKED[descriptor.media], unpacked is not None)
     try:
         name = digest_of(descriptor).encode()[:VOLUME_NAME_MOST]
-        write_image(out, source, name, lambda entry, mode: lost.note_all(number, entry, mode))
+        found = write_image(
+            out, source, name, lambda entry, mode: lost.note_all(number, entry, mode), below)
     finally:
         source.close()
     if unpacked is not None and source.digest() != unpacked:
         raise Refused("its archive's digest is %s, and the image's configuration says %s"
                       % (source.digest(), shown(unpacked)))
+    return found
 
 
-def write_layer(layout, number, descriptor, out, lost, unpacked=None):
+def write_layer(layout, number, descriptor, out, lost, below, unpacked=None):
     """Writes the image of a layer, whose archive must have the digest `unpacked`, where one is
-    given. Where the blob is not what its own digest says, that is why it is refused."""
+    given. Where the blob is not what its own digest says, that is why it is refused. The folders
+    that it implies have the rows that they have in the layers `below`; their paths."""
     blob = layout.open(descriptor)
     try:
         try:
-            write_unpacked(blob, number, descriptor, out, lost, unpacked)
+            found = write_unpacked(blob, number, descriptor, out, lost, below, unpacked)
         except Refused as refused:
             blob.settle()
             raise Refused("layer %d: %s" % (number, refused)) from None
         blob.settle()
+        return found
     finally:
         blob.close()

@@ -1,10 +1,11 @@
-"""The verbs of strata-layers: convert, pull, images, verify, remove, prune, config."""
+"""The verbs of strata-layers: convert, pull, images, verify, remove, prune, config, attributes."""
 import argparse
 import os
 import sys
 import textwrap
 
 from convert import convert
+from folder_attributes import add_attributes
 from image_config import config_lines, sandbox_words
 from layouts import platform_said
 from lost import Lost
@@ -88,6 +89,14 @@ def run_config(asked):
     return 0
 
 
+def run_attributes(asked):
+    lost = Lost()
+    count = add_attributes(asked.folder, asked.image, lost)
+    told(lost)
+    print_line("%s: attributes of %d files" % (asked.image, count))
+    return 0
+
+
 HELP = {
     "convert": "Writes an image layout whose layers are images of romfs, made of those of LAYOUT in"
                " the same order. Layers are made in the store, each once, and copied from there."
@@ -105,6 +114,8 @@ HELP = {
     "config": "Prints entry point, command, environment, working folder and user of an image, as"
               " words of the shell; or all of it as words for bwrap or podman run, to be used"
               " by eval.",
+    "attributes": "Adds the modes, owners and times of all that is in FOLDER to an image that"
+                  " genromfs made of it; what was added before is replaced.",
 }
 
 
@@ -115,9 +126,10 @@ def parser():
     parts = {verb: verbs.add_parser(verb, description=textwrap.fill(text, 100),
                                     formatter_class=form, help=text.split(";")[0])
              for verb, text in HELP.items()}
-    for part in parts.values():
-        part.add_argument("--store", metavar="DIR", default=default_place(),
-                          help="where layers are kept (default: %(default)s)")
+    for verb, part in parts.items():
+        if verb != "attributes":
+            part.add_argument("--store", metavar="DIR", default=default_place(),
+                              help="where layers are kept (default: %(default)s)")
     add_words(parts)
     return it
 
@@ -135,6 +147,8 @@ def add_words(parts):
     parts["pull"].add_argument("source", metavar="SOURCE",
                                help="oci:LAYOUT[:TAG] or docker://HOST/NAME[:TAG]")
     parts["pull"].add_argument("name", metavar="NAME[:TAG]", nargs="?")
+    parts["attributes"].add_argument("folder", metavar="FOLDER")
+    parts["attributes"].add_argument("image", metavar="IMAGE")
     for verb in ("remove", "config"):
         parts[verb].add_argument("name", metavar="NAME[:TAG]")
     form = parts["config"].add_mutually_exclusive_group()
@@ -145,7 +159,8 @@ def add_words(parts):
 
 
 RUNS = {"convert": run_convert, "pull": run_pull, "images": run_images, "verify": run_verify,
-        "remove": run_remove, "prune": run_prune, "config": run_config}
+        "remove": run_remove, "prune": run_prune, "config": run_config,
+        "attributes": run_attributes}
 
 
 def run(words):

@@ -6,7 +6,8 @@ where it isn't there, gets 00.romfs, 01.romfs and so on, the lowest layer first,
 are never written over. The command that mounts them is printed. What romfs can't hold is told on standard error, once
 a kind; where data would be lost, the layout is refused in one line, with status 1. Status 2 is for the words.
 
-It needs no root and unpacks nothing: the bytes of files go from the archive straight into the image.
+It needs no root and unpacks nothing: the bytes of files go from the archive straight into the image. Behind each image stand
+the modes, owners and times of its entries, as strata-attributes(5) has them.
 """
 import sys
 sys.dont_write_bytecode = True
@@ -17,6 +18,7 @@ import secrets
 import shlex
 import signal
 
+from below import Below
 from layer_images import write_layer
 from lost import Lost
 from open_layout import open_layout
@@ -24,7 +26,7 @@ from progress import Progress
 from refused import Refused, shown
 from version import command, version
 
-VERBS = ("convert", "pull", "images", "verify", "remove", "prune", "config")
+VERBS = ("convert", "pull", "images", "verify", "remove", "prune", "config", "attributes")
 
 
 class Folder:
@@ -68,7 +70,7 @@ class Folder:
 def convert(word, path):
     """Makes the images of a layout's layers; their paths, and what they don't hold."""
     layout, tag = open_layout(word)
-    lost = Lost()
+    lost, below = Lost(), Below()
     descriptors = layout.layers(tag)
     folder = Folder(path)
     try:
@@ -76,7 +78,8 @@ def convert(word, path):
             layout.heard = progress.add
             for number, descriptor in enumerate(descriptors):
                 with folder.new_file() as out:
-                    write_layer(layout, number, descriptor, out, lost)
+                    write_layer(layout, number, descriptor, out, lost, below)
+                    below.add(out.fileno())
         return folder.keep(), lost
     finally:
         folder.close()

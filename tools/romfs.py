@@ -3,16 +3,18 @@
 The bytes of a file go straight to the image, behind its header; names, kinds and places are all that is held. Only at the
 end is it known which header comes next in each directory, so all headers are then written once more, in their places.
 A directory is laid out as genromfs does it, beginning with `.` and `..`, and its members stand in the order in which they
-came. What was replaced stays in the image, but nothing names it.
+came. What was replaced stays in the image, but nothing names it. Behind its full size stands the attribute trailer, with a
+row for each node of which something was said.
 
     image = Image(out, b"name")            out: a new file, open for writing and reading, without a buffer
-    image.directory((b"bin",), True)
+    image.directory((b"bin",), True).said = trailer.said(0o755, 0, 0, 0, 0)
     image.file((b"bin", b"hello"), True, 12, [b"echo ", b"hello\n\n"])
     image.finish()
 """
 import os
 import struct
 
+import trailer
 from refused import Refused, shown
 
 HARD, DIRECTORY, REGULAR, SYMLINK, BLOCK, CHARACTER, SOCKET, FIFO = range(8)
@@ -21,19 +23,19 @@ EXECUTABLE = 8
 MOST = 2 ** 32 - 16
 NAME_MOST, TARGET_MOST, NAMES_MOST = 255, 4095, 512
 MAJOR_MOST, MINOR_MOST = 4095, 65535
-# a block device gives whole blocks only
-BLOCK_SIZE = 1024
 # so many bytes are gathered before they are written
 ROOM = 1 << 20
 
 
 class Node:
-    """A header that is no hard link: where it stands, and the members of a directory by their names."""
+    """A header that is no hard link: where it stands, the members of a directory by their names, and what its row of the
+    trailer says, where it has one."""
 
-    __slots__ = ("kind", "executable", "at", "spec", "size", "members")
+    __slots__ = ("kind", "executable", "at", "spec", "size", "members", "said")
 
     def __init__(self, kind, executable, at, spec=0, size=0):
         self.kind, self.executable, self.at, self.spec, self.size = kind, executable, at, spec, size
+        self.said = None
         self.members = {} if kind == DIRECTORY else None
 
 
@@ -84,7 +86,8 @@ class Image:
 
     def __init__(self, out, name):
         self.out, self.gathered, self.gathered_size = out, [], 0
-        self.at = 0
+        # what the rows of the trailer say, by the offsets of headers, at the end
+        self.at, self.rows = 0, {}
         self.put(b"-rom1fs-" + bytes(8) + padded_name(name))
         self.root = Node(DIRECTORY, True, self.at, spec=self.at)
         # the directory that something came into last, and whose names were looked at
@@ -198,7 +201,7 @@ class Image:
                 raise Refused("%s: a name of %d bytes, at most %d are held" % (path_text(path), len(name), NAME_MOST))
 
     def add(self, path, node, data=()):
-        """Adds a node whose place is the next one, and behind its header its data."""
+        """Adds a node whose place is the next one, and behind its header its data; the node."""
         above = self.directory_at(path[:-1])
         node.at = self.claim(path, node.size)
         self.put(self.headers(path[-1], node, 0, above, 0))
@@ -209,25 +212,26 @@ class Image:
             raise Refused("%s: %d bytes are there, and %d were said" % (path_text(path), self.at - begin, node.size))
         self.put(padding(node.size))
         self.set_member(above, path[-1], node)
+        return node
 
-    # --- entries ---
+    # --- entries: all but a hard link give their node ---
 
     def directory(self, path, executable):
         if not path:
             self.root.executable = executable
-            return
+            return self.root
         self.check(path)
         above = self.directory_at(path[:-1])
         node = above.members.get(path[-1])
-        if isinstance(node, Node) and node.kind == DIRECTORY:
-            node.executable = executable
-        else:
-            self.new_directory(above, path, executable)
+        if not isinstance(node, Node) or node.kind != DIRECTORY:
+            node = self.new_directory(above, path, executable)
+        node.executable = executable
+        return node
 
     def file(self, path, executable, size, pieces):
         """A file of so many bytes, which come in pieces."""
         self.check(path)
-        self.add(path, Node(REGULAR, executable, 0, size=size), pieces)
+        return self.add(path, Node(REGULAR, executable, 0, size=size), pieces)
 
     def symlink(self, path, target):
         self.check(path)
@@ -235,7 +239,7 @@ class Image:
             raise Refused("%s: a link's target of %d bytes, at most %d are held" % (path_text(path), len(target), TARGET_MOST))
         if b"\0" in target:
             raise Refused("%s: no link holds the target '%s'" % (path_text(path), shown(target)))
-        self.add(path, Node(SYMLINK, False, 0, size=len(target)), [target])
+        return self.add(path, Node(SYMLINK, False, 0, size=len(target)), [target])
 
     def device(self, path, kind, major, minor):
         """A device, BLOCK or CHARACTER."""
@@ -244,11 +248,11 @@ class Image:
             raise Refused("%s: a device of major number %d, at most %d is held" % (path_text(path), major, MAJOR_MOST))
         if not 0 <= minor <= MINOR_MOST:
             raise Refused("%s: a device of minor number %d, at most %d is held" % (path_text(path), minor, MINOR_MOST))
-        self.add(path, Node(kind, False, 0, spec=major << 16 | minor))
+        return self.add(path, Node(kind, False, 0, spec=major << 16 | minor))
 
     def fifo(self, path):
         self.check(path)
-        self.add(path, Node(FIFO, False, 0))
+        return self.add(path, Node(FIFO, False, 0))
 
     def hard_link(self, path, target):
         """Another name of what stands at the path `target`, or, if nothing stands there yet, of what does at the end."""
@@ -287,23 +291,28 @@ class Image:
         return target
 
     def chain(self, path, node):
-        """Writes the headers of a directory's members; the first of them."""
+        """Writes the headers of a directory's members; the first of them. What their rows say is gathered."""
         members = list(node.members.items())
         nexts = [it.at for _, it in members[1:]] + [0]
         for (name, it), next_ in zip(members, nexts):
             if isinstance(it, Link):
-                spec = self.node_of(it, (*path, name)).at
-                self.put_over(it.at, header(next_, HARD, spec, 0, name))
+                end = self.node_of(it, (*path, name))
+                self.put_over(it.at, header(next_, HARD, end.at, 0, name))
             else:
-                first = next(iter(it.members.values())).at if it.members else 0
+                first, end = next(iter(it.members.values())).at if it.members else 0, it
                 self.put_over(it.at, self.headers(name, it, next_, node, first))
+            self.gather(end)
         return members[0][1].at if members else 0
 
+    def gather(self, node):
+        if node.said is not None:
+            self.rows[node.at] = node.said
+
     def finish(self):
-        """Ends the image: its headers with their links, its full size and its checksum. Returns the full size."""
+        """Ends the image: its headers with their links, its full size, its checksum and its trailer. Returns the full size."""
         full = self.at
-        self.put(bytes(-full % BLOCK_SIZE))
         self.flush()
+        self.gather(self.root)
         self.put_over(self.root.at, self.root_headers(self.chain((), self.root)))
         opened = [((), self.root)]
         while opened:
@@ -316,4 +325,5 @@ class Image:
         begin = b"-rom1fs-" + struct.pack(">2I", full, 0)
         summed = begin + os.pread(self.out.fileno(), min(full, 512) - 16, 16)
         self.put_over(0, begin[:12] + struct.pack(">I", -words_sum(summed) & 0xffffffff))
+        trailer.write_trailer(self.out.fileno(), full, self.rows)
         return full

@@ -1,18 +1,23 @@
 """Brings the layers of an image into a store: what is there already is neither read nor made
 again."""
+import collections
+import errno
 import json
 import os
 
+import trailer
+from below import Below
 from layer_images import write_layer
 from layout_images import PACKED_ROMFS
 from layouts import PACKED, digest_of
 from packing import Unpacked
+from read_romfs import ReadImage
 from refused import Refused, shown
-from store import digits_of, file_digits
+from store import SMALL_MOST, digits_of, file_digits
 from store_images import StoredLayer
 
 # a layer that was made by other rules is made anew
-MAKER = 1
+MAKER = 2
 MAGIC = b"-rom1fs-"
 # above what an image of romfs can have, with all that stands behind it
 UNPACKED_MOST = 1 << 33
@@ -21,6 +26,12 @@ PIECE = 1 << 20
 
 def record_name(it):
     return "%s-%s" % (it.algorithm, it.digits)
+
+
+# what is known of a blob: a layer that was made of it, or None; the digest of what it unpacks to,
+# or None; and the paths of the folders that it implies without an entry, which have the rows of
+# the layers below, whichever these were
+Made = collections.namedtuple("Made", "layer archive implied")
 
 
 class Maker:
@@ -39,20 +50,19 @@ class Maker:
         return StoredLayer(digits, size) if self.store.size_of(digits) == size else None
 
     def made_of(self, it):
-        """The layer that was made of a blob, where it is there, and the digest of what the blob
-        unpacks to, where that is known; else twice None."""
+        """What is known of a blob."""
         if PACKED_ROMFS.get(it.media) == "" and it.algorithm == "sha256":
-            return self.stored(it.digits, it.size), "sha256:" + it.digits
+            return Made(self.stored(it.digits, it.size), "sha256:" + it.digits, [])
         value = self.store.small_json(self.store.records, record_name(it))
         if value is None or value.get("maker") != MAKER:
-            return None, None
+            return Made(None, None, [])
         where = "%s: %s" % (self.store.name, record_name(it))
-        digits = digits_of(value.get("layer"), where)
-        return self.stored(digits, value.get("size")), value.get("archive")
+        layer = self.stored(digits_of(value.get("layer"), where), value.get("size"))
+        return Made(layer, value.get("archive"), paths_said(value.get("implied"), where))
 
     def has_made(self, it):
-        """Whether the layer of a blob is there."""
-        return self.made_of(it)[0] is not None
+        """Whether a layer of a blob is there. Over other layers it may need other rows."""
+        return self.made_of(it).layer is not None
 
     @staticmethod
     def hold_unpacked(it, unpacked, archive):
@@ -61,11 +71,15 @@ class Maker:
             raise Refused("blob %s: unpacked its digest is %s, and the image's configuration says"
                           " %s" % (digest_of(it), shown(str(unpacked)), shown(archive)))
 
-    def note(self, name, layer, archive):
-        """Notes that a layer was made of the blob that a record is named by."""
-        value = {"maker": MAKER, "layer": "sha256:" + layer.digits, "size": layer.size,
-                 "archive": archive}
-        self.store.write_small(self.store.records, name, json.dumps(value).encode())
+    def note(self, name, made):
+        """Notes what is known of the blob that a record is named by. What is very long is not
+        noted, and its layer made anew each time."""
+        value = {"maker": MAKER, "layer": "sha256:" + made.layer.digits, "size": made.layer.size,
+                 "archive": made.archive,
+                 "implied": [b"/".join(path).decode("latin-1") for path in made.implied]}
+        data = json.dumps(value).encode()
+        if len(data) < SMALL_MOST:
+            self.store.write_small(self.store.records, name, data)
 
     def packed(self, layer, packing):
         """The digits and the size of a layer as it was packed before; or None."""
@@ -80,36 +94,104 @@ class Maker:
         value = {"digest": "sha256:" + digits, "size": size}
         name = "sha256-%s.%s" % (layer.digits, packing)
         self.store.write_small(self.store.records, name, json.dumps(value).encode())
-        self.note("sha256-" + digits, layer, "sha256:" + layer.digits)
+        self.note("sha256-" + digits, Made(layer, "sha256:" + layer.digits, []))
 
     # --- what is made ---
 
-    def layer(self, layout, image, number):
-        """A layer of an image; it is brought into the store where it isn't there."""
+    def layer(self, layout, image, number, below):
+        """A layer of an image, over those below; it is brought into the store where it isn't
+        there."""
         it, archive = image.layers[number], image.archives[number]
-        found, unpacked = self.made_of(it)
-        if found is not None:
-            self.hold_unpacked(it, unpacked, archive)
+        found = self.made_of(it)
+        if found.layer is not None:
+            self.hold_unpacked(it, found.archive, archive)
             layout.heard(it.size)
-            return found
+            return self.fitted(it, found, below) if found.implied else found.layer
         with self.store.new_file() as (file, name):
             if it.media in PACKED:
-                archive = archive if self.checks_archives else None
-                write_layer(layout, number, it, file, self.lost, archive)
-                digits = file_digits(file.fileno())
+                archive, digits = archive if self.checks_archives else None, None
+                implied = write_layer(layout, number, it, file, self.lost, below, archive)
             else:
-                digits = unpack_layer(layout, number, it, file)
+                digits, implied = unpack_layer(layout, number, it, file), []
                 self.hold_unpacked(it, "sha256:" + digits, archive)
-            made = StoredLayer(digits, os.fstat(file.fileno()).st_size)
-            if self.stored(*made) is None:
-                self.store.keep_layer(file, name, digits)
-        self.note(record_name(it), made, archive)
-        self.made_count += 1
-        return made
+            layer = self.kept(file, name, digits)
+        self.note(record_name(it), Made(layer, archive, implied))
+        return layer
+
+    def kept(self, file, name, digits=None):
+        """The layer in a file that is whole, which is kept, and counted, where it isn't there."""
+        digits = digits or file_digits(file.fileno())
+        layer = StoredLayer(digits, os.fstat(file.fileno()).st_size)
+        if self.stored(*layer) is None:
+            self.store.keep_layer(file, name, digits)
+            self.made_count += 1
+        return layer
+
+    def fitted(self, it, found, below):
+        """A blob's layer over those below: the one that is there, or, where the folders that it
+        implies have other rows in the layers below, a copy with these."""
+        number = self.opened(found.layer)
+        try:
+            image = self.read(number, found)
+            wanted = {image.found(path): below.said(path) for path in found.implied}
+            if all(image.said(place) == row for place, row in wanted.items()):
+                return found.layer
+            rows = {**image.rows.every(), **wanted}
+            with self.store.new_file() as (file, name):
+                copy_front(number, file.fileno(), image.full)
+                trailer.write_trailer(file.fileno(), image.full,
+                                      {at: row for at, row in rows.items() if row is not None})
+                layer = self.kept(file, name)
+        finally:
+            os.close(number)
+        self.note(record_name(it), found._replace(layer=layer))
+        return layer
+
+    def read(self, number, found):
+        """The image in an open layer, which must have the folders that its blob implies."""
+        try:
+            image = ReadImage(number)
+            if all(image.found(path) is not None for path in found.implied):
+                return image
+        except Refused:
+            pass
+        raise Refused("%s: the layer sha256:%s is broken" % (self.store.name, found.layer.digits))
+
+    def opened(self, layer):
+        number = self.store.open_layer(layer.digits)
+        if number is None:
+            raise Refused("%s: a layer has gone meanwhile" % self.store.name)
+        return number
 
     def layers(self, layout, image):
         """All layers of an image, the lowest first."""
-        return [self.layer(layout, image, number) for number in range(len(image.layers))]
+        below, found = Below(), []
+        for at in range(len(image.layers)):
+            layer = self.layer(layout, image, at, below)
+            number = self.opened(layer)
+            try:
+                below.add(number)
+            finally:
+                os.close(number)
+            found.append(layer)
+        return found
+
+
+def paths_said(value, where):
+    """The paths of folders that a record says."""
+    if not isinstance(value, list) or not all(isinstance(it, str) for it in value):
+        raise Refused("%s: no good paths of folders" % where)
+    return [tuple(it.encode("latin-1", "replace").split(b"/")) if it else () for it in value]
+
+
+def copy_front(source, out, size):
+    """Copies the first bytes of an open file into a new one."""
+    at = 0
+    while at < size:
+        count = os.sendfile(out, source, at, min(PIECE, size - at))
+        if count == 0:
+            raise OSError(errno.EIO, os.strerror(errno.EIO))
+        at += count
 
 
 def unpack_layer(layout, number, it, file):

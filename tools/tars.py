@@ -20,22 +20,26 @@ SPARSE = b"S"
 # entries behind whose header no data stand, whatever size it says
 BARE = (HARD, SYMBOLIC, CHARACTER, BLOCK_DEVICE, DIRECTORY, FIFO)
 PAX, PAX_GLOBAL, LONG_NAME, LONG_LINK = (b"x", b"X"), b"g", b"L", b"K"
-ATTRIBUTES = (b"SCHILY.xattr.", b"LIBARCHIVE.xattr.")
+# keywords of extended attributes: behind these stands an attribute's name
+ATTRIBUTES = re.compile(rb"(?:SCHILY\.xattr\.|LIBARCHIVE\.xattr\.|SCHILY\.(?=acl\.)|RHT\.(?=security\.))(.*)", re.S)
+# the names of all of them stand under this, which no keyword is
+NAMES = b""
 # the numbers of most headers
 NUMBERS = {b"%07o\0" % value: value for value in (0, 0o400, 0o444, 0o555, 0o600, 0o644, 0o700, 0o755, 0o777, 1000)}
-DECIMAL = re.compile(rb"-?[0-9]{1,18}(\.[0-9]*)?")
+DECIMAL = re.compile(rb"(-?)([0-9]{1,18})(?:\.([0-9]*))?")
+SECOND = 10 ** 9
 
 
 class Entry:
-    """An entry of an archive: its name and link as they stand there, and of a file its data as pieces."""
+    """An entry of an archive: its name and link as they stand there, when it was last changed, in seconds since 1970 and
+    nanoseconds, the names of its extended attributes, and of a file its data as pieces."""
 
-    __slots__ = ("kind", "name", "link", "mode", "uid", "gid", "size", "major", "minor", "has_time", "has_attributes", "data")
+    __slots__ = ("kind", "name", "link", "mode", "uid", "gid", "size", "major", "minor", "time", "attributes", "data")
 
     def __init__(self, kind, name, link):
         self.kind, self.name, self.link = kind, name, link
         self.mode = self.uid = self.gid = self.size = self.major = self.minor = 0
-        self.has_time = self.has_attributes = False
-        self.data = iter(())
+        self.time, self.attributes, self.data = (0, 0), (), iter(())
 
 
 def text(field):
@@ -61,11 +65,25 @@ def number(field, what):
     raise Refused("the archive is broken: %s '%s'" % (what, shown(digits)))
 
 
+def parts_of(value, what):
+    """A number of an extended header: its sign, its digits, and those of a fraction."""
+    found = DECIMAL.fullmatch(value)
+    if not found:
+        raise Refused("the archive is broken: %s '%s'" % (what, shown(value)))
+    return found[1], found[2], found[3] or b""
+
+
 def decimal(value, what):
     """A whole number of an extended header; a fraction is cut off."""
-    if not DECIMAL.fullmatch(value):
-        raise Refused("the archive is broken: %s '%s'" % (what, shown(value)))
-    return int(value.split(b".")[0])
+    sign, digits, _ = parts_of(value, what)
+    return int(sign + digits)
+
+
+def time_of(value):
+    """A time of an extended header in whole seconds and nanoseconds; digits behind the ninth are cut off."""
+    sign, digits, fraction = parts_of(value, "time")
+    count = int(digits) * SECOND + int(fraction[:9].ljust(9, b"0"))
+    return divmod(-count if sign else count, SECOND)
 
 
 def is_sum_right(block):
@@ -178,13 +196,14 @@ class Tar:
         return block
 
     def fields_of(self, data):
-        """What an extended header says. An empty value says nothing."""
+        """What an extended header says. An empty value takes back what one before it said."""
         found = {}
         for keyword, value in pax_records(data):
-            if keyword.startswith(ATTRIBUTES):
-                keyword = b"attributes"
-            if value:
+            attribute = ATTRIBUTES.fullmatch(keyword)
+            if not attribute:
                 found[keyword] = value
+            elif value:
+                found.setdefault(NAMES, []).append(attribute[1])
         return found
 
     def entries(self):
@@ -215,12 +234,13 @@ class Tar:
             elif kind in (LONG_NAME, LONG_LINK):
                 names[kind] = text(self.special(size))
             else:
-                return self.made(block, kind, {**self.everywhere, **fields}, names)
+                said = {keyword: value for keyword, value in {**self.everywhere, **fields}.items() if value}
+                return self.made(block, kind, said, names)
             has_begun = True
 
     def add_everywhere(self, fields):
         """Takes in what holds for all entries that follow; a stranger may say no end of other things."""
-        known = (b"path", b"linkpath", b"size", b"uid", b"gid", b"mtime", b"attributes")
+        known = (b"path", b"linkpath", b"size", b"uid", b"gid", b"mtime", NAMES)
         self.everywhere.update({keyword: value for keyword, value in fields.items() if keyword in known})
 
     def made(self, block, kind, fields, names):
@@ -231,9 +251,8 @@ class Tar:
         entry.mode = number(block[100:108], "mode") & 0o7777
         entry.uid = decimal(fields[b"uid"], "owner") if b"uid" in fields else number(block[108:116], "owner")
         entry.gid = decimal(fields[b"gid"], "group") if b"gid" in fields else number(block[116:124], "group")
-        time = fields.get(b"mtime")
-        entry.has_time = (time.strip(b"0.") if time else number(block[136:148], "time")) not in (0, b"")
-        entry.has_attributes = b"attributes" in fields
+        entry.time = time_of(fields[b"mtime"]) if b"mtime" in fields else (number(block[136:148], "time"), 0)
+        entry.attributes = fields.get(NAMES, ())
         if kind == b"\0" and name.endswith(b"/"):
             entry.kind = DIRECTORY
         elif kind in (CHARACTER, BLOCK_DEVICE):

@@ -8,7 +8,8 @@ from checks.installed.programs import version
 from checks.installed.roots import LeftOut, hold, hold_in
 
 PATHS = ("bin/strata", "bin/strata-mount", "bin/strata-layers", "sbin/mount.strata", "sbin/mount.fuse.strata", "lib/strata/mount.py",
-         "share/man/man1/strata.1", "share/man/man1/strata-mount.1", "share/man/man1/strata-layers.1", "share/man/man8/mount.strata.8",
+         "share/man/man1/strata.1", "share/man/man1/strata-mount.1", "share/man/man1/strata-layers.1",
+         "share/man/man5/strata-attributes.5", "share/man/man8/mount.strata.8",
          "share/man/man8/mount.fuse.strata.8")
 
 

@@ -6,10 +6,12 @@ import mount_options
 from checks.installed.roots import Failed, LeftOut, hold, hold_in
 
 PAGES = ("man1/strata.1", "man1/strata-mount.1", "man1/strata-layers.1", "man8/mount.strata.8")
+# pages of what is no program
+FORMATS = ("man5/strata-attributes.5",)
 MAN = "/usr/local/share/man/"
 SHARE = "/usr/local/share/"
 SUBCOMMANDS = ("check", "list", "serve", "socket")
-VERBS = ("convert", "pull", "images", "verify", "remove", "prune", "config")
+VERBS = ("convert", "pull", "images", "verify", "remove", "prune", "config", "attributes")
 OPTION = re.compile(r"(?<![\w-])(--[a-z][a-z-]*|-[A-Za-z])(?![\w-])")
 COMPLETED = {"bash": SHARE + "bash-completion/completions/%s", "zsh": SHARE + "zsh/site-functions/_%s",
              "fish": SHARE + "fish/vendor_completions.d/%s.fish"}
@@ -20,13 +22,14 @@ def shown(root):
     root.needs("man")
     root.install()
     env = dict(os.environ, MANWIDTH="80", MANPAGER="cat")
-    for page in PAGES:
+    for page in PAGES + FORMATS:
         text = root.good("man", "--warnings", "-E", "UTF-8", "-l", MAN + page, env=env)
         name, section = os.path.basename(page).rsplit(".", 1)
-        for part in ("NAME", "SYNOPSIS", "DESCRIPTION", "EXIT STATUS", "SEE ALSO", "%s(%s)" % (name.upper(), section)):
+        parts = ["SYNOPSIS", "EXIT STATUS"] * (page in PAGES)
+        for part in ("NAME", *parts, "DESCRIPTION", "SEE ALSO", "%s(%s)" % (name.upper(), section)):
             hold_in(page, part, text)
         hold("man %s" % name, text, root.good("man", "--warnings", "-E", "UTF-8", section, name, env=env))
-    return "%d pages, without a warning" % len(PAGES)
+    return "%d pages, without a warning" % len(PAGES + FORMATS)
 
 
 def of_page(page):

@@ -6,15 +6,20 @@ import tarfile
 import tempfile
 
 import layers
-from checks.layers.shown_trees import Unlike, compare, shown_tree, wanted_tree
+from checks.layers.shown_trees import Unlike, compare, compare_attributes, shown_tree, wanted_tree
 from checks.plain import plain_layers
 from checks.shared.layer_files import layout_of
 
 GNU, PAX, USTAR = tarfile.GNU_FORMAT, tarfile.PAX_FORMAT, tarfile.USTAR_FORMAT
 
 
+class LeftOut(Exception):
+    """What is missing here for a test."""
+
+
 class Room:
-    """A folder for one test, in which layouts and images get names of their own."""
+    """A folder for one test, in which layouts and images get names of their own. Without the program only the images are looked
+    at."""
 
     def __init__(self, strata):
         self.strata, self.path, self.count = strata, tempfile.mkdtemp(prefix="layers-"), 0
@@ -38,8 +43,15 @@ class Room:
         images = [os.path.join(folder, "%02d.romfs" % number) for number in range(len(archives))]
         expect(output == "tools/mount.py %s DIR\n" % " ".join(images), "printed %r" % output)
         expect(sorted(os.listdir(folder)) == [os.path.basename(it) for it in images], "in the folder: %r" % os.listdir(folder))
-        compare(wanted_tree(plain_layers.shown_by(archives)), shown_tree(self.strata, images))
+        self.hold(images, archives)
         return told
+
+    def hold(self, images, archives):
+        """Holds images against the plain reading of archives: what their trailers say, and what strata shows of them."""
+        wanted = plain_layers.shown_by(archives)
+        compare_attributes(wanted, images)
+        if self.strata is not None:
+            compare(wanted_tree(wanted), shown_tree(self.strata, images))
 
     def refused(self, word, line):
         """The tool must say exactly this line, where `..` stands for anything, and leave nothing."""

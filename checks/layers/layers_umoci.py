@@ -1,8 +1,9 @@
 """Holds tools/layers.py and strata against umoci, over images that umoci makes: python3 checks layers_umoci PROGRAM
 
 Three images of four layers and more, with whiteouts of both kinds: one by `umoci repack` of an edited tree, one by `umoci
-insert`, one of archives by `umoci raw add-layer`. What strata shows of the images of the layers must be what `umoci unpack
---rootless` writes: at each path the type, whether it is executable, its size, its names, a link's target, the content. Where
+insert`, one of archives by `umoci raw add-layer`. What strata shows of the images of the layers must be what `umoci unpack`
+writes: at each path the type, whether it is executable, its size, its names, a link's target, the content. As root, where umoci
+can keep them, the mode, the owner and the time must be those that the images' trailers say; else it unpacks by --rootless. Where
 there is no umoci, a line says so. The status is 0 where nothing differs.
 """
 import os
@@ -14,10 +15,14 @@ import tarfile
 import tempfile
 
 from checks import TOOLS
-from checks.layers.shown_trees import Unlike, shown_tree
+from checks.layers.shown_trees import Unlike, read, shown_tree
+from checks.plain import plain
+from checks.plain.plain_stacks import MARKER
 from checks.shared.layer_files import archive, directory, file, hard, symlink
 
 IMAGE = "layout:made"
+IS_ROOT = os.geteuid() == 0
+ROOTLESS = ["--rootless"] * (not IS_ROOT)
 
 
 class Umoci:
@@ -38,7 +43,7 @@ class Umoci:
         self.run("umoci", "new", "--image", IMAGE)
 
     def unpack(self, bundle):
-        self.run("umoci", "unpack", "--rootless", "--image", IMAGE, bundle)
+        self.run("umoci", "unpack", *ROOTLESS, "--image", IMAGE, bundle)
         return os.path.join(self.path, bundle, "rootfs")
 
     def repack(self, bundle):
@@ -47,7 +52,7 @@ class Umoci:
 
     def insert(self, *words):
         self.layers += 1
-        self.run("umoci", "insert", "--rootless", "--image", IMAGE, *words)
+        self.run("umoci", "insert", *ROOTLESS, "--image", IMAGE, *words)
 
     def add(self, data):
         self.layers += 1
@@ -120,12 +125,15 @@ def by_insert(umoci):
 def by_archives(umoci):
     deep = "/".join(["deep"] * 40)
     umoci.add(archive([
-        directory("./"), directory("./a"), file("./a/x", b"1"), hard("./a/y", "./a/x"), file("a/z", b"z", mode=0o755),
-        symlink("l", "a/x"), file("n" * 255, b"long"), file(deep + "/file", b"deep"), directory("b"),
+        directory("./", mode=0o751, mtime=1), directory("./a", mode=0o1777, uid=3, gid=4, mtime=5),
+        file("./a/x", b"1", mode=0o4711), hard("./a/y", "./a/x"), file("a/z", b"z", mode=0o755),
+        symlink("l", "a/x", uid=6, mtime=7), file("n" * 255, b"long"), file(deep + "/file", b"deep"),
+        directory("b", mode=0o2700, gid=8, mtime=9),
         file("b/c", b"c"), file("b/d/e", b"e"),
         file("/absolute", b"absolute"), file("not \xe4scii \\ \n", b"name"), symlink("far", "t" * 300)], tarfile.GNU_FORMAT))
     umoci.add(archive([
-        directory("a"), file("a/.wh.x"), file("b/.wh..wh..opq"), file("b/new", b"new"), file("twice", b"first"),
+        file("a/.wh.x"), file("b/.wh..wh..opq"), file("twice", b"first"),
+        file("b/new", b"new", pax_headers={"mtime": "-1.25"}, uid=1),
         file("twice", b"second", mode=0o755), file(".wh.l"), file("p/q/r", b"r"), hard("p/s", "p/q/r")], tarfile.PAX_FORMAT))
     umoci.add(archive([
         file("a/x", b"again"), file("b/c", b"c again"), file(".wh.none"), file(deep[:-5] + "/.wh.deep"),
@@ -172,6 +180,24 @@ def shape_of(shown):
     return kind, kind != stat.S_IFLNK and shown.mode & 0o111 != 0, shown.size, names, shown.data
 
 
+def hold_attributes(root, images):
+    """Holds the modes, owners and times that trailers say against those of an unpacked tree, but of folders that no layer says
+    anything of. umoci changes the time of a folder in which it takes something away."""
+    stack, count = plain.stack_of([read(path) for path in images], True, True), 0
+    changed = {path[:-1] for layer in stack.layers for path in layer.paths if path and path[-1].startswith(MARKER)}
+    for path, number in stack.paths.items():
+        image, header = stack.header(number)
+        if header in image.rows:
+            it = os.lstat(os.path.join(os.fsencode(root), *path))
+            wanted = (it.st_mode, it.st_uid, it.st_gid, *divmod(it.st_mtime_ns, 10 ** 9))
+            got, most = stack.attributes(number), 3 if path in changed else 5
+            if wanted[:most] != got[:most]:
+                raise Unlike("%r: umoci has %r, the trailers %r" % (b"/".join(path), wanted, got))
+            count += 1
+    if count < len(stack.paths) // 3:
+        raise Unlike("%d of %d paths have a row" % (count, len(stack.paths)))
+
+
 def held(strata, make):
     """Makes an image, and holds what strata shows of it against what umoci unpacks; the number of layers and of paths."""
     umoci = Umoci()
@@ -184,6 +210,8 @@ def held(strata, make):
         images = sorted(os.path.join(folder, name) for name in os.listdir(folder))
         if len(images) != umoci.layers:
             raise Unlike("%d images of %d layers" % (len(images), umoci.layers))
+        if IS_ROOT:
+            hold_attributes(os.path.join(umoci.path, "wanted", "rootfs"), images)
         got = {path: shape_of(shown) for path, shown in shown_tree(strata, images).items()}
         for path in sorted({*wanted, *got}):
             if wanted.get(path) != got.get(path):

@@ -3,6 +3,7 @@ import collections
 import struct
 import subprocess
 
+from checks.plain import plain
 from checks.shared.build import getattr_, init, request
 from checks.shared.text import plain_bytes
 
@@ -98,6 +99,18 @@ def wanted_tree(nodes):
         nlink = names[id(node)] + (node.mode() & 0o170000 == 0o040000)
         wanted[path] = Shown(numbers[id(node)], node.mode(), nlink, len(node.data), node.layer, node.rdev, node.data)
     return wanted
+
+
+def read(path):
+    with open(path, "rb") as it:
+        return it.read()
+
+
+def compare_attributes(nodes, images):
+    """Holds what the trailers of images say, by the plain reading of these, against nodes by path."""
+    stack = plain.stack_of([read(path) for path in images], True, True)
+    wanted = {path: node.attributes() for path, node in nodes.items()}
+    compare(wanted, {path: stack.attributes(number) for path, number in stack.paths.items()})
 
 
 def compare(wanted, got):

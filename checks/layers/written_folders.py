@@ -6,8 +6,6 @@ import subprocess
 import layouts
 from checks import ROOT, TOOLS
 from checks.layers.layer_room import expect
-from checks.layers.shown_trees import compare, shown_tree, wanted_tree
-from checks.plain import plain_layers
 from checks.shared.layer_files import archive, directory, file, hard, layout_of, symlink
 
 
@@ -51,7 +49,7 @@ def test_names_of_images(room):
     names = ["%03d.romfs" % number for number in range(128)]
     expect(status == 0 and sorted(os.listdir(folder)) == names, "the folder")
     expect(output.split() == ["tools/mount.py", *(os.path.join(folder, name) for name in names), "DIR"], "printed %r" % output)
-    compare(wanted_tree(plain_layers.shown_by(made)), shown_tree(room.strata, [os.path.join(folder, name) for name in names]))
+    room.hold([os.path.join(folder, name) for name in names], made)
 
 
 def test_same_bytes(room):

@@ -5,14 +5,16 @@ speed.
 """
 import struct
 
-# the rules in their order: those of the volume header, those of file headers, and the depth
+from checks.plain import plain_attributes
+
+# the rules in their order: those of the volume header, those of file headers, the depth, and the attribute trailer
 TEXTS = {
     "Short": "too short", "Magic": "not romfs", "FullSize": "bad full size", "Sum": "bad sum",
     "VolumeName": "bad volume name", "NoRoot": "no root", "Outside": "header outside",
     "NameOpen": "name not ended", "NameBad": "bad name", "DataOutside": "data outside",
     "TargetLong": "target too long", "Twice": "linked twice", "SameName": "name twice",
     "LinkLoop": "link loop", "LinkDirectory": "link to directory", "MajorLarge": "major too large",
-    "HeaderSum": "bad header sum", "Deep": "too deep",
+    "HeaderSum": "bad header sum", "Deep": "too deep", "Attributes": "bad attributes",
 }
 ORDER = list(TEXTS)
 HARD, DIRECTORY, REGULAR, SYMLINK, BLOCK, CHARACTER, SOCKET, FIFO = range(8)
@@ -44,11 +46,13 @@ def text_at(image, place):
 
 
 class Image:
-    """The accessible bytes of an image that keeps the rules of the volume header. Headers are named by their offset."""
+    """The accessible bytes of an image that keeps the rules of the volume header. Headers are named by their offset. With
+    attributes the rows of its trailer are those of its nodes, which then keeps its rule."""
 
-    def __init__(self, data):
+    def __init__(self, data, attributes=False):
         self.data = data[:word(data, 8)]
         self.root = 16 + padded(len(text_at(self.data, 16)) + 1)
+        self.rows = plain_attributes.rows(data) if attributes else {}
 
     def inside(self, h):
         return self.root <= h and h + 16 <= len(self.data)
@@ -247,10 +251,14 @@ def least(faults):
     return min(faults, key=lambda it: (it[1], ORDER.index(it[0])), default=None)
 
 
-def fault(data, strict=False):
-    """The fault of some bytes as (rule, place), or None for a sound image. Only strictly are header sums looked at."""
+def fault(data, strict=False, attributes=False):
+    """The fault of some bytes as (rule, place), or None for a sound image. Only strictly are header sums looked at, and only
+    with attributes its trailer."""
     found = volume_fault(data)
     if found:
         return found
     image = Image(data)
-    return least(header_faults(image, strict)) or least(deep_faults(image))
+    found = least(header_faults(image, strict)) or least(deep_faults(image))
+    if found is None and attributes and plain_attributes.is_broken(data):
+        return "Attributes", plain_attributes.place(data)
+    return found

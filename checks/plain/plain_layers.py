@@ -3,6 +3,7 @@
 Written from the OCI image specification (its chapter on layers) and with Python's tarfile, not from tools/layers.py. A
 path is a tuple of names; a tree is a dict of nodes by path, of which () is the root.
 """
+import decimal
 import io
 import tarfile
 
@@ -19,13 +20,21 @@ class Impossible(Exception):
 
 
 class Node:
-    """What stands at a path, or at several by hard links."""
+    """What stands at a path, or at several by hard links. The row is its mode's low bits, owner, group, and last change in
+    seconds and nanoseconds, as its entry says them; None where no entry does."""
 
     def __init__(self, layer, kind, executable, data=b"", rdev=0):
         self.layer, self.kind, self.executable, self.data, self.rdev = layer, kind, executable, data, rdev
+        self.row = None
 
     def mode(self):
         return MODES[self.kind][self.executable]
+
+    def attributes(self):
+        """The same with the whole mode; of what no entry says anything it is root's, of 1970."""
+        if self.row is None:
+            return (self.mode(), 0, 0, 0, 0)
+        return (self.mode() & 0o170000 | self.row[0], *self.row[1:])
 
 
 def raw(text):
@@ -37,6 +46,16 @@ def names_of(text):
     if b".." in names or any(len(name) > 255 for name in names) or len(names) > 512:
         raise Impossible(text)
     return names
+
+
+def row_of(info):
+    """What an entry says. Linux has one mode for symbolic links, and shows an owner that it can't say as 65534."""
+    mode = 0o777 if info.issym() else info.mode & 0o7777
+    owners = [it if 0 <= it < 2 ** 32 else 65534 for it in (info.uid, info.gid)]
+    with decimal.localcontext() as context:
+        context.prec, context.rounding = 400, decimal.ROUND_DOWN
+        count = int((decimal.Decimal(info.pax_headers.get("mtime") or int(info.mtime)) * 10 ** 9).to_integral_value())
+    return (mode, *owners, *divmod(count, 10 ** 9))
 
 
 def without(tree, path):
@@ -89,12 +108,13 @@ def tree_of(layer, archive):
                     raise Impossible("hard link to a directory")
             else:
                 node = node_of(layer, tar, info)
+                node.row = row_of(info)
             if path and path[-1].startswith(MARKER) and is_below_file(tree, path):
                 continue
             add_parents(tree, layer, path)
             there = tree.get(path)
             if isinstance(node, Node) and node.kind == DIRECTORY and isinstance(there, Node) and there.kind == DIRECTORY:
-                there.executable = node.executable
+                there.executable, there.row = node.executable, node.row
             elif node is not there:
                 tree = without(tree, path)
                 tree[path] = node
@@ -126,6 +146,8 @@ def laid(lower, upper):
             continue
         if path in shown and DIRECTORY != shown[path].kind or node.kind != DIRECTORY:
             shown = without(shown, path)
+        if node.kind == DIRECTORY and node.row is None and path in shown:
+            node.row = shown[path].row
         shown = {**shown, path: node}
     return shown
 

@@ -62,9 +62,11 @@ def with_data(unique, data):
     return struct.pack("<IiQ", 16 + len(data), 0, unique) + data
 
 
-def attr(ino, size, mode, nlink, rdev=0):
-    """struct fuse_attr: times, owners and flags are 0, blocks are of 512 bytes."""
-    return struct.pack("<6Q10I", ino, size, (size + 511) // 512, 0, 0, 0, 0, 0, 0, mode, nlink, 0, 0, rdev, 4096, 0)
+def attr(ino, size, attributes, nlink, rdev=0):
+    """struct fuse_attr: all three times are the same, flags are 0, blocks are of 512 bytes."""
+    mode, user, group, seconds, nanoseconds = attributes
+    return struct.pack("<3Q3q10I", ino, size, (size + 511) // 512, *[seconds] * 3, *[nanoseconds] * 3, mode, nlink, user, group,
+                       rdev, 4096, 0)
 
 
 def attr_out(attributes):
@@ -214,7 +216,7 @@ class Session:
 
     def attr(self, node):
         stack = self.stack
-        return attr(node, stack.size(node), stack.mode(node), stack.nlink(node), stack.rdev(node))
+        return attr(node, stack.size(node), stack.attributes(node), stack.nlink(node), stack.rdev(node))
 
     def look_up(self, node, name):
         found = self.found(node, name)

@@ -67,10 +67,10 @@ def shown_paths(layers):
 
 
 class Stack:
-    """The nodes of some images, the lowest layer first, by number."""
+    """The nodes of some images, the lowest layer first, by number. Those without a row of attributes belong to the owner."""
 
-    def __init__(self, images):
-        self.layers = [Layer(image) for image in images]
+    def __init__(self, images, owner=(0, 0)):
+        self.layers, self.owner = [Layer(image) for image in images], owner
         self.places, self.paths = [None], {}
         self.first_path, self.names, self.rows = {}, {}, {}
         numbers = {}
@@ -113,9 +113,17 @@ class Stack:
         image, h = self.header(number)
         return image.body(h)
 
-    def mode(self, number):
+    def attributes(self, number):
+        """A node's mode, user, group, and its last change in seconds and nanoseconds."""
         image, h = self.header(number)
-        return MODES[image.kind(h)][image.executable(h)]
+        mode = MODES[image.kind(h)][image.executable(h)]
+        if h not in image.rows:
+            return (mode, *self.owner, 0, 0)
+        row = image.rows[h]
+        return (mode & 0o170000 | row.mode, row.uid, row.gid, row.seconds, row.nanoseconds)
+
+    def mode(self, number):
+        return self.attributes(number)[0]
 
     def size(self, number):
         image, h = self.header(number)

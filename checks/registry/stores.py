@@ -8,6 +8,7 @@ import stat
 import subprocess
 
 from checks import ROOT
+from checks.plain import plain
 from checks.registry import made
 from checks.registry.rooms import LAYERS, LeftOut, hold, shown_by
 
@@ -150,6 +151,41 @@ def check_shared(room):
     hold("nothing stays", ([], []), (room.blobs(), os.listdir(os.path.join(room.store, "made"))))
 
 
+def shown_with_attributes(room, name, store):
+    """What the layers of an image in a store show by the plain reading: mode, owner and last change."""
+    images = []
+    for path in mounted_layers(room, name, store):
+        with open(path, "rb") as file:
+            images.append(file.read())
+    stack = plain.stack_of(images, True, True)
+    return {"/" + b"/".join(path).decode(): stack.attributes(number) for path, number in stack.paths.items()}
+
+
+def check_rows_of_the_layers_below(room):
+    """A layer that implies folders has the rows that they have below it, over whichever layers it came into the store first."""
+    upper = made.archive(made.entry("etc/name", b"x", uid=9), made.entry("new/x", b"x"))
+    lower = [made.archive(made.folder(".", 0o711, uid=it), made.folder("etc", 0o700, gid=it, mtime=it)) for it in (1, 2)]
+    sources = [made.layout(room.name(), [it, upper]) for it in lower]
+    blobs = []
+    for order in ((0, 1), (1, 0)):
+        store = room.name()
+        for number, new in [(it, 2) for it in order] + [(it, 0) for it in order]:
+            hold("printed", "a%d:1: 2 layers, %d of them new\n" % (number, new),
+                 room.layers("pull", "oci:" + sources[number].path, "a%d:1" % number, store=store))
+        blobs.append(room.blobs(store))
+        for number, it in ((0, 1), (1, 2)):
+            hold("shown", {"/": (0o040711, it, 0, 0, 0), "/etc": (0o040700, 0, it, it, 0), "/etc/name": (0o100644, 9, 0, 0, 0),
+                           "/new": (0o040755, 0, 0, 0, 0), "/new/x": (0o100644, 0, 0, 0, 0)},
+                 shown_with_attributes(room, "a%d:1" % number, store))
+        hold("left", [], os.listdir(os.path.join(store, "new")))
+        hold("verified", "", room.layers("verify", store=store))
+    hold("the same layers", *blobs)
+    out, again = room.name(), room.name()
+    room.layers("convert", sources[0].path, out, store=store)
+    room.layers("convert", sources[0].path, again, store=room.name())
+    hold("the same bytes in another store", files_of(out), files_of(again))
+
+
 def check_names(room):
     """A name that is none is refused before anything is written."""
     source = made.layout(room.name())
@@ -230,5 +266,5 @@ def check_version(room):
     hold("version", "strata-layers %s\n" % version, room.ran("python3", "-B", LAYERS, "--version"))
 
 
-CHECKS = [check_convert, check_compress, check_platforms, check_pull, check_shared, check_names, check_config, check_lost,
-          check_other_forms, check_version]
+CHECKS = [check_convert, check_compress, check_platforms, check_pull, check_shared, check_rows_of_the_layers_below, check_names,
+          check_config, check_lost, check_other_forms, check_version]

@@ -1,4 +1,4 @@
-"""Lays out romfs images and FUSE requests, for the demo, the benchmarks and the fuzzing."""
+"""Lays out romfs images, their attribute trailers and FUSE requests, for the demo, the benchmarks, the cases and the fuzzing."""
 import struct
 
 from checks.plain.plain_images import padded
@@ -35,6 +35,14 @@ def volume(name):
 def finished(parts):
     data = b"".join(parts)
     return seal(data[:8] + struct.pack(">I", len(data)) + data[12:])
+
+
+def trailer(rows, count=None):
+    """An attribute trailer whose sum is right. A row is an offset, mode, user, group, seconds, nanoseconds and 0."""
+    begin = b"-attr01-" + struct.pack(">I", len(rows) if count is None else count)
+    body = b"".join(struct.pack(">4Iq2I", *row) for row in rows)
+    total = sum(struct.unpack(">%dI" % ((len(begin) + len(body)) // 4), begin + body))
+    return begin + struct.pack(">I", -total & 0xffffffff) + body
 
 
 def request(opcode, unique, node, body=b""):

@@ -1,6 +1,7 @@
 """Replies as lines, as `2 entry node 2 ino 2 size 43 mode 100755 nlink 1`: their bytes, and the lines of bytes.
 
-A line begins with the request's unique. Valid times, generation, owners and times are those that strata gives.
+A line begins with the request's unique. Valid times and generation are those that strata gives. Behind the number of names may
+stand `rdev 259`, `owner 1000:100` and `time -2.750000000`, each of which is 0 where it isn't said.
 """
 import struct
 
@@ -14,7 +15,13 @@ TYPES = {name: number for number, name in KINDS.items()}
 def attr_of(words):
     ino, size, mode = words.number_of("ino"), words.number_of("size"), words.number_of("mode", 8)
     nlink = words.number_of("nlink")
-    return plain.attr(ino, size, mode, nlink, words.number() if words.take("rdev") else 0)
+    rdev = words.number() if words.take("rdev") else 0
+    user, _, group = (words.next() if words.take("owner") else "0:0").partition(":")
+    seconds, _, nanoseconds = (words.next() if words.take("time") else "0.0").partition(".")
+    try:
+        return plain.attr(ino, size, (mode, int(user), int(group), int(seconds), int(nanoseconds)), nlink, rdev)
+    except (ValueError, struct.error):
+        raise Wrong("no good owner or time") from None
 
 
 def entry_of(words):

@@ -1,0 +1,87 @@
+"""`attributes`: adds an attribute trailer to an image that genromfs made of a folder."""
+import os
+import stat
+
+import romfs
+import trailer
+from read_romfs import ReadImage
+from refused import Refused, shown
+
+KINDS = {romfs.DIRECTORY: stat.S_IFDIR, romfs.REGULAR: stat.S_IFREG, romfs.SYMLINK: stat.S_IFLNK,
+         romfs.BLOCK: stat.S_IFBLK, romfs.CHARACTER: stat.S_IFCHR, romfs.SOCKET: stat.S_IFSOCK,
+         romfs.FIFO: stat.S_IFIFO}
+PIECE = 1 << 20
+
+
+def said_by(found):
+    """What the row of a file says, by what the system says of that."""
+    seconds, nanoseconds = divmod(found.st_mtime_ns, trailer.SECOND)
+    mode = 0o777 if stat.S_ISLNK(found.st_mode) else stat.S_IMODE(found.st_mode)
+    return trailer.said(mode, found.st_uid, found.st_gid, seconds, nanoseconds)
+
+
+def names_of_devices(folder):
+    """The devices that genromfs makes of plain files, `@NAME,KIND,MAJOR,MINOR`. Nothing in the folder
+    says what they are like."""
+    return {name[1:].split(b",")[0] for name in os.listdir(folder) if name[:1] == b"@" and b"," in name}
+
+
+class Reading:
+    """An image, the folder that it was made of, and what is said of the one by the other."""
+
+    def __init__(self, image, folder, lost):
+        self.image, self.folder, self.lost, self.rows = image, folder, lost, {}
+
+    def read(self):
+        """What all rows say, by the offsets of headers."""
+        todo = [((), self.image.root)]
+        while todo:
+            path, at = todo.pop()
+            if at in self.rows:
+                continue
+            self.note(path, at)
+            below = self.image.members(at) if self.image.is_folder(at) else {}
+            devices = names_of_devices(self.place(path)) if below else ()
+            for name, header in below.items():
+                end = self.image.end(header)
+                if end is None:
+                    raise Refused("no sound image of romfs")
+                if name not in devices or os.path.lexists(self.place((*path, name))):
+                    todo.append(((*path, name), end))
+        return self.rows
+
+    def place(self, path):
+        return os.path.join(self.folder, *path)
+
+    def note(self, path, at):
+        found = os.lstat(self.place(path))
+        if stat.S_IFMT(found.st_mode) != KINDS.get(self.image.header(at)[1]):
+            raise Refused("%s: is of another kind in the image" % shown(self.place(path)))
+        self.rows[at] = said_by(found)
+        names = os.listxattr(self.place(path), follow_symlinks=False)
+        if names:
+            self.lost.name("attributes", shown(self.place(path)), shown(",".join(sorted(names))))
+
+
+def check_behind(number, full):
+    """Sees that nothing but zeros and a trailer stand behind the full size of an image."""
+    at = trailer.place_of(full)
+    if os.pread(number, len(trailer.MAGIC), at) == trailer.MAGIC:
+        return
+    for data in iter(lambda: os.pread(number, PIECE, at), b""):
+        if data.strip(b"\0"):
+            raise Refused("something else than a trailer stands behind its full size")
+        at += len(data)
+
+
+def add_attributes(folder, path, lost):
+    """Adds a trailer to the image at a path; how many rows it has."""
+    with open(path, "r+b", 0) as file:
+        try:
+            image = ReadImage(file.fileno())
+            check_behind(file.fileno(), image.full)
+            rows = Reading(image, os.fsencode(folder), lost).read()
+        except Refused as refused:
+            raise Refused("%s: %s" % (shown(os.fsencode(path)), refused)) from None
+        trailer.write_trailer(file.fileno(), image.full, rows)
+    return len(rows)
