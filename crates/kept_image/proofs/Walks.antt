@@ -1,0 +1,316 @@
+-- A walk over headers: each place that was noted waits or is done. A turn keeps this (under_turn), each
+-- turn takes one from what may still be noted and waits (few_places), and with nothing left to wait what
+-- was kept is closed (gathered).
+use Rattle.std.proofs.Common.{◌≡◌, ◌≢◌, ◌∙◌, sym, ap, subst, ℕ, zero, suc, ◌+◌, ◌-◌, ◌*◌, ◌/◌, ◌%◌, ◌^◌, ◌<◌, ◌≤◌, ◌==◌, ◌⊎◌, inl, inr, min, List, [], ◌∷◌, ◌++◌, length, take, drop, get_or, Bool, IsTrue, true, false, cond, if◌then◌else◌, Option, Some, None, refl, arith, length-append, length-take, length-take-le}
+use Rattle.std.specs.Prelude.{nat_le}
+use Rattle.std.specs.Option.{option_map_or}
+use Rattle.std.specs.List.{Contains}
+use Rattle.std.specs.List.Sorted.{IsStrictlySortedBy}
+use Rattle.std.specs.Ordering.{nat_cmp, is_eq}
+use Rattle.std.specs.declared.cmp.Ordering.{Ordering}
+use Rattle.std.specs.declared.cmp.Ordering.TheVariants.{Less, Equal, Greater}
+use Rattle.std.proofs.lemmas.Map.Lookups.{exact_unsigned}
+use Rattle.std.proofs.lemmas.Map.Keys.{below_from_sorted}
+use Rattle.std.proofs.lemmas.Bool.{cases_lt, eqb-true}
+use Rattle.std.proofs.lemmas.Bool.Decides.{nat_tests}
+use Rattle.std.proofs.lemmas.List.{get_or_append_left, get_or_at, get_or-take, get_or_past, append-nil, nil_from_length}
+use Rattle.std.proofs.lemmas.List.Elements.{Contains-append_left, Contains-push, Contains-push_cases}
+use Rattle.romfs_format.specs.declared.head.Kind.TheVariants.{Directory, HardLink}
+use Rattle.romfs_format.specs.declared.limits.TheConstants.{HEAD_SIZE}
+use Rattle.romfs_format.specs.Fields.{word, root, IsInside, kind_of, kind, next, spec, cleared, text_end}
+use Rattle.image_bytes.specs.Contents.{IsSizeOf}
+use Rattle.kept_image.specs.declared.pieces.Piece.{Piece}
+use Rattle.kept_image.specs.Pieces.{HasBlock, AreRight, IsFilled}
+use Rattle.kept_image.specs.Reads.{AreWithin, HasBytesAt, IsReadAt, AreAdded}
+use Rattle.kept_image.specs.Footprint.{IsClosed, is_same, reach}
+use Rattle.kept_image.specs.Gathered.{IsGathered, IsReach}
+use Rattle.kept_image.specs.Walk.{HasText, HasTarget, IsVisit, HasVisited, IsFrontAdded, HasFront, HasPushed, GoesDown, IsDone, IsWalking, IsUnderWay, HasWalked}
+use Rattle.kept_image.proofs.Fields.{word_same}
+
+-- how many bytes are looked at, by the first of them
+module _ (b front : List ℕ) (whole : ℕ) (long : whole ≡ min (length b) 4294967295) (h : HasBytesAt (take whole b) 0 front)
+    (n : length front ≡ 512) where
+  full_word : word front 8 ≡ word b 8
+  full_word = word_same front b 8 8 (λ i l. h.same (8 + i) (omega arith)
+      ∙ ap (λ k. get_or (take whole b) k 0) (let e : 0 + (8 + i) ≡ 8 + i = omega arith in e)
+      ∙ elim (cases_lt (8 + i) whole) [
+        | inl m ↦ get_or-take whole b (8 + i) 0 m
+        | inr m ↦ get_or_past (take whole b) (8 + i) 0 (let t = length-take whole b in omega arith)
+            ∙ sym (get_or_past b (8 + i) 0 (omega arith))
+      ])
+
+  reach_is : (full size : ℕ) → full ≡ word front 8 → full < 4294967296 → size ≡ min whole (if nat_le HEAD_SIZE full then full else HEAD_SIZE)
+      → size ≡ reach b
+  reach_is full size e l s = s ∙ rw (e ∙ full_word) (clip (word b 8) (omega (arith, e ∙ full_word)))
+    where
+      clip : (w : ℕ) → w < 4294967296 → min whole (if nat_le HEAD_SIZE w then w else HEAD_SIZE) ≡ min (length b) (if nat_le HEAD_SIZE w then w else HEAD_SIZE)
+      clip w l = elim (cases_lt w HEAD_SIZE) [
+        | inl m ↦ (let f : (if nat_le HEAD_SIZE w then w else HEAD_SIZE) ≡ HEAD_SIZE = grind (arith, nat_tests) in omega arith)
+        | inr m ↦ (let f : (if nat_le HEAD_SIZE w then w else HEAD_SIZE) ≡ w = grind (arith, nat_tests) in omega arith)
+      ]
+
+pub reached : (known : Option (List ℕ)) (whole full size : ℕ) (front : List ℕ) (len : ℕ) → IsSizeOf known len → whole ≡ min len 4294967295
+    → IsReadAt known whole 0 front → length front ≡ 512 → full ≡ word front 8 → full < 4294967296
+    → size ≡ min whole (if nat_le HEAD_SIZE full then full else HEAD_SIZE) → IsReach known size
+reached None whole full size front len l w r n f s e = tt
+reached (Some b) whole full size front len l w r n f s e = reach_is b front whole (w ∙ ap (λ k. min k 4294967295) l) r n full size f s e
+
+pub size_within : (known : Option (List ℕ)) (whole len : ℕ) → IsSizeOf known len → whole ≤ len → AreWithin known whole
+size_within None whole len l w = tt
+size_within (Some b) whole len l w = omega arith
+
+-- the first bytes
+pub front_added : (known : Option (List ℕ)) (size root_at : ℕ) (front : List ℕ) (old new : List Piece) → AreWithin known size → old ≡ []
+    → IsReadAt known size 0 front → AreAdded known size 0 32 old new
+    → ((xs : List ℕ) → length xs ≡ size → HasBytesAt xs 0 front → root_at ≡ root xs) → HasFront known size root_at new
+front_added None size root_at front old new w e r a f = tt
+front_added (Some b) size root_at front old new w e r a f = record {
+  right = a.right (subst (λ l. AreRight (take size b) l) (sym e) none);
+  has = λ i l. a.has i l;
+  is = f (take size b) (length-take-le size b w) r;
+}
+  where
+    none : AreRight (take size b) []
+    none = record { each = λ x c. absurd (let l = c.1 in omega arith) }
+
+-- what a key adds to a set of numbers
+pub record Adds (old new : ℕ → Bool) (at : ℕ) : Type 0 where
+  pub grows : (h : ℕ) → IsTrue (old h) → IsTrue (new h)
+  pub has : IsTrue (new at)
+  pub only : (h : ℕ) → IsTrue (new h) → IsTrue (old h) ⊎ (h ≡ at)
+
+pub adds_key : (old new : ℕ → Bool) (at : ℕ) → ((q : ℕ) → new q ≡ cond (is_eq (nat_cmp at q)) true (old q)) → new at ≡ true → Adds old new at
+adds_key old new at u t = record {
+  grows = λ h s. grown h (is_eq (nat_cmp at h)) (u h) s;
+  has = t;
+  only = λ h s. either h (is_eq (nat_cmp at h)) refl (sym (u h) ∙ s);
+}
+  where
+    grown : (h : ℕ) (b : Bool) → new h ≡ cond b true (old h) → IsTrue (old h) → IsTrue (new h)
+    grown h true e s = e
+    grown h false e s = e ∙ s
+
+    equal_keys : (x y : ℕ) (o : Ordering) → nat_cmp x y ≡ o → is_eq o ≡ true → x ≡ y
+    equal_keys x y Less e s = absurd (cc)
+    equal_keys x y Equal e s = exact_unsigned x y e
+    equal_keys x y Greater e s = absurd (cc)
+
+    either : (h : ℕ) (b : Bool) → is_eq (nat_cmp at h) ≡ b → cond b true (old h) ≡ true → IsTrue (old h) ⊎ (h ≡ at)
+    either h true e s = inr (sym (equal_keys at h (nat_cmp at h) refl e))
+    either h false e s = inl s
+
+-- what is noted
+pub pushed_none : (todo : List ℕ) (noted : ℕ → Bool) (test : Bool) (place : ℕ) → (IsTrue test → ⊥) → HasPushed todo todo noted noted test place
+pushed_none todo noted test place n = record {
+  grown = λ h c. c;
+  from = λ h c. inl c;
+  stays = λ h s. s;
+  has = λ t. absurd (n t);
+  only = λ h s. inl s;
+}
+
+pub pushed_again : (todo : List ℕ) (old new : ℕ → Bool) (test : Bool) (place : ℕ) → Adds old new place → IsTrue (old place)
+    → HasPushed todo todo old new test place
+pushed_again todo old new test place a o = record {
+  grown = λ h c. c;
+  from = λ h c. inl c;
+  stays = a.grows;
+  has = λ t. a.has;
+  only = λ h s. elim (a.only h s) [
+    | inl x ↦ inl x
+    | inr e ↦ inl (subst (λ k. IsTrue (old k)) (sym e) o)
+  ];
+}
+
+pub pushed_one : (todo more : List ℕ) (old new : ℕ → Bool) (test : Bool) (place : ℕ) → Adds old new place → more ≡ todo ++ place ∷ []
+    → HasPushed todo more old new test place
+pushed_one todo more old new test place a e = subst (λ l. HasPushed todo l old new test place) (sym e) (record {
+  grown = λ h c. Contains-append_left todo (place ∷ []) h c;
+  from = λ h c. elim (Contains-push_cases todo place h c) [
+    | inl x ↦ inl x
+    | inr f ↦ inr (sym f)
+  ];
+  stays = a.grows;
+  has = λ t. a.has;
+  only = λ h s. elim (a.only h s) [
+    | inl x ↦ inl x
+    | inr f ↦ inr (f, subst (λ k. Contains (todo ++ place ∷ []) k) (sym f) (Contains-push todo place))
+  ];
+})
+
+-- places of headers are multiples of 16 that fit a word, so there are few
+pub record IsPlace (h : ℕ) : Type 0 where
+  pub even : h % 16 ≡ 0
+  pub small : h < 2 ^ 32
+
+pub few_places : (keys : List ℕ) → IsStrictlySortedBy nat_cmp keys → ((i : ℕ) → i < length keys → IsPlace (get_or keys i 0))
+    → length keys ≤ 2 ^ 28
+few_places keys s p = elim (cases_lt (2 ^ 28) (length keys)) [
+  | inl l ↦ absurd (let a = at (2 ^ 28) l in let b = (p (2 ^ 28) l).small in omega arith)
+  | inr l ↦ l
+]
+  where
+    at : (k : ℕ) → k < length keys → 16 * k ≤ get_or keys k 0
+    at zero l = omega arith
+    at (suc k) l =
+        let a = at k (omega arith) in
+        let b = below_from_sorted keys k (suc k) 0 s (omega arith) l in
+        let c = (p k (omega arith)).even in
+        let d = (p (suc k) l).even in
+        omega arith
+
+still_text : (xs : List ℕ) (old new : List Piece) (p : ℕ) → ((b : ℕ) → HasBlock old b → HasBlock new b) → HasText old xs p → HasText new xs p
+still_text xs old new p s t = record { each = λ i l m n. s ((p + i) / 16) (t.each i l m n) }
+
+still_target : (xs : List ℕ) (old new : List Piece) (h : ℕ) → ((b : ℕ) → HasBlock old b → HasBlock new b) → HasTarget old xs h → HasTarget new xs h
+still_target xs old new h s t = record { each = λ k l n e i m o. s _ (t.each k l n e i m o) }
+
+module _ (start at end : ℕ) (old new : List Piece) (before todo mid after : List ℕ) (noted more most : ℕ → Bool) (first second : ℕ) (test down : Bool)
+    (popped : before ≡ todo ++ at ∷ [])
+    (one : HasPushed todo mid noted more test (cleared first)) (two : HasPushed mid after more most down (cleared second))
+    (goes : start ≤ at → at + 16 ≤ end → cleared first ≢ 0 → IsTrue test)
+    (at_start : at ≡ start → IsTrue down)
+    (directory : start ≤ at → at + 16 ≤ end → kind_of (first % 8) ≡ Directory → IsTrue down)
+    (link : start ≤ at → at + 16 ≤ end → kind_of (first % 8) ≡ HardLink → IsTrue down) where
+  module _ (xs : List ℕ) (long : length xs ≡ end) (is_root : start ≡ root xs) (w : IsWalking xs old before noted)
+      (v : IsVisit xs at old new first second) where
+    next_noted : IsInside xs at → next xs at ≢ 0 → IsTrue (most (next xs at))
+    next_noted i n =
+        let i0 = i.0 in
+        let i1 = i.1 in
+        let e : cleared first ≡ next xs at = ap cleared v.first_is in
+        two.stays (next xs at) (subst (λ h. IsTrue (more h)) e (one.has (goes (omega arith) (omega arith) (λ z. n (sym e ∙ z)))))
+
+    spec_noted : GoesDown xs at → IsTrue (most (cleared (spec xs at)))
+    spec_noted g =
+        let e : cleared second ≡ cleared (spec xs at) = ap cleared v.second_is in
+        let k : kind_of (first % 8) ≡ kind xs at = ap (λ n. kind_of (n % 8)) v.first_is in
+        subst (λ h. IsTrue (most h)) e (two.has (elim g [
+          | inl r ↦ at_start (r ∙ sym is_root)
+          | inr x ↦ (let x0 = x.0.0 in let x1 = x.0.1 in elim (x.1) [
+            | inl d ↦ directory (omega arith) (omega arith) (k ∙ d)
+            | inr l ↦ link (omega arith) (omega arith) (k ∙ l)
+          ])
+        ]))
+
+    done_at : IsDone xs new most at
+    done_at = record { head = v.head; text = v.text; target = v.target; to_next = next_noted; to_spec = spec_noted }
+
+    still_done : (h : ℕ) → IsDone xs old noted h → IsDone xs new most h
+    still_done h d = record {
+      head = v.stays (h / 16) d.head;
+      text = still_text xs old new (h + 16) v.stays d.text;
+      target = still_target xs old new h v.stays d.target;
+      to_next = λ i n. two.stays _ (one.stays _ (d.to_next i n));
+      to_spec = λ g. two.stays _ (one.stays _ (d.to_spec g));
+    }
+
+    from_old : (h : ℕ) → IsTrue (noted h) → Contains after h ⊎ IsDone xs new most h
+    from_old h s = elim (w.each h s) [
+      | inl c ↦ elim (Contains-push_cases todo at h (subst (λ l. Contains l h) popped c)) [
+        | inl d ↦ inl (two.grown h (one.grown h d))
+        | inr e ↦ inr (subst (λ k. IsDone xs new most k) e done_at)
+      ]
+      | inr d ↦ inr (still_done h d)
+    ]
+
+    turned : IsWalking xs new after most
+    turned = record {
+      right = v.right w.right;
+      front = λ i l. v.stays i (w.front i l);
+      at_root = two.stays _ (one.stays _ w.at_root);
+      each = λ h s. elim (two.only h s) [
+        | inl m ↦ elim (one.only h m) [
+          | inl o ↦ from_old h o
+          | inr e ↦ inl (two.grown h e.1)
+        ]
+        | inr e ↦ inl e.1
+      ];
+    }
+
+  pub under_turn : (known : Option (List ℕ)) → AreWithin known end → IsUnderWay known end start old before noted
+      → HasVisited known end at old new first second → IsUnderWay known end start new after most
+  under_turn None l u v = tt
+  under_turn (Some b) l u v = (u.0, turned (take end b) (length-take-le end b l) u.0 u.1 v)
+
+-- the places that wait or are noted stay places
+pub places_turn : (old new : ℕ → Bool) (todo more : List ℕ) (test : Bool) (place : ℕ) → HasPushed todo more old new test place → IsPlace place
+    → ((h : ℕ) → IsTrue (old h) → IsPlace h) → (h : ℕ) → IsTrue (new h) → IsPlace h
+places_turn old new todo more test place p is o h s = elim (p.only h s) [
+  | inl x ↦ o h x
+  | inr e ↦ subst (λ k. IsPlace k) (sym e.0) is
+]
+
+pub waiting_turn : (old new : ℕ → Bool) (todo more : List ℕ) (test : Bool) (place : ℕ) → HasPushed todo more old new test place → IsPlace place
+    → ((h : ℕ) → Contains todo h → IsPlace h) → (h : ℕ) → Contains more h → IsPlace h
+waiting_turn old new todo more test place p is o h s = elim (p.from h s) [
+  | inl x ↦ o h x
+  | inr e ↦ subst (λ k. IsPlace k) (sym e) is
+]
+
+pub cleared_place : (n : ℕ) → n < 2 ^ 32 → IsPlace (cleared n)
+cleared_place n l = record { even = omega arith; small = omega arith }
+
+pub under_start : (known : Option (List ℕ)) (end start : ℕ) (pieces : List Piece) (none todo : List ℕ) (noted more : ℕ → Bool)
+    → HasFront known end start pieces → ((h : ℕ) → IsTrue (noted h) → ⊥) → HasPushed none todo noted more true start
+    → IsUnderWay known end start pieces todo more
+under_start None end start pieces none todo noted more f n p = tt
+under_start (Some b) end start pieces none todo noted more f n p = (
+  f.is,
+  record {
+    right = f.right;
+    front = f.has;
+    at_root = subst (λ h. IsTrue (more h)) f.is (p.has refl);
+    each = λ h s. elim (p.only h s) [
+      | inl x ↦ absurd (n h x)
+      | inr e ↦ inl e.1
+    ];
+  },
+)
+
+pub under_ends : (known : Option (List ℕ)) (end start : ℕ) (pieces : List Piece) (todo : List ℕ) (noted : ℕ → Bool) → todo ≡ []
+    → ((h : ℕ) → IsTrue (noted h) → IsPlace h) → IsUnderWay known end start pieces todo noted → HasWalked known end pieces
+under_ends None end start pieces todo noted e p u = tt
+under_ends (Some b) end start pieces todo noted e p u =
+    (noted, subst (λ l. IsWalking (take end b) pieces l noted) e u.1, λ h s. (p h s).even)
+
+same_byte : (x y : ℕ) → x ≡ y → IsTrue (x == y)
+same_byte x y e = grind (arith, nat_tests)
+
+module _ (xs a : List ℕ) (pieces : List Piece) (noted : ℕ → Bool) (size : ℕ) (long : length xs ≡ size)
+    (w : IsWalking xs pieces [] noted) (even : (h : ℕ) → IsTrue (noted h) → h % 16 ≡ 0) (filled : IsFilled pieces size a) where
+  kept_at : (p : ℕ) → p < length xs → HasBlock pieces (p / 16) → IsTrue (is_same xs a p)
+  kept_at p l h = same_byte _ _ (sym (filled.same xs w.right p (omega arith) h))
+
+  done : (h : ℕ) → IsTrue (noted h) → IsDone xs pieces noted h
+  done h s = elim (w.each h s) [
+    | inl c ↦ absurd (let l = c.1 in omega arith)
+    | inr d ↦ d
+  ]
+
+  down : (h : ℕ) → (h ≡ root xs) ⊎ (IsInside xs h × (kind xs h ≡ Directory)) → GoesDown xs h
+  down h (inl f) = inl f
+  down h (inr k) = inr (k.0, inl k.1)
+
+  closed : IsClosed (is_same xs a) noted xs
+  closed = record {
+    front = λ p l m. kept_at p m (w.front (p / 16) (omega arith));
+    at_root = w.at_root;
+    head = λ h i s l m. kept_at (h + i) m (subst (λ q. HasBlock pieces q)
+        (let e = even h s in let z : h / 16 ≡ (h + i) / 16 = omega arith in z) ((done h s).head));
+    text = λ h s. record { each = λ i l m n. kept_at (h + 16 + i) m ((done h s).text.each i l m n) };
+    target = λ h s. record { each = λ k l n e i m o. kept_at _ o ((done h s).target.each k l n e i m o) };
+    to_next = λ h s i n. (done h s).to_next i n;
+    to_first = λ h s d n. (done h s).to_spec (down h d);
+    to_link = λ h s i k. (done h s).to_spec (inr (i, inr k));
+  }
+
+pub gathered : (known : Option (List ℕ)) (size : ℕ) (pieces : List Piece) (a : List ℕ) → AreWithin known size → IsReach known size
+    → HasWalked known size pieces → length a ≡ size → IsFilled pieces size a → IsGathered known a
+gathered None size pieces a w r k l f = tt
+gathered (Some b) size pieces a w r k l f = record {
+  long = l ∙ r;
+  headers = k.0;
+  closed = subst (λ n. IsClosed (is_same (take n b) a) k.0 (take n b)) (sym l)
+      (closed (take size b) a pieces k.0 size (length-take-le size b w) k.1 k.2 f);
+}

@@ -1,0 +1,9 @@
+use Rattle.std.proofs.Common.{refl}
+use Rattle.kept_image.proofs.Collecting.{row_none, row_more}
+use Rattle.kept_image.proofs.pieces.add_row.Goals as goal
+
+pub loop-i-init : goal.loop-i-init
+loop-i-init g c = row_none _ _ _
+
+pub loop-i-preserved : goal.loop-i-preserved
+loop-i-preserved g c = row_more _ _ _ _ _ _ _ _ c.loop-i.invariant c.piece_of-piece.ensures.block refl c.piece_of-piece.ensures.bytes c.in_ok-add.ensures
