@@ -187,6 +187,26 @@ module _ (pieces : List Piece) (sorted : IsNonDecreasingBy (λ (x : Piece). x.bl
               (n, (let t : n < n + 1 = omega arith in t), is_block d ∙ sym (get_or_at blocks one.block [] 0 k (let f : length blocks ≡ k = omega arith in f))))
         ]
 
+-- the same of a loop's step
+module _ (pieces : List Piece) (sorted : IsNonDecreasingBy (λ (x : Piece). x.block) pieces) (blocks bytes last : List ℕ) (n : ℕ) (e : Piece)
+    (w : Joined pieces blocks bytes n) (l : n < length pieces) (same : last ≡ blocks) where
+  one : (d : Piece) → get_or pieces n d ≡ get_or pieces n e
+  one d = get_or_default pieces n d e l
+
+  pub step_again : (0 < length last) × ((get_or pieces n e).block ≤ get_or last (length last - 1) 0) → Joined pieces blocks bytes (n + 1)
+  step_again s = joined_again pieces sorted blocks bytes n (get_or pieces n e) w l one
+      (subst (λ k. (0 < length k) × ((get_or pieces n e).block ≤ get_or k (length k - 1) 0)) same s)
+
+  pub step_more : (more rest part : List ℕ) → (0 < length last → get_or last (length last - 1) 0 < (get_or pieces n e).block)
+      → part ≡ (get_or pieces n e).bytes → length part ≡ 16 → more ≡ blocks ++ (get_or pieces n e).block ∷ [] → rest ≡ bytes ++ part
+      → Joined pieces more rest (n + 1)
+  step_more more rest part above is whole f g =
+      subst (λ k. Joined pieces k rest (n + 1)) (sym f)
+      (subst (λ k. Joined pieces (blocks ++ (get_or pieces n e).block ∷ []) k (n + 1)) (sym (g ∙ ap (λ k. bytes ++ k) is))
+      (joined_more pieces sorted blocks bytes n (get_or pieces n e) w l one
+      (subst (λ k. 0 < length k → get_or k (length k - 1) 0 < (get_or pieces n e).block) same above)
+      (sym (ap length is) ∙ whole)))
+
 -- all pieces are joined
 pub joined_all : (pieces : List Piece) (blocks bytes : List ℕ) (n : ℕ) → n ≡ length pieces → Joined pieces blocks bytes n → IsPacked pieces blocks bytes
 joined_all pieces blocks bytes n e w = record {

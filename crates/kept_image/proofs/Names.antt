@@ -17,16 +17,16 @@ ends [] n e = absurd (cc)
 ends (zero ∷ xs) n e =
     let f : n ≡ [] = cc in
     subst (λ m. Ends (zero ∷ xs) m) (sym f) (record { long = omega arith; zero_at = refl; before = λ j l. absurd (omega arith) })
-ends (suc x ∷ xs) n e = more (ended xs) refl e
+ends (suc x ∷ xs) n e = more (λ m g. ends xs m g) (ended xs) refl e
   where
     later : (m : List ℕ) → Ends xs m → (j : ℕ) → j < length (suc x ∷ m) → get_or (suc x ∷ xs) j 0 ≢ 0
     later m r zero l w = absurd (cc)
     later m r (suc j) l w = r.before j (omega arith) w
 
-    more : (o : Option (List ℕ)) → ended xs ≡ o → option_map (λ text. suc x ∷ text) o ≡ Some n → Ends (suc x ∷ xs) n
-    more None g f = absurd (cc)
-    more (Some m) g f =
-        let r = ends xs m g in
+    more : ((m : List ℕ) → ended xs ≡ Some m → Ends xs m) → (o : Option (List ℕ)) → ended xs ≡ o → option_map (λ text. suc x ∷ text) o ≡ Some n → Ends (suc x ∷ xs) n
+    more rest None g f = absurd (cc)
+    more rest (Some m) g f =
+        let r = rest m g in
         let k : suc x ∷ m ≡ n = cc in
         subst (λ t. Ends (suc x ∷ xs) t) k (record {
           long = (let l = r.long in omega arith);

@@ -56,25 +56,20 @@ room_read (Some b) size at start count n bytes zeros room w h l m o c z e = reco
   same = λ i k. ap (λ r. get_or r i 0) e ∙ here i (let g = ap length e in let f = all_long in omega arith);
 }
   where
-    part : List ℕ
-    part = take count (drop (at - start) bytes)
-
-    part_long : length part ≡ count
-    unfolding part
+    part_long : length (take count (drop (at - start) bytes)) ≡ count
     part_long = (let d = length-drop (at - start) bytes in length-take-le count (drop (at - start) bytes) (omega arith))
 
-    all_long : length (part ++ drop count zeros) ≡ length zeros
-    all_long = (let a = length-append part (drop count zeros) in let p = part_long in let d = length-drop count zeros in omega arith)
+    all_long : length (take count (drop (at - start) bytes) ++ drop count zeros) ≡ length zeros
+    all_long = (let a = length-append (take count (drop (at - start) bytes)) (drop count zeros) in let p = part_long in let d = length-drop count zeros in omega arith)
 
-    here : (i : ℕ) → i < length zeros → get_or (part ++ drop count zeros) i 0 ≡ get_or (take size b) (at + i) 0
-    unfolding part
+    here : (i : ℕ) → i < length zeros → get_or (take count (drop (at - start) bytes) ++ drop count zeros) i 0 ≡ get_or (take size b) (at + i) 0
     here i k = elim (cases_lt i count) [
-      | inl q ↦ get_or_append_left part (drop count zeros) 0 i (let p = part_long in omega arith)
+      | inl q ↦ get_or_append_left (take count (drop (at - start) bytes)) (drop count zeros) 0 i (let p = part_long in omega arith)
           ∙ get_or-take count (drop (at - start) bytes) i 0 q ∙ get_or-drop (at - start) bytes i 0
           ∙ h.same (at - start + i) (omega arith)
           ∙ ap (λ x. get_or b x 0) (let f : start + (at - start + i) ≡ at + i = omega arith in f)
           ∙ sym (get_or-take size b (at + i) 0 (omega arith))
-      | inr q ↦ get_or-append_right part (drop count zeros) count i 0 part_long q
+      | inr q ↦ get_or-append_right (take count (drop (at - start) bytes)) (drop count zeros) count i 0 part_long q
           ∙ get_or-drop count zeros (i - count) 0
           ∙ ap (λ r. get_or r (count + (i - count)) 0) z ∙ all_zero n (count + (i - count))
           ∙ sym (get_or_past (take size b) (at + i) 0 (let t = length-take-le size b w in omega arith))

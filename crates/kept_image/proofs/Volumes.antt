@@ -1,7 +1,7 @@
 -- What was gathered of some bytes breaks the rules that they break (twins), and so has their fault
 -- (fault_goes): the volume's rules look at the first bytes and at the length, and where the full size
 -- is kept, the accessible bytes are what was gathered.
-use Rattle.std.proofs.Common.{◌≡◌, ◌≢◌, ◌∙◌, sym, ap, subst, ℕ, zero, suc, ◌+◌, ◌-◌, ◌*◌, ◌/◌, ◌%◌, ◌^◌, ◌<◌, ◌≤◌, ◌⊎◌, inl, inr, min, List, [], ◌∷◌, ◌++◌, Bool, IsTrue, length, take, drop, get_or, Option, Some, None, if◌then◌else◌, refl, arith, length-take, length-take-le, take-append-drop, take-all}
+use Rattle.std.proofs.Common.{◌≡◌, ◌≢◌, ◌∙◌, sym, ap, subst, ℕ, zero, suc, ◌+◌, ◌-◌, ◌*◌, ◌/◌, ◌%◌, ◌^◌, ◌<◌, ◌≤◌, ◌⊎◌, inl, inr, min, List, [], ◌∷◌, ◌++◌, Bool, IsTrue, length, take, drop, get_or, Option, Some, None, if◌then◌else◌, refl, arith, length-take, length-take-le, take-append-drop, take_all, ◌==◌}
 use Rattle.std.specs.Prelude.{nat_le, IsNone, codes}
 use Rattle.std.proofs.lemmas.Bool.{cases_lt, eqb-true}
 use Rattle.std.proofs.lemmas.Bool.Decides.{nat_tests}
@@ -163,7 +163,7 @@ module _ (b a : List ℕ) (g : IsGatheredOf b a) where
 
     image_a : image a ≡ a
     unfolding image
-    image_a = take-all (word a 8) a (let w = words in let s = size_is in omega arith)
+    image_a = take_all (word a 8) a (let w = words in let s = size_is in omega arith)
 
     image_b : image b ≡ take (length a) b
     unfolding image
@@ -217,10 +217,10 @@ module _ (b a : List ℕ) (g : IsGatheredOf b a) where
 
 -- two lists of which the volume looks the same, and that break the same rules where it keeps its full
 -- size
-record Twins (profile : Profile) (a b : List ℕ) : Type 0 where
-  volume : SameVolume a b
-  forth : 16 ≤ word a 8 → word a 8 ≤ length a → (r : Rule) (p : ℕ) → Breaks profile a r p → Breaks profile b r p
-  back : 16 ≤ word a 8 → word a 8 ≤ length a → (r : Rule) (p : ℕ) → Breaks profile b r p → Breaks profile a r p
+pub record Twins (profile : Profile) (a b : List ℕ) : Type 0 where
+  pub volume : SameVolume a b
+  pub forth : 16 ≤ word a 8 → word a 8 ≤ length a → (r : Rule) (p : ℕ) → Breaks profile a r p → Breaks profile b r p
+  pub back : 16 ≤ word a 8 → word a 8 ≤ length a → (r : Rule) (p : ℕ) → Breaks profile b r p → Breaks profile a r p
 
 full_or_not : (b : List ℕ) → ((16 ≤ word b 8) × (word b 8 ≤ length b)) ⊎ ((length b < word b 8) ⊎ (word b 8 < HEAD_SIZE))
 full_or_not b = elim (cases_lt (word b 8) 16) [

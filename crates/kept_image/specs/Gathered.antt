@@ -1,5 +1,5 @@
 -- What is kept of an image.
-use Rattle.std.specs.Prelude.{◌≡◌, ℕ, ◌×◌, List, length, take, Bool, Option, Some, None, ⊤}
+use Rattle.std.specs.Prelude.{◌≡◌, ℕ, List, length, take, Bool, Option, Some, None, ⊤}
 use Rattle.kept_image.specs.Footprint.{IsClosed, is_same, reach}
 
 -- the list is as long as what is looked at, and has its bytes at a closed set of headers

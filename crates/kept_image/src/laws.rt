@@ -1,6 +1,6 @@
 //! What holds of bytes that agree with what was kept of them.
 
-ghost use Rattle.std.specs.Prelude.{◌×◌, ◌≤◌, ℕ, List, Bool, Option, Some, length};
+ghost use Rattle.std.specs.Prelude.{◌≤◌, ℕ, List, Bool, Option, Some, length};
 ghost use Rattle.romfs_format.specs.declared.rule.Rule.{Rule};
 ghost use Rattle.romfs_format.specs.declared.rule.ImageFault.{ImageFault};
 ghost use Rattle.romfs_format.specs.declared.rule.Profile.{Profile};

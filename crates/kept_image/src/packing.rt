@@ -41,12 +41,21 @@ fn pack_sorted<A: Allocator + Copy>(
     let mut blocks = Vec::with_capacity(alloc, pieces.len())?;
     let mut bytes = Vec::with_capacity(alloc, pieces.len() * BLOCK_SIZE)?;
     for piece in pieces {
-        if is_above(&blocks, piece.block) {
-            blocks.push(piece.block)?;
-            bytes.extend_from_slice(&piece.bytes)?;
+        if !is_above(&blocks, piece.block) {
+            continue;
         }
+        blocks.push(piece.block)?;
+        bytes.extend_from_slice(bytes_of(piece))?;
     }
     Ok(Packed { blocks, bytes })
+}
+
+/// The bytes of a block.
+fn bytes_of(piece: &Piece) -> &[u8]
+    ensures value { result.now ≡ piece.now.bytes }
+    ensures whole { length result.now ≡ BLOCK_SIZE }
+{
+    &piece.bytes
 }
 
 /// Whether a block is above the last one.

@@ -5,7 +5,7 @@
 //! quarters of that one were kept: so headers that stand close together are read many at a time,
 //! and of the data between others little is read.
 
-ghost use Rattle.std.specs.Prelude.{◌≡◌, ◌+◌, ◌<◌, ◌≤◌, ◌^◌, ◌++◌, ◌×◌, length, take, drop, replicate, IsTrue, OnOk, IfErr};
+ghost use Rattle.std.specs.Prelude.{◌≡◌, ◌+◌, ◌<◌, ◌≤◌, ◌^◌, ◌++◌, length, take, drop, replicate, IsTrue, OnOk, IfErr};
 ghost use Rattle.kept_image.specs.Reads.{AreWithin, IsCause, IsHeld, IsReadAt};
 
 use crate::fault::GatherFault;
