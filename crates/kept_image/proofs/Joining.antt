@@ -197,10 +197,10 @@ module _ (pieces : List Piece) (sorted : IsNonDecreasingBy (λ (x : Piece). x.bl
   step_again s = joined_again pieces sorted blocks bytes n (get_or pieces n e) w l one
       (subst (λ k. (0 < length k) × ((get_or pieces n e).block ≤ get_or k (length k - 1) 0)) same s)
 
-  pub step_more : (more rest part : List ℕ) → (0 < length last → get_or last (length last - 1) 0 < (get_or pieces n e).block)
-      → part ≡ (get_or pieces n e).bytes → length part ≡ 16 → more ≡ blocks ++ (get_or pieces n e).block ∷ [] → rest ≡ bytes ++ part
-      → Joined pieces more rest (n + 1)
-  step_more more rest part above is whole f g =
+  pub step_more : (next rest part : List ℕ) → (0 < length last → get_or last (length last - 1) 0 < (get_or pieces n e).block)
+      → part ≡ (get_or pieces n e).bytes → length part ≡ 16 → next ≡ blocks ++ (get_or pieces n e).block ∷ [] → rest ≡ bytes ++ part
+      → Joined pieces next rest (n + 1)
+  step_more next rest part above is whole f g =
       subst (λ k. Joined pieces k rest (n + 1)) (sym f)
       (subst (λ k. Joined pieces (blocks ++ (get_or pieces n e).block ∷ []) k (n + 1)) (sym (g ∙ ap (λ k. bytes ++ k) is))
       (joined_more pieces sorted blocks bytes n (get_or pieces n e) w l one

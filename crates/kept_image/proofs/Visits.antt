@@ -39,30 +39,32 @@ row_added (Some b) size at first count bytes old new e few h r =
 
 -- the front of a room in which the name ends, or that is as long as a header and a name can be
 head_ended : (xs : List ℕ) (at count : ℕ) (room : List ℕ) → HasBytesAt xs at room → IsEnded room count → IsHeadAt xs at (take count room)
-head_ended xs at count room h e = record {
-  same = record { same = λ i l. get_or-take count room i 0 (omega arith) ∙ h.same i (let k = e.high in omega arith) };
-  low = (let k = e.low in omega arith);
-  whole = ap (λ n. n % 16) long ∙ e.whole;
-  runs = λ i l m z. e.runs i l (omega arith) (sym (get_or-take count room i 0 (omega arith)) ∙ z);
-  stops = λ l. (let s = e.stops in let s1 = s.1 in let s2 = s.2 in
-      (s.0, (omega arith), (omega arith), get_or-take count room s.0 0 s.1 ∙ s.3));
-}
-  where
-    long : length (take count room) ≡ count
-    long = length-take-le count room e.high
+head_ended xs at count room h e =
+    let long : length (take count room) ≡ count = length-take-le count room e.high in
+    let low = e.low in
+    let high = e.high in
+    let s = e.stops in
+    let s1 = s.1 in
+    let s2 = s.2 in
+    record {
+      same = record { same = λ i l. get_or-take count room i 0 (omega arith) ∙ h.same i (omega arith) };
+      low = omega arith;
+      whole = ap (λ n. n % 16) long ∙ e.whole;
+      runs = λ i l m z. e.runs i l (omega arith) (sym (get_or-take count room i 0 (omega arith)) ∙ z);
+      stops = λ l. (s.0, (omega arith), (omega arith), get_or-take count room s.0 0 s.1 ∙ s.3);
+    }
 
 head_unended : (xs : List ℕ) (at count : ℕ) (room : List ℕ) → HasBytesAt xs at room → length room ≡ 272 → count ≡ 272 → IsUnended room
     → IsHeadAt xs at (take count room)
-head_unended xs at count room h n c u = record {
-  same = record { same = λ i l. get_or-take count room i 0 (omega arith) ∙ h.same i (omega arith) };
-  low = omega arith;
-  whole = ap (λ k. k % 16) (long ∙ c);
-  runs = λ i l m z. u.runs i l (omega arith) (sym (get_or-take count room i 0 (omega arith)) ∙ z);
-  stops = λ l. absurd (omega arith);
-}
-  where
-    long : length (take count room) ≡ count
-    long = length-take-le count room (omega arith)
+head_unended xs at count room h n c u =
+    let long : length (take count room) ≡ count = length-take-le count room (omega arith) in
+    record {
+      same = record { same = λ i l. get_or-take count room i 0 (omega arith) ∙ h.same i (omega arith) };
+      low = omega arith;
+      whole = ap (λ k. k % 16) (long ∙ c);
+      runs = λ i l m z. u.runs i l (omega arith) (sym (get_or-take count room i 0 (omega arith)) ∙ z);
+      stops = λ l. absurd (omega arith);
+    }
 
 pub head_found : (known : Option (List ℕ)) (size at count : ℕ) (room : List ℕ) → IsReadAt known size at room → IsEnded room count
     → IsHeadRead known size at (take count room)

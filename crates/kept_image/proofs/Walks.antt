@@ -1,7 +1,7 @@
 -- A walk over headers: each place that was noted waits or is done. A turn keeps this (under_turn), each
 -- turn takes one from what may still be noted and waits (few_places), and with nothing left to wait what
 -- was kept is closed (gathered).
-use Rattle.std.proofs.Common.{◌≡◌, ◌≢◌, ◌∙◌, sym, ap, subst, ℕ, zero, suc, ◌+◌, ◌-◌, ◌*◌, ◌/◌, ◌%◌, ◌^◌, ◌<◌, ◌≤◌, ◌==◌, ◌⊎◌, inl, inr, min, List, [], ◌∷◌, ◌++◌, length, take, drop, get_or, Bool, IsTrue, true, false, cond, if◌then◌else◌, Option, Some, None, refl, arith, length-append, length-take, length-take-le}
+use Rattle.std.proofs.Common.{◌≡◌, ◌≢◌, ◌∙◌, sym, ap, subst, ℕ, zero, suc, ◌+◌, ◌-◌, ◌*◌, ◌/◌, ◌%◌, ◌^◌, ◌<◌, ◌≤◌, ◌==◌, ◌⊎◌, inl, inr, min, List, [], ◌∷◌, ◌++◌, length, take, drop, get_or, Bool, IsTrue, true, false, cond, if◌then◌else◌, Option, Some, None, refl, arith, length-take, length-take-le, length-drop}
 use Rattle.std.specs.Prelude.{nat_le}
 use Rattle.std.specs.Option.{option_map_or}
 use Rattle.std.specs.List.{Contains}
@@ -13,11 +13,11 @@ use Rattle.std.proofs.lemmas.Map.Lookups.{exact_unsigned}
 use Rattle.std.proofs.lemmas.Map.Keys.{below_from_sorted}
 use Rattle.std.proofs.lemmas.Bool.{cases_lt, eqb-true}
 use Rattle.std.proofs.lemmas.Bool.Decides.{nat_tests}
-use Rattle.std.proofs.lemmas.List.{get_or_append_left, get_or_at, get_or-take, get_or_past, append-nil, nil_from_length}
+use Rattle.std.proofs.lemmas.List.{get_or-take, get_or-drop, get_or_past, nil_from_length}
 use Rattle.std.proofs.lemmas.List.Elements.{Contains-append_left, Contains-push, Contains-push_cases}
 use Rattle.romfs_format.specs.declared.head.Kind.TheVariants.{Directory, HardLink}
 use Rattle.romfs_format.specs.declared.limits.TheConstants.{HEAD_SIZE}
-use Rattle.romfs_format.specs.Fields.{word, root, IsInside, kind_of, kind, next, spec, cleared, text_end}
+use Rattle.romfs_format.specs.Fields.{word, root, IsInside, kind_of, kind, next, spec, cleared, text_end, text_at}
 use Rattle.image_bytes.specs.Contents.{IsSizeOf}
 use Rattle.kept_image.specs.declared.pieces.Piece.{Piece}
 use Rattle.kept_image.specs.Pieces.{HasBlock, AreRight, IsFilled}
@@ -25,7 +25,9 @@ use Rattle.kept_image.specs.Reads.{AreWithin, HasBytesAt, IsReadAt, AreAdded}
 use Rattle.kept_image.specs.Footprint.{IsClosed, is_same, reach}
 use Rattle.kept_image.specs.Gathered.{IsGathered, IsReach}
 use Rattle.kept_image.specs.Walk.{HasText, HasTarget, IsVisit, HasVisited, IsFrontAdded, HasFront, HasPushed, GoesDown, IsDone, IsWalking, IsUnderWay, HasWalked}
+use Rattle.kept_image.specs.Kept.{IsFront}
 use Rattle.kept_image.proofs.Fields.{word_same}
+use Rattle.kept_image.proofs.Names.{name_ends}
 
 -- how many bytes are looked at, by the first of them
 module _ (b front : List ℕ) (whole : ℕ) (long : whole ≡ min (length b) 4294967295) (h : HasBytesAt (take whole b) 0 front)
@@ -59,6 +61,34 @@ pub size_within : (known : Option (List ℕ)) (whole len : ℕ) → IsSizeOf kno
 size_within None whole len l w = tt
 size_within (Some b) whole len l w = omega arith
 
+-- the volume name lies in the first bytes, and so they say where the root stands
+pub front_near : (xs front : List ℕ) → length front ≡ 512 → HasBytesAt xs 0 front → IsFront xs 16 256 (take (length front - 16) (drop 16 front))
+front_near xs front n h = record {
+  is = λ i l m. sym (h.same (16 + i) (let e = long in omega arith)
+      ∙ ap (λ k. get_or xs k 0) (let e : 0 + (16 + i) ≡ 16 + i = omega arith in e))
+      ∙ sym (get_or-drop 16 front i 0) ∙ sym (get_or-take (length front - 16) (drop 16 front) i 0 (let e = long in omega arith));
+  stops = λ l. absurd (let e = long in omega arith);
+}
+  where
+    long : length (take (length front - 16) (drop 16 front)) ≡ 496
+    long = (let d = length-drop 16 front in let t = length-take (length front - 16) (drop 16 front) in omega arith)
+
+pub root_none : (xs : List ℕ) → ◌≡◌ {A = Option (List ℕ)} None (text_at xs 16) → 0 ≡ root xs
+unfolding root
+root_none xs e = ap (λ o. option_map_or (text_end 16) o 0) e
+
+pub root_some : (xs text : List ℕ) (n : ℕ) → Some text ≡ text_at xs 16 → n ≡ text_end 16 text → n ≡ root xs
+unfolding root
+root_some xs text n e f = f ∙ ap (λ o. option_map_or (text_end 16) o 0) e
+
+-- an image without a volume header has no volume name
+pub root_short : (xs : List ℕ) → length xs < 16 → 0 ≡ root xs
+root_short xs l = root_none xs (none (text_at xs 16) refl)
+  where
+    none : (o : Option (List ℕ)) → text_at xs 16 ≡ o → ◌≡◌ {A = Option (List ℕ)} None (text_at xs 16)
+    none None e = sym e
+    none (Some n) e = absurd (let t = name_ends xs n 16 e in let w = t.within in omega arith)
+
 -- the first bytes
 pub front_added : (known : Option (List ℕ)) (size root_at : ℕ) (front : List ℕ) (old new : List Piece) → AreWithin known size → old ≡ []
     → IsReadAt known size 0 front → AreAdded known size 0 32 old new
@@ -66,7 +96,7 @@ pub front_added : (known : Option (List ℕ)) (size root_at : ℕ) (front : List
 front_added None size root_at front old new w e r a f = tt
 front_added (Some b) size root_at front old new w e r a f = record {
   right = a.right (subst (λ l. AreRight (take size b) l) (sym e) none);
-  has = λ i l. a.has i l;
+  has = λ i l. subst (λ k. HasBlock new k) (let e : 0 + i ≡ i = omega arith in e) (a.has i l);
   is = f (take size b) (length-take-le size b w) r;
 }
   where

@@ -120,6 +120,7 @@ fn keep<S: Contents, A: Allocator>(
     requires at { at % 16 ≡ 0 }
     requires long { 16 ≤ length head.now }
     requires few { length head.now ≤ 272 }
+    requires whole { length head.now % 16 ≡ 0 }
     requires head { IsHeadRead (S.contents source.now) size at head.now }
     requires within { AreWithin (S.contents source.now) size }
     requires held { IsHeld (S.contents source.now) window.old.start window.old.bytes.items }
@@ -174,7 +175,8 @@ fn keep_target<S: Contents, A: Allocator>(
     }
     let mut room = [0u8; TARGET];
     let len = padded(count);
-    keep_row(source, window, size, from as u32, &mut room[..len], pieces)
+    keep_row(source, window, size, from as u32, &mut room[..len], pieces)?;
+    Ok(())
 }
 
 /// How many bytes of a target are kept: all that are there, unless it is too long; none of a header
