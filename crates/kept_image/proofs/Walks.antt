@@ -1,11 +1,14 @@
 -- A walk over headers: each place that was noted waits or is done. A turn keeps this (under_turn), each
 -- turn takes one from what may still be noted and waits (few_places), and with nothing left to wait what
 -- was kept is closed (gathered).
-use Rattle.std.proofs.Common.{◌≡◌, ◌≢◌, ◌∙◌, sym, ap, subst, ℕ, zero, suc, ◌+◌, ◌-◌, ◌*◌, ◌/◌, ◌%◌, ◌^◌, ◌<◌, ◌≤◌, ◌==◌, ◌⊎◌, inl, inr, min, List, [], ◌∷◌, ◌++◌, length, take, drop, get_or, Bool, IsTrue, true, false, cond, if◌then◌else◌, Option, Some, None, refl, arith, length-take, length-take-le, length-drop}
+use Rattle.std.proofs.Common.{◌≡◌, ◌≢◌, ◌∙◌, sym, ap, subst, ℕ, zero, suc, ◌+◌, ◌-◌, ◌*◌, ◌/◌, ◌%◌, ◌^◌, ◌<◌, ◌≤◌, ◌==◌, ◌⊎◌, inl, inr, min, List, [], ◌∷◌, ◌++◌, length, take, drop, get_or, Bool, IsTrue, true, false, cond, ◌||◌, if◌then◌else◌, Option, Some, None, refl, arith, length-take, length-take-le, length-drop}
 use Rattle.std.specs.Prelude.{nat_le}
 use Rattle.std.specs.Option.{option_map_or}
 use Rattle.std.specs.List.{Contains}
 use Rattle.std.specs.List.Sorted.{IsStrictlySortedBy}
+use Rattle.std.specs.List.{list_any}
+use Rattle.std.specs.BTreeMap.{is_at}
+use Rattle.std.specs.BTreeSet.{BTreeSet, contains, IsOrdered}
 use Rattle.std.specs.Ordering.{nat_cmp, is_eq}
 use Rattle.std.specs.declared.cmp.Ordering.{Ordering}
 use Rattle.std.specs.declared.cmp.Ordering.TheVariants.{Less, Equal, Greater}
@@ -188,6 +191,28 @@ few_places keys s p = elim (cases_lt (2 ^ 28) (length keys)) [
         let c = (p k (omega arith)).even in
         let d = (p (suc k) l).even in
         omega arith
+
+or_true : (b : Bool) → (b || true) ≡ true
+or_true true = refl
+or_true false = refl
+
+any_at : (test : ℕ → Bool) (keys : List ℕ) (i : ℕ) → i < length keys → test (get_or keys i 0) ≡ true → list_any test keys ≡ true
+any_at test [] i l e = absurd (omega arith)
+any_at test (k ∷ ks) zero l e = ap (λ b. b || list_any test ks) e
+any_at test (k ∷ ks) (suc i) l e = ap (λ b. test k || b) (any_at test ks i (omega arith) e) ∙ or_true (test k)
+
+equal_itself : (k : ℕ) → is_eq (nat_cmp k k) ≡ true
+equal_itself k = grind (arith, nat_tests)
+
+-- so few places are noted
+pub few_noted : (noted : BTreeSet ℕ) → IsOrdered nat_cmp noted → ((h : ℕ) → IsTrue (contains nat_cmp noted h) → IsPlace h)
+    → length noted.keys ≤ 2 ^ 28
+few_noted noted s p = few_places noted.keys s (λ i l.
+    p (get_or noted.keys i 0) (any_at (is_at (nat_cmp (get_or noted.keys i 0))) noted.keys i l (equal_itself (get_or noted.keys i 0))))
+
+pub smaller : (len more most before todo mid after : ℕ) → before ≡ todo + 1 → mid + len ≡ todo + more → after + more ≡ mid + most
+    → len ≤ more → more ≤ most → most ≤ 2 ^ 28 → 2 ^ 28 - most + after < 2 ^ 28 - len + before
+smaller len more most before todo mid after a b c d e f = omega arith
 
 still_text : (xs : List ℕ) (old new : List Piece) (p : ℕ) → ((b : ℕ) → HasBlock old b → HasBlock new b) → HasText old xs p → HasText new xs p
 still_text xs old new p s t = record { each = λ i l m n. s ((p + i) / 16) (t.each i l m n) }

@@ -8,4 +8,4 @@ returns-then-count-eq0-clause-known g c =
     (λ k l. c.target_len-count.ensures.link k l ∙ ap (λ n. min c.args.words.third n) c.saturating_sub.ensures)
 
 pub returns-clause-known : goal.returns-clause-known
-returns-clause-known g c = ?
+returns-clause-known g c = let h = c.in_ok-keep_row.ensures.known in let k = c.keep_row.auto.room in ?
