@@ -303,6 +303,10 @@ waiting_turn old new todo more test place p is o h s = elim (p.from h s) [
   | inr e ↦ subst (λ k. IsPlace k) (sym e) is
 ]
 
+pub waiting_popped : (before todo : List ℕ) (at : ℕ) → before ≡ todo ++ at ∷ [] → ((h : ℕ) → Contains before h → IsPlace h)
+    → (h : ℕ) → Contains todo h → IsPlace h
+waiting_popped before todo at e w h c = w h (subst (λ l. Contains l h) (sym e) (Contains-append_left todo (at ∷ []) h c))
+
 pub cleared_place : (n : ℕ) → n < 2 ^ 32 → IsPlace (cleared n)
 cleared_place n l = record { even = omega arith; small = omega arith }
 

@@ -6,7 +6,7 @@ use Rattle.std.specs.Ordering.{nat_cmp}
 use Rattle.std.proofs.lemmas.Bool.{false≢true}
 use Rattle.romfs_format.specs.Fields.{cleared}
 use Rattle.kept_image.specs.Walk.{HasPushed}
-use Rattle.kept_image.proofs.Walks.{IsPlace, under_start, under_turn, under_ends, places_turn, waiting_turn, cleared_place, few_noted, smaller}
+use Rattle.kept_image.proofs.Walks.{IsPlace, under_start, under_turn, places_turn, waiting_turn, waiting_popped, cleared_place, few_noted, smaller}
 use Rattle.kept_image.proofs.gathering.walk.Goals as goal
 
 pub loop-at-init : goal.loop-at-init
@@ -47,7 +47,8 @@ loop-at-preserved g c =
       places = places_turn _ _ _ _ _ _ c.in_ok-note-3.ensures.pushed down
           (places_turn _ _ _ _ _ _ c.in_ok-note-2.ensures.pushed next c.loop-at.invariant.places);
       waiting = waiting_turn _ _ _ _ _ _ c.in_ok-note-3.ensures.pushed down
-          (waiting_turn _ _ _ _ _ _ c.in_ok-note-2.ensures.pushed next ?);
+          (waiting_turn _ _ _ _ _ _ c.in_ok-note-2.ensures.pushed next
+          (waiting_popped _ _ _ c.in-Some.ensures.items c.loop-at.invariant.waiting));
     }
 
 pub loop-at-smaller : goal.loop-at-smaller
