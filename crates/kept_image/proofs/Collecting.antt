@@ -1,17 +1,16 @@
 -- Pieces that are sorted (sorted_out) and of which repeats are dropped (deduped) are the same blocks;
 -- a row of them goes on by one more (row_more).
-use Rattle.std.proofs.Common.{◌≡◌, ◌∙◌, sym, ap, subst, ℕ, ◌+◌, ◌*◌, ◌<◌, ◌≤◌, ◌==◌, ◌⊎◌, inl, inr, List, [], ◌∷◌, ◌++◌, Bool, true, length, take, drop, get_or, refl, arith}
-use Rattle.std.specs.List.{Contains, dedup, Any}
-use Rattle.std.specs.List.Sorted.{IsPermutation, IsNonDecreasingBy}
+use Rattle.std.proofs.Common.{◌≡◌, ◌∙◌, sym, ap, subst, ℕ, ◌+◌, ◌*◌, ◌<◌, ◌==◌, inl, inr, List, [], ◌∷◌, ◌++◌, true, take, drop, get_or, refl, arith}
+use Rattle.std.specs.List.{dedup, Any}
+use Rattle.std.specs.List.Sorted.{IsPermutation}
 use Rattle.std.specs.Cmp.{IsEquivalence, nat_eq_equiv}
 use Rattle.std.proofs.lemmas.List.Sorted.{Contains-permutation, IsPermutation-sym}
 use Rattle.std.proofs.lemmas.List.Kept.{Any-dedup, Contains-from_dedup}
 use Rattle.std.proofs.lemmas.List.Elements.{Contains-append_left, Contains-push, Contains-push_cases}
 use Rattle.std.proofs.lemmas.List.{get_or-drop, get_or-take}
 use Rattle.std.proofs.lemmas.Bool.{eqb-true, cases_lt}
-use Rattle.std.proofs.lemmas.Bool.Decides.{nat_tests}
 use Rattle.kept_image.specs.declared.pieces.Piece.{Piece}
-use Rattle.kept_image.specs.Pieces.{HasBlock, IsFewer, IsSortedOut, IsOneMore, IsOfRow, HasRow, IsRight, AreRight}
+use Rattle.kept_image.specs.Pieces.{HasBlock, IsFewer, IsOneMore, IsOfRow, HasRow}
 
 pub fewer_same : (old : List Piece) → IsFewer old old
 fewer_same old = record { from = λ x c. c; stays = λ b h. h }

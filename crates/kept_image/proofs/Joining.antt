@@ -7,8 +7,8 @@ use Rattle.std.proofs.lemmas.Bool.{cases_lt, cases_eq}
 use Rattle.std.proofs.lemmas.List.{get_or_append_left, get_or-append_right, get_or_at, get_or_default}
 use Rattle.std.proofs.lemmas.List.Elements.{Contains-get_or}
 use Rattle.kept_image.specs.declared.pieces.Piece.{Piece}
-use Rattle.kept_image.specs.Kept.{byte_of, filled, IsKept, Rises}
-use Rattle.kept_image.specs.Pieces.{HasBlock, AreRight, IsPacked, IsFilled, IsSortedOut, IsFewer}
+use Rattle.kept_image.specs.Kept.{byte_of, filled, IsKept}
+use Rattle.kept_image.specs.Pieces.{HasBlock, AreRight, IsPacked, IsFilled, IsSortedOut}
 use Rattle.kept_image.proofs.Blocks.{byte_kept, byte_none}
 use Rattle.kept_image.proofs.Fronts.{filled_at}
 
@@ -82,9 +82,9 @@ module _ (blocks bytes new : List ℕ) (b : ℕ) (kept : IsKept blocks bytes) (w
             ∙ get_or_append_left bytes new 0 (16 * x.0 + p % 16) (omega arith)
             ∙ sym (byte_kept blocks bytes p x.0 kept.rises x.1 x.2))
         | inr g ↦ byte_none more (bytes ++ new) p (λ i l e. elim (cases_lt i (length blocks)) [
-            | inl m ↦ g i m (sym (more_old i m) ∙ e)
-            | inr m ↦ n (sym e ∙ more_new i (omega arith))
-          ]) ∙ sym (byte_none blocks bytes p g)
+          | inl m ↦ g i m (sym (more_old i m) ∙ e)
+          | inr m ↦ n (sym e ∙ more_new i (omega arith))
+        ]) ∙ sym (byte_none blocks bytes p g)
       ]
 
 -- the bytes of the block of a piece are those of a piece of this block

@@ -1,11 +1,11 @@
 -- What is loaded holds known bytes (loaded), and what a room has of it (room_read).
-use Rattle.std.proofs.Common.{◌≡◌, ◌∙◌, sym, ap, subst, ℕ, ◌+◌, ◌-◌, ◌<◌, ◌≤◌, min, List, ◌++◌, length, take, drop, get_or, replicate, Option, Some, None, inl, inr, arith, length-append, length-drop, length-take, length-take-le}
+use Rattle.std.proofs.Common.{◌≡◌, ◌∙◌, sym, ap, ℕ, ◌+◌, ◌-◌, ◌<◌, ◌≤◌, min, List, ◌++◌, length, take, drop, get_or, replicate, Option, Some, None, inl, inr, arith, length-append, length-drop, length-take-le}
 use Rattle.std.proofs.lemmas.Bool.{cases_lt}
 use Rattle.std.proofs.lemmas.List.{get_or-drop, get_or-take, get_or_append_left, get_or-append_right, get_or_past, get_or-replicate, length-replicate}
 use Rattle.image_bytes.specs.Contents.{AreAt, IsShort}
 use Rattle.kept_image.specs.declared.fault.GatherFault.{GatherFault}
 use Rattle.kept_image.specs.declared.fault.GatherFault.TheVariants.{Memory, Unread}
-use Rattle.kept_image.specs.Reads.{AreWithin, IsCause, HasBytesAt, IsHeld, IsReadAt}
+use Rattle.kept_image.specs.Reads.{AreWithin, IsCause, IsHeld, IsReadAt}
 
 pub within_less : (known : Option (List ℕ)) (m n : ℕ) → m ≤ n → AreWithin known n → AreWithin known m
 within_less None m n l w = tt

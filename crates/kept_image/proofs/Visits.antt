@@ -1,14 +1,14 @@
 -- A header that was read is added as it stands in the image, with its name (text_added) and its
 -- target, which begins where the name's padding ends (head_end).
-use Rattle.std.proofs.Common.{◌≡◌, ◌≢◌, ◌∙◌, sym, ap, subst, ℕ, zero, suc, ◌+◌, ◌-◌, ◌*◌, ◌/◌, ◌%◌, ◌<◌, ◌≤◌, min, inl, inr, List, [], ◌∷◌, length, take, drop, get_or, Option, Some, None, refl, arith, length-take, length-take-le}
+use Rattle.std.proofs.Common.{◌≡◌, ◌≢◌, ◌∙◌, sym, ap, subst, ℕ, ◌+◌, ◌-◌, ◌*◌, ◌/◌, ◌%◌, ◌<◌, ◌≤◌, min, inl, inr, List, length, take, get_or, Option, Some, None, refl, arith, length-take, length-take-le}
 use Rattle.std.specs.Option.{unwrap_or}
 use Rattle.std.proofs.lemmas.Bool.{cases_lt}
-use Rattle.std.proofs.lemmas.List.{get_or-take, get_or-drop}
+use Rattle.std.proofs.lemmas.List.{get_or-take}
 use Rattle.romfs_format.specs.declared.head.Kind.TheVariants.{SymLink}
-use Rattle.romfs_format.specs.declared.limits.TheConstants.{HEAD_SIZE, MAX_TARGET_SIZE}
-use Rattle.romfs_format.specs.Fields.{word, name, size, kind, kind_of, data_at, padded}
+use Rattle.romfs_format.specs.declared.limits.TheConstants.{MAX_TARGET_SIZE}
+use Rattle.romfs_format.specs.Fields.{word, name, size, kind_of, data_at, padded}
 use Rattle.kept_image.specs.declared.pieces.Piece.{Piece}
-use Rattle.kept_image.specs.Pieces.{HasBlock, HasRow, IsRight, AreRight}
+use Rattle.kept_image.specs.Pieces.{HasBlock, HasRow}
 use Rattle.kept_image.specs.Reads.{HasBytesAt, IsReadAt, IsEnded, IsUnended, IsEndIn, IsHeadAt, IsHeadRead, IsAdded, AreAdded}
 use Rattle.kept_image.specs.Walk.{HasText, HasTarget, IsTargetAdded, HasAddedTarget, IsVisit, HasVisited}
 use Rattle.kept_image.proofs.Fields.{word_same}
@@ -22,9 +22,9 @@ added xs old new first count bytes few h r = record {
     each = λ x c. elim (r.from x c) [
       | inl d ↦ o.each x d
       | inr w ↦ record {
-          same = λ j l. w.same j l ∙ h.same (w.place * 16 + j) (let b = w.below in omega arith)
-              ∙ ap (λ i. get_or xs i 0) (let e = w.is in let f : 16 * first + (w.place * 16 + j) ≡ 16 * x.block + j = omega arith in f);
-        }
+        same = λ j l. w.same j l ∙ h.same (w.place * 16 + j) (let b = w.below in omega arith)
+            ∙ ap (λ i. get_or xs i 0) (let e = w.is in let f : 16 * first + (w.place * 16 + j) ≡ 16 * x.block + j = omega arith in f);
+      }
     ];
   };
   stays = r.stays;

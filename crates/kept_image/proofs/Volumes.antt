@@ -1,8 +1,8 @@
 -- What was gathered of some bytes breaks the rules that they break (twins), and so has their fault
 -- (fault_goes): the volume's rules look at the first bytes and at the length, and where the full size
 -- is kept, the accessible bytes are what was gathered.
-use Rattle.std.proofs.Common.{◌≡◌, ◌≢◌, ◌∙◌, sym, ap, subst, ℕ, zero, suc, ◌+◌, ◌-◌, ◌*◌, ◌/◌, ◌%◌, ◌^◌, ◌<◌, ◌≤◌, ◌⊎◌, inl, inr, min, List, [], ◌∷◌, ◌++◌, Bool, IsTrue, length, take, drop, get_or, Option, Some, None, if◌then◌else◌, refl, arith, length-take, length-take-le, take-append-drop, take_all, ◌==◌}
-use Rattle.std.specs.Prelude.{nat_le, IsNone, codes}
+use Rattle.std.proofs.Common.{◌≡◌, ◌≢◌, ◌∙◌, sym, ap, subst, ℕ, ◌+◌, ◌%◌, ◌^◌, ◌<◌, ◌≤◌, ◌⊎◌, inl, inr, min, List, ◌++◌, IsTrue, length, take, drop, get_or, Option, Some, None, if◌then◌else◌, refl, arith, length-take, length-take-le, take-append-drop, take_all, ◌==◌}
+use Rattle.std.specs.Prelude.{nat_le, IsNone}
 use Rattle.std.proofs.lemmas.Bool.{cases_lt, eqb-true}
 use Rattle.std.proofs.lemmas.Bool.Decides.{nat_tests}
 use Rattle.std.proofs.lemmas.List.{get_or-take, get_or_past, ext_get_or, take_at}
@@ -13,7 +13,7 @@ use Rattle.romfs_format.specs.declared.rule.Profile.{Profile}
 use Rattle.romfs_format.specs.declared.rule.Rule.TheVariants.{Short, Magic, FullSize, BadSum, VolumeName, NoRoot}
 use Rattle.romfs_format.specs.Fields.{word, image, summed, text_at, word_sum, root}
 use Rattle.romfs_format.specs.Rules.{StartsWith, magic, HasNoRoot, Breaks, BreaksHeader, rule_number, stage, IsNamedBefore, IsFault, IsSound, IsFaultOf}
-use Rattle.kept_image.specs.Footprint.{Agrees, IsKeptText, IsClosed, is_same, reach}
+use Rattle.kept_image.specs.Footprint.{Agrees, is_same}
 use Rattle.kept_image.specs.Gathered.{IsGatheredOf}
 use Rattle.kept_image.proofs.Fields.{word_same}
 use Rattle.kept_image.proofs.Alike.{Alike, alike, alike_sym, text_alike, volume_text}
@@ -85,9 +85,9 @@ module _ (b a : List ℕ) (g : IsGatheredOf b a) where
   near p l = elim (cases_lt p (length a)) [
     | inl m ↦ front p (omega arith) m
     | inr m ↦ get_or_past a p 0 m ∙ sym (get_or_past b p 0 (elim (cases_lt (length a) 16) [
-        | inl q ↦ (let e = long_enough 16 (omega arith) q in omega arith)
-        | inr q ↦ absurd (omega arith)
-      ]))
+      | inl q ↦ (let e = long_enough 16 (omega arith) q in omega arith)
+      | inr q ↦ absurd (omega arith)
+    ]))
   ]
 
   words : word a 8 ≡ word b 8
@@ -257,13 +257,13 @@ module _ (profile : Profile) (a b : List ℕ) (t : Twins profile a b) where
   fault_goes : (r : Rule) (p : ℕ) → IsFault profile a r p → IsFault profile b r p
   fault_goes r p f = elim (full_or_not a) [
     | inl k ↦ record {
-        broken = t.forth k.0 k.1 r p f.broken;
-        first = λ s q x n. f.first s q (t.back k.0 k.1 s q x) n;
-      }
+      broken = t.forth k.0 k.1 r p f.broken;
+      first = λ s q x n. f.first s q (t.back k.0 k.1 s q x) n;
+    }
     | inr k ↦ (let l : stage r ≤ 2 = low k in record {
-        broken = volume_goes a b t.volume profile r p (early r l) f.broken;
-        first = λ s q x n. f.first s q (volume_goes b a (volume_sym a b t.volume) profile s q (early s (let m = not_later r s p q n in omega arith)) x) n;
-      })
+      broken = volume_goes a b t.volume profile r p (early r l) f.broken;
+      first = λ s q x n. f.first s q (volume_goes b a (volume_sym a b t.volume) profile s q (early s (let m = not_later r s p q n in omega arith)) x) n;
+    })
   ]
     where
       low : (length a < word a 8) ⊎ (word a 8 < HEAD_SIZE) → stage r ≤ 2

@@ -14,9 +14,9 @@ use Rattle.std.specs.declared.cmp.Ordering.{Ordering}
 use Rattle.std.specs.declared.cmp.Ordering.TheVariants.{Less, Equal, Greater}
 use Rattle.std.proofs.lemmas.Map.Lookups.{exact_unsigned}
 use Rattle.std.proofs.lemmas.Map.Keys.{below_from_sorted}
-use Rattle.std.proofs.lemmas.Bool.{cases_lt, eqb-true}
+use Rattle.std.proofs.lemmas.Bool.{cases_lt}
 use Rattle.std.proofs.lemmas.Bool.Decides.{nat_tests}
-use Rattle.std.proofs.lemmas.List.{get_or-take, get_or-drop, get_or_past, nil_from_length}
+use Rattle.std.proofs.lemmas.List.{get_or-take, get_or-drop, get_or_past}
 use Rattle.std.proofs.lemmas.List.Elements.{Contains-append_left, Contains-push, Contains-push_cases}
 use Rattle.romfs_format.specs.declared.head.Kind.TheVariants.{Directory, HardLink}
 use Rattle.romfs_format.specs.declared.limits.TheConstants.{HEAD_SIZE}
@@ -27,7 +27,7 @@ use Rattle.kept_image.specs.Pieces.{HasBlock, AreRight, IsFilled}
 use Rattle.kept_image.specs.Reads.{AreWithin, HasBytesAt, IsReadAt, AreAdded}
 use Rattle.kept_image.specs.Footprint.{IsClosed, is_same, reach}
 use Rattle.kept_image.specs.Gathered.{IsGathered, IsReach}
-use Rattle.kept_image.specs.Walk.{HasText, HasTarget, IsVisit, HasVisited, IsFrontAdded, HasFront, HasPushed, GoesDown, IsDone, IsWalking, IsUnderWay, HasWalked}
+use Rattle.kept_image.specs.Walk.{HasText, HasTarget, IsVisit, HasVisited, HasFront, HasPushed, GoesDown, IsDone, IsWalking, IsUnderWay, HasWalked}
 use Rattle.kept_image.specs.Kept.{IsFront}
 use Rattle.kept_image.proofs.Fields.{word_same}
 use Rattle.kept_image.proofs.Names.{name_ends}

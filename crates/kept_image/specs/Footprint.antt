@@ -1,6 +1,6 @@
 -- romfs.rst: what the rules of an image look at, as a set of places that are kept and a set of
 -- headers that lead to no others.
-use Rattle.std.specs.Prelude.{◌≡◌, ◌≢◌, ℕ, ◌+◌, ◌*◌, ◌/◌, ◌<◌, ◌≤◌, ◌==◌, ◌⊎◌, List, length, take, get_or, Some, Bool, IsTrue, min, if◌then◌else◌, nat_le}
+use Rattle.std.specs.Prelude.{◌≡◌, ◌≢◌, ℕ, ◌+◌, ◌*◌, ◌/◌, ◌<◌, ◌≤◌, ◌==◌, ◌⊎◌, List, length, get_or, Some, Bool, IsTrue, min, if◌then◌else◌, nat_le}
 use Rattle.romfs_format.specs.declared.head.Kind.TheVariants.{Directory, HardLink, SymLink}
 use Rattle.romfs_format.specs.declared.limits.TheConstants.{HEAD_SIZE, SUMMED_SIZE, MAX_TARGET_SIZE}
 use Rattle.romfs_format.specs.Fields.{root, word, IsInside, kind, next, spec, size, name, data_at, cleared}

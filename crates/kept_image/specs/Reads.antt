@@ -1,5 +1,5 @@
 -- What is read of known bytes, of which only those below a size are looked at.
-use Rattle.std.specs.Prelude.{◌≡◌, ◌≢◌, ℕ, ◌+◌, ◌<◌, ◌≤◌, ◌%◌, ◌/◌, List, length, take, get_or, Option, Some, None, MatchOption, ⊤}
+use Rattle.std.specs.Prelude.{◌≡◌, ◌≢◌, ℕ, ◌+◌, ◌<◌, ◌≤◌, ◌%◌, List, length, take, get_or, Option, Some, None, MatchOption, ⊤}
 use Rattle.kept_image.specs.declared.fault.GatherFault.{GatherFault}
 use Rattle.kept_image.specs.declared.fault.GatherFault.TheVariants.{Memory}
 use Rattle.kept_image.specs.declared.pieces.Piece.{Piece}

@@ -1,5 +1,5 @@
 -- A walk over the headers of an image: what it has added, and what it has still to look at.
-use Rattle.std.specs.Prelude.{◌≡◌, ◌≢◌, ℕ, ◌+◌, ◌*◌, ◌/◌, ◌%◌, ◌<◌, ◌≤◌, ◌^◌, ◌⊎◌, List, [], length, take, get_or, Bool, IsTrue, Option, Some, None, Contains, ⊤}
+use Rattle.std.specs.Prelude.{◌≡◌, ◌≢◌, ℕ, ◌+◌, ◌*◌, ◌/◌, ◌%◌, ◌<◌, ◌≤◌, ◌⊎◌, List, [], length, take, get_or, Bool, IsTrue, Option, Some, None, Contains, ⊤}
 use Rattle.romfs_format.specs.declared.head.Kind.TheVariants.{Directory, HardLink, SymLink}
 use Rattle.romfs_format.specs.declared.limits.TheConstants.{MAX_TARGET_SIZE}
 use Rattle.romfs_format.specs.Fields.{root, word, IsInside, kind_of, kind, next, spec, size, name, data_at, cleared}

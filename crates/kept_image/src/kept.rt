@@ -234,12 +234,7 @@ fn head_of_blocks(blocks: &[u32], bytes: &[u8], size: u32, at: u32) -> Head
 }
 
 /// The name whose field begins at a place, of an image of this size.
-fn text_of_blocks<'a>(
-    blocks: &[u32],
-    bytes: &'a [u8],
-    size: u32,
-    at: u32,
-) -> Option<&'a [u8]>
+fn text_of_blocks<'a>(blocks: &[u32], bytes: &'a [u8], size: u32, at: u32) -> Option<&'a [u8]>
     requires kept { IsKept blocks.now bytes.now }
     requires at { at ≤ size }
     ensures value { option_map (λ text. text.now) result

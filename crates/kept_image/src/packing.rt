@@ -31,10 +31,7 @@ pub fn pack<A: Allocator + Copy>(
 }
 
 /// Each block once, and its bytes.
-fn pack_sorted<A: Allocator + Copy>(
-    alloc: A,
-    pieces: &[Piece],
-) -> Result<Packed<A>, AllocError>
+fn pack_sorted<A: Allocator + Copy>(alloc: A, pieces: &[Piece]) -> Result<Packed<A>, AllocError>
     requires { IsNonDecreasingBy (λ (x : Piece). x.block) pieces.now }
     ensures { IfOk result (λ packed. IsPacked pieces.now packed.blocks.items packed.bytes.items) }
 {

@@ -26,21 +26,53 @@ fn put(image: &mut [u8; FILE_SIZE], at: usize, bytes: &[u8]) {
 // spec.info, the third the size.
 fn image() -> [u8; FILE_SIZE] {
     let mut image = [b'x'; FILE_SIZE];
-    put(&mut image, 0, b"-rom1fs-\0\0\x03\x40\0\0\0\0v\0\0\0\0\0\0\0\0\0\0\0\0\0\0\0");
+    put(
+        &mut image,
+        0,
+        b"-rom1fs-\0\0\x03\x40\0\0\0\0v\0\0\0\0\0\0\0\0\0\0\0\0\0\0\0",
+    );
     // the root at 32, whose first header is at 528
-    put(&mut image, 32, b"\0\0\0\x09\0\0\x02\x10\0\0\0\0\0\0\0\0.\0\0\0\0\0\0\0\0\0\0\0\0\0\0\0");
+    put(
+        &mut image,
+        32,
+        b"\0\0\0\x09\0\0\x02\x10\0\0\0\0\0\0\0\0.\0\0\0\0\0\0\0\0\0\0\0\0\0\0\0",
+    );
     // a directory at 528, whose first header is itself
-    put(&mut image, 528, b"\0\0\x02\x31\0\0\x02\x10\0\0\0\0\0\0\0\0d\0\0\0\0\0\0\0\0\0\0\0\0\0\0\0");
+    put(
+        &mut image,
+        528,
+        b"\0\0\x02\x31\0\0\x02\x10\0\0\0\0\0\0\0\0d\0\0\0\0\0\0\0\0\0\0\0\0\0\0\0",
+    );
     // a symbolic link at 560, its target at 592
-    put(&mut image, 560, b"\0\0\x02\x73\0\0\0\0\0\0\0\x14\0\0\0\0l\0\0\0\0\0\0\0\0\0\0\0\0\0\0\0");
-    put(&mut image, 592, b"0123456789abcdefghij\0\0\0\0\0\0\0\0\0\0\0\0");
+    put(
+        &mut image,
+        560,
+        b"\0\0\x02\x73\0\0\0\0\0\0\0\x14\0\0\0\0l\0\0\0\0\0\0\0\0\0\0\0\0\0\0\0",
+    );
+    put(
+        &mut image,
+        592,
+        b"0123456789abcdefghij\0\0\0\0\0\0\0\0\0\0\0\0",
+    );
     // a regular file of 64 bytes at 624
-    put(&mut image, 624, b"\0\0\x02\xd2\0\0\0\0\0\0\0\x40\0\0\0\0f\0\0\0\0\0\0\0\0\0\0\0\0\0\0\0");
+    put(
+        &mut image,
+        624,
+        b"\0\0\x02\xd2\0\0\0\0\0\0\0\x40\0\0\0\0f\0\0\0\0\0\0\0\0\0\0\0\0\0\0\0",
+    );
     // a hard link at 720, which leads outside
-    put(&mut image, 720, b"\0\0\x02\xf0\x7f\xff\xff\xf0\0\0\0\0\0\0\0\0h\0\0\0\0\0\0\0\0\0\0\0\0\0\0\0");
+    put(
+        &mut image,
+        720,
+        b"\0\0\x02\xf0\x7f\xff\xff\xf0\0\0\0\0\0\0\0\0h\0\0\0\0\0\0\0\0\0\0\0\0\0\0\0",
+    );
     // a directory at 752, after which comes that at 528, and whose first header is in its name
     put(&mut image, 752, b"\0\0\x02\x11\0\0\x03\0\0\0\0\0\0\0\0\0");
-    put(&mut image, 768, b"\x01\x01\x01\x22ABCDEFGHIJKLM\0\0\0\0\0\0\0\0\0\0\0\0\0\0\0");
+    put(
+        &mut image,
+        768,
+        b"\x01\x01\x01\x22ABCDEFGHIJKLM\0\0\0\0\0\0\0\0\0\0\0\0\0\0\0",
+    );
     image
 }
 
@@ -100,7 +132,11 @@ struct Seen {
 }
 
 // The size of what was kept, and the words at some places of it.
-fn look_at<A: Allocator + Copy>(alloc: A, source: &Slow, at: [u32; 6]) -> Result<Seen, GatherFault> {
+fn look_at<A: Allocator + Copy>(
+    alloc: A,
+    source: &Slow,
+    at: [u32; 6],
+) -> Result<Seen, GatherFault> {
     let kept = gather(alloc, source)?;
     let size = kept.size();
     let mut words = [0; 6];

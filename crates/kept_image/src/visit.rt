@@ -133,7 +133,14 @@ fn keep<S: Contents, A: Allocator>(
     add_row(pieces, at / 16, head)?;
     note_used(window, head.len());
     let words = words_of(head);
-    keep_target(source, window, size, at as usize + head.len(), words, pieces)?;
+    keep_target(
+        source,
+        window,
+        size,
+        at as usize + head.len(),
+        words,
+        pieces,
+    )?;
     Ok(words)
 }
 

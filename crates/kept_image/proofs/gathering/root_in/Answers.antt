@@ -1,4 +1,4 @@
-use Rattle.std.proofs.Common.{◌∙◌, ap, ◌+◌, arith}
+use Rattle.std.proofs.Common.{ap, ◌+◌, arith}
 use Rattle.kept_image.proofs.Walks.{front_near, root_none, root_some, root_short}
 use Rattle.kept_image.proofs.gathering.root_in.Goals as goal
 

@@ -1,10 +1,9 @@
-use Rattle.std.proofs.Common.{◌≡◌, ◌∙◌, sym, ap, subst, ℕ, ◌%◌, ◌<◌, ◌≤◌, ◌^◌, IsTrue, length, [], arith}
-use Rattle.std.specs.List.{Contains, list_any}
+use Rattle.std.proofs.Common.{◌∙◌, sym, ap, subst, ℕ, ◌≤◌, ◌^◌, IsTrue, length, arith}
+use Rattle.std.specs.List.{list_any}
 use Rattle.std.specs.BTreeMap.{is_at}
 use Rattle.std.specs.BTreeSet.{contains, btree_set_len}
 use Rattle.std.specs.Ordering.{nat_cmp}
 use Rattle.std.proofs.lemmas.Bool.{false≢true}
-use Rattle.romfs_format.specs.Fields.{cleared}
 use Rattle.kept_image.specs.Walk.{HasPushed}
 use Rattle.kept_image.proofs.Walks.{IsPlace, under_start, under_turn, places_turn, waiting_turn, waiting_popped, cleared_place, few_noted, smaller}
 use Rattle.kept_image.proofs.gathering.walk.Goals as goal

@@ -1,4 +1,4 @@
-use Rattle.std.proofs.Common.{subst, sym, ◌/◌, length, arith}
+use Rattle.std.proofs.Common.{subst, ◌/◌, arith}
 use Rattle.kept_image.specs.Reads.{AreAdded}
 use Rattle.kept_image.proofs.Visits.{row_added}
 use Rattle.kept_image.proofs.visit.keep_row.Goals as goal

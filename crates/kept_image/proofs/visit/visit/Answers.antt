@@ -1,6 +1,6 @@
 use Rattle.std.proofs.Common.{subst, sym, take, arith}
 use Rattle.kept_image.specs.Reads.{IsHeadRead}
-use Rattle.kept_image.proofs.Visits.{head_found, head_all}
+use Rattle.kept_image.proofs.Visits.{head_all}
 use Rattle.kept_image.proofs.visit.visit.Goals as goal
 
 pub keep-requires-2-clause-head : goal.keep-requires-2-clause-head

@@ -1,4 +1,4 @@
-use Rattle.std.proofs.Common.{◌≡◌, ◌∙◌, ap, sym, arith, take, drop, ◌++◌, ◌-◌}
+use Rattle.std.proofs.Common.{◌∙◌, ap, arith, take, drop, ◌++◌, ◌-◌}
 use Rattle.kept_image.proofs.Reading.{room_read}
 use Rattle.kept_image.proofs.window.read.Goals as goal
 
