@@ -167,3 +167,35 @@ fn headers_names_and_targets_are_kept(rt: HostRuntime) {
     };
     assert_eq!(rt; look_at(rt.alloc(), &file(900, 900, 0), PLACES), Ok(told));
 }
+
+#[test]
+fn short_reads_make_no_difference(rt: HostRuntime) {
+    let told = look_at(rt.alloc(), &file(900, 1, 0), PLACES);
+    assert_eq!(rt; told.map(|seen| seen.words), Ok(WORDS));
+}
+
+#[test]
+fn a_failed_read_is_told(rt: HostRuntime) {
+    assert_eq!(rt;
+        look_at(rt.alloc(), &file(900, 900, 1), PLACES),
+        Err(GatherFault::Unread)
+    );
+    assert_eq!(rt;
+        look_at(rt.alloc(), &file(900, 900, 2), PLACES),
+        Err(GatherFault::Unread)
+    );
+    assert_eq!(rt;
+        look_at(rt.alloc(), &file(900, 64, 9), PLACES),
+        Err(GatherFault::Unread)
+    );
+}
+
+#[test]
+fn a_cut_file_is_gathered_up_to_its_end(rt: HostRuntime) {
+    let told = Seen {
+        size: 600,
+        words: [0x231, 0x6c00_0000, 0, 0, 0, 0],
+        reads: 2,
+    };
+    assert_eq!(rt; look_at(rt.alloc(), &file(600, 900, 0), PLACES), Ok(told));
+}
