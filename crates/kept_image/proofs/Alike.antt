@@ -3,9 +3,10 @@ use Rattle.std.proofs.Common.{◌≡◌, ◌≢◌, ◌∙◌, sym, ap, subst, �
 use Rattle.std.specs.Option.{option_map_or}
 use Rattle.std.proofs.lemmas.Bool.{cases_lt}
 use Rattle.std.proofs.lemmas.List.{get_or-drop, get_or-take, get_or_past, ext_get_or}
-use Rattle.romfs_format.specs.declared.limits.TheConstants.{HEAD_SIZE}
-use Rattle.romfs_format.specs.Fields.{word, root, ended, name, name_field, text_at, if_within, text_end, header_bytes}
-use Rattle.kept_image.specs.Footprint.{Agrees, IsKeptText, IsClosed}
+use Rattle.romfs_format.specs.declared.head.Kind.TheVariants.{SymLink}
+use Rattle.romfs_format.specs.declared.limits.TheConstants.{HEAD_SIZE, MAX_TARGET_SIZE}
+use Rattle.romfs_format.specs.Fields.{word, root, ended, name, name_field, text_at, if_within, text_end, header_bytes, kind, size, data_at}
+use Rattle.kept_image.specs.Footprint.{Agrees, IsKeptText, IsKeptTarget, IsClosed}
 use Rattle.kept_image.proofs.Fields.{word_same}
 use Rattle.kept_image.proofs.Names.{field_at, name_ends}
 
@@ -79,6 +80,20 @@ module _ (kept : ℕ → Bool) (a xs : List ℕ) (agrees : Agrees kept a xs) whe
             (text.each (i - 16) (let w = t.few in omega arith) (omega arith) (λ j o. t.before j (omega arith)))
       ])
       ∙ sym (get_or-drop h xs i 0) ∙ sym (get_or-take m (drop h xs) i 0 (omega arith)))
+
+  -- the target of a symbolic link, where it is kept
+  pub bytes_of_link : (h : ℕ) (n : List ℕ) → IsKeptTarget kept a h → kind a h ≡ SymLink → size a h ≤ MAX_TARGET_SIZE → name a h ≡ Some n
+      → take (size a h) (drop (data_at h n) a) ≡ take (size a h) (drop (data_at h n) xs)
+  bytes_of_link h n t k l e = same (size a h) (data_at h n) (λ i m o. t.each k l n e i m o)
+    where
+      same : (m p : ℕ) → ((i : ℕ) → i < m → p + i < length a → IsTrue (kept (p + i))) → take m (drop p a) ≡ take m (drop p xs)
+      same m p t = ext_get_or 0 (take m (drop p a)) (take m (drop p xs))
+          (length-take m (drop p a) ∙ ap (λ k. min m k) (length-drop p a ∙ ap (λ k. k - p) agrees.long ∙ sym (length-drop p xs))
+          ∙ sym (length-take m (drop p xs)))
+          (λ i l. (let f = length-take m (drop p a) in let g = length-drop p a in
+          get_or-take m (drop p a) i 0 (omega arith) ∙ get_or-drop p a i 0
+          ∙ agrees.same (p + i) (t i (omega arith) (omega arith))
+          ∙ sym (get_or-drop p xs i 0) ∙ sym (get_or-take m (drop p xs) i 0 (omega arith))))
 
 -- two lists that look the same at the headers of a set
 pub record Alike (headers : ℕ → Bool) (a xs : List ℕ) : Type 0 where

@@ -12,9 +12,6 @@ use Rattle.std.proofs.lemmas.Bool.{eqb-true, cases_lt}
 use Rattle.kept_image.specs.declared.pieces.Piece.{Piece}
 use Rattle.kept_image.specs.Pieces.{HasBlock, IsFewer, IsOneMore, IsOfRow, HasRow}
 
-pub fewer_same : (old : List Piece) → IsFewer old old
-fewer_same old = record { from = λ x c. c; stays = λ b h. h }
-
 pub fewer_moved : (old new : List Piece) → IsPermutation old new → IsFewer old new
 fewer_moved old new p = record {
   from = λ x c. Contains-permutation new old x (IsPermutation-sym old new p) c;

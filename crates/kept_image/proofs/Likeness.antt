@@ -1,10 +1,10 @@
 -- Two lists that look the same at the headers of a closed set lead to the same headers, and break the
 -- same rules of file headers (breaks_alike). Each relation goes over from one list to the other; for
 -- what is denied it comes back, since looking the same goes both ways.
-use Rattle.std.proofs.Common.{◌≡◌, ◌≢◌, ◌∙◌, sym, ap, subst, ℕ, zero, suc, ◌+◌, ◌<◌, ◌≤◌, ◌%◌, ◌/◌, ◌^◌, ◌⊎◌, inl, inr, List, [], ◌∷◌, Bool, IsTrue, length, Option, Some, None, refl, arith}
+use Rattle.std.proofs.Common.{◌≡◌, ◌≢◌, ◌∙◌, sym, ap, subst, ℕ, zero, suc, ◌+◌, ◌<◌, ◌≤◌, ◌%◌, ◌/◌, ◌^◌, ◌⊎◌, inl, inr, List, [], ◌∷◌, Bool, IsTrue, length, take, drop, Option, Some, None, refl, arith}
 use Rattle.std.specs.Prelude.{IsSome, IsSomeAnd, IsNone, MatchOption}
 use Rattle.romfs_format.specs.declared.limits.TheConstants.{HEAD_SIZE, MAX_TARGET_SIZE, MAX_MAJOR}
-use Rattle.romfs_format.specs.declared.head.Kind.TheVariants.{HardLink, Directory}
+use Rattle.romfs_format.specs.declared.head.Kind.TheVariants.{HardLink, Directory, SymLink}
 use Rattle.romfs_format.specs.declared.head.End.{End}
 use Rattle.romfs_format.specs.declared.head.End.TheVariants.{AtDirectory, AtOther, Nowhere}
 use Rattle.romfs_format.specs.declared.rule.Rule.{Rule}
@@ -12,11 +12,12 @@ use Rattle.romfs_format.specs.declared.rule.Profile.{Profile}
 use Rattle.romfs_format.specs.declared.rule.Profile.TheVariants.{Usual, Strict}
 use Rattle.romfs_format.specs.declared.rule.Rule.TheVariants.{Outside, NameOpen, NameBad, DataOutside, TargetLong, LinkedTwice, SameName, LinkLoop, LinkDirectory, MajorLarge, HeaderSum, TooDeep}
 use Rattle.romfs_format.specs.Fields.{word, root, IsInside, kind_of, kind, next, spec, size, name, cleared, data_at, word_sum, header_bytes}
-use Rattle.romfs_format.specs.Chains.{IsFirst, IsNext, IsAt, IsInChain, IsDotted, IsPassedOver, IsOpened, at_root, below, Stands, IsMember, IsSomeMember, Leads}
+use Rattle.romfs_format.specs.Chains.{IsFirst, IsNext, IsAt, IsInChain, IsDotted, IsPassedOver, IsOpened, at_root, below, Stands, IsMember, IsSomeMember, Leads, Has}
+use Rattle.romfs_format.specs.Heads.{head_of}
 use Rattle.romfs_format.specs.Links.{Field, first_of, next_of, IsLink, IsHardLink, IsDirectory, destination, IsDestination, here, there, IsFinal, stays, follows, EndsAs, IsTarget, IsReached}
 use Rattle.romfs_format.specs.Rules.{IsNamed, IsUsed, HasData, IsDevice, IsBadName, EndsOutside, HasNoRoot, HasBadSum, BreaksHeader}
 use Rattle.kept_image.specs.Footprint.{Agrees, IsClosed}
-use Rattle.kept_image.proofs.Alike.{Alike, alike, alike_sym}
+use Rattle.kept_image.proofs.Alike.{Alike, alike, alike_sym, bytes_of_link}
 
 -- the headers of the set lead to headers of the set
 pub record Keeps (headers : ℕ → Bool) (a : List ℕ) : Type 0 where
@@ -197,10 +198,23 @@ module _ (headers : ℕ → Bool) (a xs : List ℕ) (s : Alike headers a xs) (c 
   used_alike h (i, inl m) = (let r = some_alike h m in ((inside_alike headers a xs s h i, inl r.0), r.1))
   used_alike h (i, inr t) = (let r = target_alike h t in ((inside_alike headers a xs s h i, inr r.0), r.1))
 
-  path_alike : (path : List (List ℕ)) (d h : ℕ) → IsTrue (headers d) → Leads a d path h → Leads xs d path h
-  path_alike [] d h i e = e
+  path_alike : (path : List (List ℕ)) (d h : ℕ) → IsTrue (headers d) → Leads a d path h → Leads xs d path h × IsTrue (headers h)
+  path_alike [] d h i e = (e, subst (λ g. IsTrue (headers g)) e i)
   path_alike (n ∷ path) d h i (g, m, e, rest) =
-      let r = member_alike d g m in (g, r.0, sym (s.names g r.1) ∙ e, path_alike path g h r.1 rest)
+      let r = member_alike d g m in
+      let t = path_alike path g h r.1 rest in ((g, r.0, sym (s.names g r.1) ∙ e, t.0), t.1)
+
+  has_alike : (path : List (List ℕ)) (h : ℕ) → Has a path h → Has xs path h × IsTrue (headers h)
+  has_alike path h p =
+      let t = path_alike path (root a) h c.at_root p in (subst (λ d. Leads xs d path h) s.roots t.0, t.1)
+
+  head_alike : (h : ℕ) → IsTrue (headers h) → head_of a h ≡ head_of xs h
+  head_alike h i =
+      let e = word0 headers a xs s h i in
+      let f = spec_alike headers a xs s h i in
+      let g = size_alike headers a xs s h i in
+      let k = s.names h i in
+      rw (e, f, g, k) refl
 
 -- the rules
 module _ (headers : ℕ → Bool) (a xs : List ℕ) (s : Alike headers a xs) (c : Keeps headers a) where
@@ -301,7 +315,7 @@ module _ (headers : ℕ → Bool) (a xs : List ℕ) (s : Alike headers a xs) (c 
         ),
       )
   breaks_alike profile TooDeep h (path, p, l) =
-      (path, subst (λ d. Leads xs d path h) s.roots (path_alike headers a xs s c path (root a) h c.at_root p), l)
+      (path, (has_alike headers a xs s c path h p).0, l)
   breaks_alike Strict HeaderSum h (t, i, b) =
       let r = reached_alike headers a xs s c h t in
       (r.0, inside_alike headers a xs s h i, sum_alike h r.1 b)
@@ -316,6 +330,24 @@ header_rules profile kept headers a xs g c r h =
       breaks_alike headers a xs s k profile r h,
       breaks_alike headers xs a (alike_sym headers a xs s) (keeps_alike headers a xs s k) profile r h,
     )
+
+-- a path leads to the same header, which has the same fields
+pub same_path : (kept headers : ℕ → Bool) (a xs : List ℕ) → Agrees kept a xs → IsClosed kept headers a
+    → (path : List (List ℕ)) (h : ℕ) → (Has a path h → Has xs path h × (head_of a h ≡ head_of xs h)) × (Has xs path h → Has a path h)
+same_path kept headers a xs g c path h =
+    let s = alike kept headers a xs g c in
+    let k = closed_keeps kept headers a c in (
+      (λ p. (let t = has_alike headers a xs s k path h p in (t.0, head_alike headers a xs s k h t.1))),
+      (λ p. (has_alike headers xs a (alike_sym headers a xs s) (keeps_alike headers a xs s k) path h p).0),
+    )
+
+-- and has the same target
+pub same_target : (kept headers : ℕ → Bool) (a xs : List ℕ) → Agrees kept a xs → IsClosed kept headers a
+    → (path : List (List ℕ)) (h : ℕ) (n : List ℕ) → Has a path h → kind a h ≡ SymLink → size a h ≤ MAX_TARGET_SIZE → name a h ≡ Some n
+    → take (size a h) (drop (data_at h n) a) ≡ take (size a h) (drop (data_at h n) xs)
+same_target kept headers a xs g c path h n p k l e =
+    let t = has_alike headers a xs (alike kept headers a xs g c) (closed_keeps kept headers a c) path h p in
+    bytes_of_link kept a xs g h n (c.target h t.1) k l e
 
 -- the root is missing in both, or in neither
 pub no_root_goes : (headers : ℕ → Bool) (a xs : List ℕ) → Alike headers a xs → IsTrue (headers (root a)) → HasNoRoot a → HasNoRoot xs

@@ -1,7 +1,7 @@
 -- A walk over headers: each place that was noted waits or is done. A turn keeps this (under_turn), each
 -- turn takes one from what may still be noted and waits (few_places), and with nothing left to wait what
 -- was kept is closed (gathered).
-use Rattle.std.proofs.Common.{◌≡◌, ◌≢◌, ◌∙◌, sym, ap, subst, ℕ, zero, suc, ◌+◌, ◌-◌, ◌*◌, ◌/◌, ◌%◌, ◌^◌, ◌<◌, ◌≤◌, ◌==◌, ◌⊎◌, inl, inr, min, List, [], ◌∷◌, ◌++◌, length, take, drop, get_or, Bool, IsTrue, true, false, cond, ◌||◌, if◌then◌else◌, Option, Some, None, refl, arith, length-take, length-take-le, length-drop}
+use Rattle.std.proofs.Common.{◌≡◌, ◌≢◌, ◌∙◌, sym, ap, subst, ℕ, zero, suc, ◌+◌, ◌-◌, ◌*◌, ◌/◌, ◌%◌, ◌^◌, ◌<◌, ◌≤◌, ◌==◌, ◌⊎◌, inl, inr, min, List, [], ◌∷◌, ◌++◌, length, take, drop, get_or, Bool, IsTrue, true, false, ◌||◌, if◌then◌else◌, Option, Some, None, refl, arith, length-take, length-take-le, length-drop}
 use Rattle.std.specs.Prelude.{nat_le}
 use Rattle.std.specs.Option.{option_map_or}
 use Rattle.std.specs.List.{Contains}
@@ -10,14 +10,11 @@ use Rattle.std.specs.List.{list_any}
 use Rattle.std.specs.BTreeMap.{is_at}
 use Rattle.std.specs.BTreeSet.{BTreeSet, contains, IsOrdered}
 use Rattle.std.specs.Ordering.{nat_cmp, is_eq}
-use Rattle.std.specs.declared.cmp.Ordering.{Ordering}
-use Rattle.std.specs.declared.cmp.Ordering.TheVariants.{Less, Equal, Greater}
-use Rattle.std.proofs.lemmas.Map.Lookups.{exact_unsigned}
 use Rattle.std.proofs.lemmas.Map.Keys.{below_from_sorted}
 use Rattle.std.proofs.lemmas.Bool.{cases_lt}
 use Rattle.std.proofs.lemmas.Bool.Decides.{nat_tests}
 use Rattle.std.proofs.lemmas.List.{get_or-take, get_or-drop, get_or_past}
-use Rattle.std.proofs.lemmas.List.Elements.{Contains-append_left, Contains-push, Contains-push_cases}
+use Rattle.std.proofs.lemmas.List.Elements.{Contains-append_left, Contains-push_cases}
 use Rattle.romfs_format.specs.declared.head.Kind.TheVariants.{Directory, HardLink}
 use Rattle.romfs_format.specs.declared.limits.TheConstants.{HEAD_SIZE}
 use Rattle.romfs_format.specs.Fields.{word, root, IsInside, kind_of, kind, next, spec, cleared, text_end, text_at}
@@ -60,10 +57,6 @@ pub reached : (known : Option (List ℕ)) (whole full size : ℕ) (front : List 
 reached None whole full size front len l w r n f s e = tt
 reached (Some b) whole full size front len l w r n f s e = reach_is b front whole (w ∙ ap (λ k. min k 4294967295) l) r n full size f s e
 
-pub size_within : (known : Option (List ℕ)) (whole len : ℕ) → IsSizeOf known len → whole ≤ len → AreWithin known whole
-size_within None whole len l w = tt
-size_within (Some b) whole len l w = omega arith
-
 -- the volume name lies in the first bytes, and so they say where the root stands
 pub front_near : (xs front : List ℕ) → length front ≡ 512 → HasBytesAt xs 0 front → IsFront xs 16 256 (take (length front - 16) (drop 16 front))
 front_near xs front n h = record {
@@ -105,71 +98,6 @@ front_added (Some b) size root_at front old new w e r a f = record {
   where
     none : AreRight (take size b) []
     none = record { each = λ x c. absurd (let l = c.1 in omega arith) }
-
--- what a key adds to a set of numbers
-pub record Adds (old new : ℕ → Bool) (at : ℕ) : Type 0 where
-  pub grows : (h : ℕ) → IsTrue (old h) → IsTrue (new h)
-  pub has : IsTrue (new at)
-  pub only : (h : ℕ) → IsTrue (new h) → IsTrue (old h) ⊎ (h ≡ at)
-
-pub adds_key : (old new : ℕ → Bool) (at : ℕ) → ((q : ℕ) → new q ≡ cond (is_eq (nat_cmp at q)) true (old q)) → new at ≡ true → Adds old new at
-adds_key old new at u t = record {
-  grows = λ h s. grown h (is_eq (nat_cmp at h)) (u h) s;
-  has = t;
-  only = λ h s. either h (is_eq (nat_cmp at h)) refl (sym (u h) ∙ s);
-}
-  where
-    grown : (h : ℕ) (b : Bool) → new h ≡ cond b true (old h) → IsTrue (old h) → IsTrue (new h)
-    grown h true e s = e
-    grown h false e s = e ∙ s
-
-    equal_keys : (x y : ℕ) (o : Ordering) → nat_cmp x y ≡ o → is_eq o ≡ true → x ≡ y
-    equal_keys x y Less e s = absurd (cc)
-    equal_keys x y Equal e s = exact_unsigned x y e
-    equal_keys x y Greater e s = absurd (cc)
-
-    either : (h : ℕ) (b : Bool) → is_eq (nat_cmp at h) ≡ b → cond b true (old h) ≡ true → IsTrue (old h) ⊎ (h ≡ at)
-    either h true e s = inr (sym (equal_keys at h (nat_cmp at h) refl e))
-    either h false e s = inl s
-
--- what is noted
-pub pushed_none : (todo : List ℕ) (noted : ℕ → Bool) (test : Bool) (place : ℕ) → (IsTrue test → ⊥) → HasPushed todo todo noted noted test place
-pushed_none todo noted test place n = record {
-  grown = λ h c. c;
-  from = λ h c. inl c;
-  stays = λ h s. s;
-  has = λ t. absurd (n t);
-  only = λ h s. inl s;
-}
-
-pub pushed_again : (todo : List ℕ) (old new : ℕ → Bool) (test : Bool) (place : ℕ) → Adds old new place → IsTrue (old place)
-    → HasPushed todo todo old new test place
-pushed_again todo old new test place a o = record {
-  grown = λ h c. c;
-  from = λ h c. inl c;
-  stays = a.grows;
-  has = λ t. a.has;
-  only = λ h s. elim (a.only h s) [
-    | inl x ↦ inl x
-    | inr e ↦ inl (subst (λ k. IsTrue (old k)) (sym e) o)
-  ];
-}
-
-pub pushed_one : (todo more : List ℕ) (old new : ℕ → Bool) (test : Bool) (place : ℕ) → Adds old new place → more ≡ todo ++ place ∷ []
-    → HasPushed todo more old new test place
-pushed_one todo more old new test place a e = subst (λ l. HasPushed todo l old new test place) (sym e) (record {
-  grown = λ h c. Contains-append_left todo (place ∷ []) h c;
-  from = λ h c. elim (Contains-push_cases todo place h c) [
-    | inl x ↦ inl x
-    | inr f ↦ inr (sym f)
-  ];
-  stays = a.grows;
-  has = λ t. a.has;
-  only = λ h s. elim (a.only h s) [
-    | inl x ↦ inl x
-    | inr f ↦ inr (f, subst (λ k. Contains (todo ++ place ∷ []) k) (sym f) (Contains-push todo place))
-  ];
-})
 
 -- places of headers are multiples of 16 that fit a word, so there are few
 pub record IsPlace (h : ℕ) : Type 0 where
@@ -326,12 +254,6 @@ under_start (Some b) end start pieces none todo noted more f n p = (
     ];
   },
 )
-
-pub under_ends : (known : Option (List ℕ)) (end start : ℕ) (pieces : List Piece) (todo : List ℕ) (noted : ℕ → Bool) → todo ≡ []
-    → ((h : ℕ) → IsTrue (noted h) → IsPlace h) → IsUnderWay known end start pieces todo noted → HasWalked known end pieces
-under_ends None end start pieces todo noted e p u = tt
-under_ends (Some b) end start pieces todo noted e p u =
-    (noted, subst (λ l. IsWalking (take end b) pieces l noted) e u.1, λ h s. (p h s).even)
 
 same_byte : (x y : ℕ) → x ≡ y → IsTrue (x == y)
 same_byte x y e = grind (arith, nat_tests)
