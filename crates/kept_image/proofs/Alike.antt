@@ -34,7 +34,8 @@ module _ (kept : ℕ → Bool) (a xs : List ℕ) (agrees : Agrees kept a xs) whe
   unfolding name_field
   field_long p =
       let e = agrees.long in
-      length-take 256 (drop p a) ∙ ap (λ n. min 256 n) (length-drop p a ∙ ap (λ n. n - p) e ∙ sym (length-drop p xs)) ∙ sym (length-take 256 (drop p xs))
+      length-take 256 (drop p a) ∙ ap (λ n. min 256 n) (length-drop p a ∙ ap (λ n. n - p) e ∙ sym (length-drop p xs))
+      ∙ sym (length-take 256 (drop p xs))
 
   field_few : (p i : ℕ) → i < length (name_field a p) → (i < 256) × (p + i < length a)
   unfolding name_field

@@ -48,7 +48,8 @@ one_more old mid new one f e = subst (λ (l : List Piece). IsOneMore old one l) 
     | inl m ↦ inl (f.from x m)
     | inr m ↦ inr (sym m)
   ];
-  stays = λ b h. (let g = f.stays b h in record { piece = g.piece; among = Contains-append_left mid (one ∷ []) g.piece g.among; is = g.is });
+  stays = λ b h.
+      (let g = f.stays b h in record { piece = g.piece; among = Contains-append_left mid (one ∷ []) g.piece g.among; is = g.is });
   has = record { piece = one; among = Contains-push mid one; is = refl };
 })
 

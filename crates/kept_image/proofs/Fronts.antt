@@ -18,7 +18,8 @@ pub filled_at : (size : ℕ) (blocks bytes : List ℕ) (i : ℕ) → i < size �
 unfolding filled
 filled_at size blocks bytes i l = get_or-map-range_with_len (byte_of blocks bytes) 0 size i i 0 l (omega arith)
 
-pub front_of : (size : ℕ) (blocks bytes : List ℕ) (at : ℕ) (xs : List ℕ) → IsRun blocks bytes at xs → IsFront (filled size blocks bytes) at 272 xs
+pub front_of : (size : ℕ) (blocks bytes : List ℕ) (at : ℕ) (xs : List ℕ) → IsRun blocks bytes at xs
+    → IsFront (filled size blocks bytes) at 272 xs
 front_of size blocks bytes at xs r = record {
   is = λ i l m. filled_at size blocks bytes (at + i) (let e = filled_long size blocks bytes in omega arith) ∙ r.is i l;
   stops = λ l. elim (cases_lt (at + length xs) size) [
@@ -122,7 +123,8 @@ word_of_run size blocks bytes at xs r l m = big_same xs (drop at (filled size bl
     ∙ sym (get_or-drop at (filled size blocks bytes) i 0))
 
 pub word_of_bytes : (size : ℕ) (blocks bytes : List ℕ) (at : ℕ) → at + 4 ≤ size → (x y z w : ℕ)
-    → x ≡ byte_of blocks bytes at → y ≡ byte_of blocks bytes (at + 1) → z ≡ byte_of blocks bytes (at + 2) → w ≡ byte_of blocks bytes (at + 3)
+    → x ≡ byte_of blocks bytes at → y ≡ byte_of blocks bytes (at + 1) → z ≡ byte_of blocks bytes (at + 2)
+    → w ≡ byte_of blocks bytes (at + 3)
     → big_number 4 (x ∷ y ∷ z ∷ w ∷ []) ≡ word (filled size blocks bytes) at
 unfolding word
 word_of_bytes size blocks bytes at m x y z w e f g h =

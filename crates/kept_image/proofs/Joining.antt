@@ -13,7 +13,8 @@ use Rattle.kept_image.proofs.Blocks.{byte_kept, byte_none}
 use Rattle.kept_image.proofs.Fronts.{filled_at}
 
 -- a number stands among the blocks, or it does not
-find_block : (blocks : List ℕ) (q : ℕ) → ((i : ℕ) × (i < length blocks) × (get_or blocks i 0 ≡ q)) ⊎ ((i : ℕ) → i < length blocks → get_or blocks i 0 ≢ q)
+find_block : (blocks : List ℕ) (q : ℕ)
+    → ((i : ℕ) × (i < length blocks) × (get_or blocks i 0 ≡ q)) ⊎ ((i : ℕ) → i < length blocks → get_or blocks i 0 ≢ q)
 find_block [] q = inr (λ i l e. absurd (omega arith))
 find_block (b ∷ blocks) q = elim (cases_eq b q) [
   | inl e ↦ inl (0, (let l : 0 < length (b ∷ blocks) = omega arith in l), e)
@@ -208,7 +209,8 @@ module _ (pieces : List Piece) (sorted : IsNonDecreasingBy (λ (x : Piece). x.bl
       (sym (ap length is) ∙ whole)))
 
 -- all pieces are joined
-pub joined_all : (pieces : List Piece) (blocks bytes : List ℕ) (n : ℕ) → n ≡ length pieces → Joined pieces blocks bytes n → IsPacked pieces blocks bytes
+pub joined_all : (pieces : List Piece) (blocks bytes : List ℕ) (n : ℕ) → n ≡ length pieces → Joined pieces blocks bytes n
+    → IsPacked pieces blocks bytes
 joined_all pieces blocks bytes n e w = record {
   kept = w.kept;
   same = λ xs r p h. here xs r p h;

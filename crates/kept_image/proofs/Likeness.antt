@@ -323,7 +323,8 @@ module _ (headers : ℕ → Bool) (a xs : List ℕ) (s : Alike headers a xs) (c 
   breaks_alike profile r h x = absurd x
 
 pub header_rules : (profile : Profile) (kept headers : ℕ → Bool) (a xs : List ℕ) → Agrees kept a xs → IsClosed kept headers a
-    → (r : Rule) (h : ℕ) → (BreaksHeader profile a r h → BreaksHeader profile xs r h) × (BreaksHeader profile xs r h → BreaksHeader profile a r h)
+    → (r : Rule) (h : ℕ)
+    → (BreaksHeader profile a r h → BreaksHeader profile xs r h) × (BreaksHeader profile xs r h → BreaksHeader profile a r h)
 header_rules profile kept headers a xs g c r h =
     let s = alike kept headers a xs g c in
     let k = closed_keeps kept headers a c in (

@@ -23,7 +23,8 @@ ends (suc x ∷ xs) n e = more (λ m g. ends xs m g) (ended xs) refl e
     later m r zero l w = absurd (cc)
     later m r (suc j) l w = r.before j (omega arith) w
 
-    more : ((m : List ℕ) → ended xs ≡ Some m → Ends xs m) → (o : Option (List ℕ)) → ended xs ≡ o → option_map (λ text. suc x ∷ text) o ≡ Some n → Ends (suc x ∷ xs) n
+    more : ((m : List ℕ) → ended xs ≡ Some m → Ends xs m) → (o : Option (List ℕ)) → ended xs ≡ o
+        → option_map (λ text. suc x ∷ text) o ≡ Some n → Ends (suc x ∷ xs) n
     more rest None g f = absurd (cc)
     more rest (Some m) g f =
         let r = rest m g in

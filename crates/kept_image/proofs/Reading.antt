@@ -26,7 +26,8 @@ room_read (Some b) size at start count n bytes zeros room w h l m o c z e = reco
     all_long : length (take count (drop (at - start) bytes) ++ drop count zeros) ≡ length zeros
     all_long = (let a = length-append (take count (drop (at - start) bytes)) (drop count zeros) in let p = part_long in let d = length-drop count zeros in omega arith)
 
-    here : (i : ℕ) → i < length zeros → get_or (take count (drop (at - start) bytes) ++ drop count zeros) i 0 ≡ get_or (take size b) (at + i) 0
+    here : (i : ℕ) → i < length zeros
+        → get_or (take count (drop (at - start) bytes) ++ drop count zeros) i 0 ≡ get_or (take size b) (at + i) 0
     here i k = elim (cases_lt i count) [
       | inl q ↦ get_or_append_left (take count (drop (at - start) bytes)) (drop count zeros) 0 i (let p = part_long in omega arith)
           ∙ get_or-take count (drop (at - start) bytes) i 0 q ∙ get_or-drop (at - start) bytes i 0

@@ -82,7 +82,8 @@ module _ (xs head : List ℕ) (at : ℕ) (h : IsHeadAt xs at head) where
   read : (i : ℕ) → i < length head → get_or xs (at + i) 0 ≡ get_or head i 0
   read i l = sym (h.same.same i l)
 
-  module _ (k : ℕ) (few : k < 256) (zero_at : get_or xs (at + 16 + k) 0 ≡ 0) (before : (j : ℕ) → j < k → get_or xs (at + 16 + j) 0 ≢ 0) where
+  module _ (k : ℕ) (few : k < 256) (zero_at : get_or xs (at + 16 + k) 0 ≡ 0)
+      (before : (j : ℕ) → j < k → get_or xs (at + 16 + j) 0 ≢ 0) where
     above : 16 + k < length head
     above = elim (cases_lt (16 + k) (length head)) [
       | inl l ↦ l
@@ -172,7 +173,8 @@ has_visited (Some b) size at head old mid new first second third w h r e f g t =
 
 -- nothing was added where the target has no bytes
 pub target_none : (known : Option (List ℕ)) (end from count first third : ℕ) (old : List Piece) → count ≡ 0
-    → (kind_of (first % 8) ≡ SymLink → third ≤ MAX_TARGET_SIZE → count ≡ min third (end - from)) → HasAddedTarget known end from first third old old
+    → (kind_of (first % 8) ≡ SymLink → third ≤ MAX_TARGET_SIZE → count ≡ min third (end - from))
+    → HasAddedTarget known end from first third old old
 target_none None end from count first third old z e = tt
 target_none (Some b) end from count first third old z e = record {
   right = λ r. r;
@@ -183,7 +185,8 @@ target_none (Some b) end from count first third old z e = record {
 -- a target whose blocks were added
 pub target_row : (known : Option (List ℕ)) (end from count len first third : ℕ) (old new : List Piece) → from % 16 ≡ 0
     → AreAdded known end (from / 16) (len / 16) old new → len ≡ padded count
-    → (kind_of (first % 8) ≡ SymLink → third ≤ MAX_TARGET_SIZE → count ≡ min third (end - from)) → HasAddedTarget known end from first third old new
+    → (kind_of (first % 8) ≡ SymLink → third ≤ MAX_TARGET_SIZE → count ≡ min third (end - from))
+    → HasAddedTarget known end from first third old new
 target_row None end from count len first third old new w a p e = tt
 target_row (Some b) end from count len first third old new w a p e = record {
   right = a.right;

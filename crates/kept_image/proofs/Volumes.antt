@@ -262,7 +262,8 @@ module _ (profile : Profile) (a b : List ℕ) (t : Twins profile a b) where
     }
     | inr k ↦ (let l : stage r ≤ 2 = low k in record {
       broken = volume_goes a b t.volume profile r p (early r l) f.broken;
-      first = λ s q x n. f.first s q (volume_goes b a (volume_sym a b t.volume) profile s q (early s (let m = not_later r s p q n in omega arith)) x) n;
+      first = λ s q x n. f.first s q
+          (volume_goes b a (volume_sym a b t.volume) profile s q (early s (let m = not_later r s p q n in omega arith)) x) n;
     })
   ]
     where

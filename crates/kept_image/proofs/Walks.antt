@@ -41,11 +41,13 @@ module _ (b front : List ℕ) (whole : ℕ) (long : whole ≡ min (length b) 429
             ∙ sym (get_or_past b (8 + i) 0 (omega arith))
       ])
 
-  reach_is : (full size : ℕ) → full ≡ word front 8 → full < 4294967296 → size ≡ min whole (if nat_le HEAD_SIZE full then full else HEAD_SIZE)
+  reach_is : (full size : ℕ) → full ≡ word front 8 → full < 4294967296
+      → size ≡ min whole (if nat_le HEAD_SIZE full then full else HEAD_SIZE)
       → size ≡ reach b
   reach_is full size e l s = s ∙ rw (e ∙ full_word) (clip (word b 8) (omega (arith, e ∙ full_word)))
     where
-      clip : (w : ℕ) → w < 4294967296 → min whole (if nat_le HEAD_SIZE w then w else HEAD_SIZE) ≡ min (length b) (if nat_le HEAD_SIZE w then w else HEAD_SIZE)
+      clip : (w : ℕ) → w < 4294967296
+          → min whole (if nat_le HEAD_SIZE w then w else HEAD_SIZE) ≡ min (length b) (if nat_le HEAD_SIZE w then w else HEAD_SIZE)
       clip w l = elim (cases_lt w HEAD_SIZE) [
         | inl m ↦ (let f : (if nat_le HEAD_SIZE w then w else HEAD_SIZE) ≡ HEAD_SIZE = grind (arith, nat_tests) in omega arith)
         | inr m ↦ (let f : (if nat_le HEAD_SIZE w then w else HEAD_SIZE) ≡ w = grind (arith, nat_tests) in omega arith)
@@ -58,7 +60,8 @@ reached None whole full size front len l w r n f s e = tt
 reached (Some b) whole full size front len l w r n f s e = reach_is b front whole (w ∙ ap (λ k. min k 4294967295) l) r n full size f s e
 
 -- the volume name lies in the first bytes, and so they say where the root stands
-pub front_near : (xs front : List ℕ) → length front ≡ 512 → HasBytesAt xs 0 front → IsFront xs 16 256 (take (length front - 16) (drop 16 front))
+pub front_near : (xs front : List ℕ) → length front ≡ 512 → HasBytesAt xs 0 front
+    → IsFront xs 16 256 (take (length front - 16) (drop 16 front))
 front_near xs front n h = record {
   is = λ i l m. sym (h.same (16 + i) (let e = long in omega arith)
       ∙ ap (λ k. get_or xs k 0) (let e : 0 + (16 + i) ≡ 16 + i = omega arith in e))
@@ -142,13 +145,16 @@ pub smaller : (len more most before todo mid after : ℕ) → before ≡ todo + 
     → len ≤ more → more ≤ most → most ≤ 2 ^ 28 → 2 ^ 28 - most + after < 2 ^ 28 - len + before
 smaller len more most before todo mid after a b c d e f = omega arith
 
-still_text : (xs : List ℕ) (old new : List Piece) (p : ℕ) → ((b : ℕ) → HasBlock old b → HasBlock new b) → HasText old xs p → HasText new xs p
+still_text : (xs : List ℕ) (old new : List Piece) (p : ℕ) → ((b : ℕ) → HasBlock old b → HasBlock new b) → HasText old xs p
+    → HasText new xs p
 still_text xs old new p s t = record { each = λ i l m n. s ((p + i) / 16) (t.each i l m n) }
 
-still_target : (xs : List ℕ) (old new : List Piece) (h : ℕ) → ((b : ℕ) → HasBlock old b → HasBlock new b) → HasTarget old xs h → HasTarget new xs h
+still_target : (xs : List ℕ) (old new : List Piece) (h : ℕ) → ((b : ℕ) → HasBlock old b → HasBlock new b) → HasTarget old xs h
+    → HasTarget new xs h
 still_target xs old new h s t = record { each = λ k l n e i m o. s _ (t.each k l n e i m o) }
 
-module _ (start at end : ℕ) (old new : List Piece) (before todo mid after : List ℕ) (noted more most : ℕ → Bool) (first second : ℕ) (test down : Bool)
+module _ (start at end : ℕ) (old new : List Piece) (before todo mid after : List ℕ) (noted more most : ℕ → Bool) (first second : ℕ)
+    (test down : Bool)
     (popped : before ≡ todo ++ at ∷ [])
     (one : HasPushed todo mid noted more test (cleared first)) (two : HasPushed mid after more most down (cleared second))
     (goes : start ≤ at → at + 16 ≤ end → cleared first ≢ 0 → IsTrue test)
@@ -217,14 +223,16 @@ module _ (start at end : ℕ) (old new : List Piece) (before todo mid after : Li
   under_turn (Some b) l u v = (u.0, turned (take end b) (length-take-le end b l) u.0 u.1 v)
 
 -- the places that wait or are noted stay places
-pub places_turn : (old new : ℕ → Bool) (todo more : List ℕ) (test : Bool) (place : ℕ) → HasPushed todo more old new test place → IsPlace place
+pub places_turn : (old new : ℕ → Bool) (todo more : List ℕ) (test : Bool) (place : ℕ) → HasPushed todo more old new test place
+    → IsPlace place
     → ((h : ℕ) → IsTrue (old h) → IsPlace h) → (h : ℕ) → IsTrue (new h) → IsPlace h
 places_turn old new todo more test place p is o h s = elim (p.only h s) [
   | inl x ↦ o h x
   | inr e ↦ subst (λ k. IsPlace k) (sym e.0) is
 ]
 
-pub waiting_turn : (old new : ℕ → Bool) (todo more : List ℕ) (test : Bool) (place : ℕ) → HasPushed todo more old new test place → IsPlace place
+pub waiting_turn : (old new : ℕ → Bool) (todo more : List ℕ) (test : Bool) (place : ℕ) → HasPushed todo more old new test place
+    → IsPlace place
     → ((h : ℕ) → Contains todo h → IsPlace h) → (h : ℕ) → Contains more h → IsPlace h
 waiting_turn old new todo more test place p is o h s = elim (p.from h s) [
   | inl x ↦ o h x

@@ -34,7 +34,8 @@ pub record IsOfRow (first : ℕ) (bytes : List ℕ) (count : ℕ) (x : Piece) : 
   pub same : (j : ℕ) → j < 16 → get_or x.bytes j 0 ≡ get_or bytes (place * 16 + j) 0
 
 -- the pieces are among the old ones and those of the row, and no block is missing
-pub record HasRow (old : List Piece) (first : ℕ) (bytes : List ℕ) (count : ℕ) (new : List Piece) : Type 0 where
+pub record HasRow (old : List Piece) (first : ℕ) (bytes : List ℕ) (count : ℕ)
+    (new : List Piece) : Type 0 where
   pub from : (x : Piece) → Contains new x → Contains old x ⊎ IsOfRow first bytes count x
   pub stays : (b : ℕ) → HasBlock old b → HasBlock new b
   pub has : (i : ℕ) → i < count → HasBlock new (first + i)

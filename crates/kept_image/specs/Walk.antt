@@ -58,7 +58,8 @@ HasFront None end root_at new = ⊤
 HasFront (Some b) end root_at new = IsFrontAdded (take end b) root_at new
 
 -- a place waits that was not noted before, if the test says so
-pub record HasPushed (old_todo new_todo : List ℕ) (old new : ℕ → Bool) (test : Bool) (place : ℕ) : Type 0 where
+pub record HasPushed (old_todo new_todo : List ℕ) (old new : ℕ → Bool) (test : Bool)
+    (place : ℕ) : Type 0 where
   pub grown : (h : ℕ) → Contains old_todo h → Contains new_todo h
   pub from : (h : ℕ) → Contains new_todo h → Contains old_todo h ⊎ (h ≡ place)
   pub stays : (h : ℕ) → IsTrue (old h) → IsTrue (new h)
@@ -79,7 +80,8 @@ pub record IsDone (xs : List ℕ) (pieces : List Piece) (noted : ℕ → Bool) (
   pub to_spec : GoesDown xs h → IsTrue (noted (cleared (spec xs h)))
 
 -- each place that was noted waits or is done
-pub record IsWalking (xs : List ℕ) (pieces : List Piece) (todo : List ℕ) (noted : ℕ → Bool) : Type 0 where
+pub record IsWalking (xs : List ℕ) (pieces : List Piece) (todo : List ℕ)
+    (noted : ℕ → Bool) : Type 0 where
   pub right : AreRight xs pieces
   pub front : (i : ℕ) → i < 32 → HasBlock pieces i
   pub at_root : IsTrue (noted (root xs))

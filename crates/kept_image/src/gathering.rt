@@ -36,8 +36,8 @@ use std::collections::BTreeSet;
 /// `Memory` only where memory was refused. Of known bytes no read fails.
 ///
 /// A header is read once. It takes two reads at most, and a third for the target of a symbolic link
-/// whose name has 48 bytes or more; headers that stand close together take fewer. Memory is taken in
-/// proportion to headers, names and targets, and n log n steps, in whatever order they stand.
+/// whose name has 48 bytes or more; headers that stand close together take fewer. Memory is taken
+/// in proportion to headers, names and targets, and n log n steps, in whatever order they stand.
 pub fn gather<S: Contents, A: Allocator + Copy>(
     alloc: A,
     source: &S,

@@ -23,8 +23,8 @@ use std::marker::Model;
 /// How many blocks a run has at most: as many as a header and its name can reach into.
 const RUN_BLOCKS: usize = 18;
 
-/// What is kept of an image: some of its blocks of 16 bytes. A clause sees a list of bytes, those of
-/// the blocks at their places and zeros between. The list is as long as the full size says, or as
+/// What is kept of an image: some of its blocks of 16 bytes. A clause sees a list of bytes, those
+/// of the blocks at their places and zeros between. The list is as long as the full size says, or as
 /// the image where that is shorter; 16 bytes at least, where there are so many.
 #[derive(Drop)]
 pub struct Kept<A: Allocator> {
@@ -82,7 +82,8 @@ fn row(blocks: &[u32], at: usize, block: u32) -> usize
     count
 }
 
-/// The kept bytes from a place on, as far as they go without a gap, or farther than a header and its name can.
+/// The kept bytes from a place on, as far as they go without a gap, or farther than a header and
+/// its name can.
 fn run<'a>(blocks: &[u32], bytes: &'a [u8], at: u32) -> &'a [u8]
     requires { IsKept blocks.now bytes.now }
     ensures { IsRun blocks.now bytes.now at result.now }

@@ -13,8 +13,8 @@ ghost use Rattle.romfs_format.specs.Rules.{Breaks, BreaksHeader, IsFaultOf};
 ghost use Rattle.kept_image.specs.Gathered.{IsGathered};
 ghost use Rattle.kept_image.specs.Footprint.{Agrees, IsClosed};
 
-/// Lists that agree where the headers of a closed set are kept break the same rules of headers, each
-/// at the same headers, whatever the profile.
+/// Lists that agree where the headers of a closed set are kept break the same rules of headers,
+/// each at the same headers, whatever the profile.
 pub fn same_header_rules()
     ensures { (profile : Profile) (kept headers : ℕ → Bool) (a xs : List ℕ) → Agrees kept a xs →
         IsClosed kept headers a → (r : Rule) (h : ℕ) →

@@ -1,7 +1,7 @@
 //! A header that is read and added, with its name and the target of a symbolic link.
 //!
-//! Most names are short, so a header is looked at with 16 bytes of its name first, then with 48, and
-//! then with all that a name may have.
+//! Most names are short, so a header is looked at with 16 bytes of its name first, then with 48,
+//! and then with all that a name may have.
 
 ghost use Rattle.std.specs.Prelude.{◌≡◌, ◌+◌, ◌*◌, ◌-◌, ◌/◌, ◌%◌, ◌<◌, ◌≤◌, ◌^◌, length, min, IfOk, IfSome, OnOk, IfErr};
 ghost use Rattle.romfs_format.specs.declared.limits.TheConstants.{MAX_TARGET_SIZE};

@@ -49,7 +49,8 @@ pub fn note_used<A: Allocator>(window: &mut Window<A>, count: usize)
     window.used = window.used.saturating_add(count);
 }
 
-/// Fills a room with the bytes from a place on, of an image of this size; with zeros behind its end.
+/// Fills a room with the bytes from a place on, of an image of this size, and with zeros behind
+/// its end.
 pub fn read<S: Contents, A: Allocator>(
     source: &S,
     window: &mut Window<A>,

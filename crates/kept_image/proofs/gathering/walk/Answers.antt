@@ -60,5 +60,6 @@ loop-at-smaller g c =
     let few : btree_set_len c.note-in-Some-2.new.noted ≤ 2 ^ 28 = few_noted _ ordered
     (places_turn _ _ _ _ _ _ c.in_ok-note-3.ensures.pushed down
     (places_turn _ _ _ _ _ _ c.in_ok-note-2.ensures.pushed next c.loop-at.invariant.places)) in
-    smaller _ _ _ _ (length c.pop.new.self.items) _ _ (omega (arith, c.in-Some.ensures.cases)) c.in_ok-note-2.ensures.count c.in_ok-note-3.ensures.count
+    smaller _ _ _ _ (length c.pop.new.self.items) _ _
+    (omega (arith, c.in-Some.ensures.cases)) c.in_ok-note-2.ensures.count c.in_ok-note-3.ensures.count
     c.in_ok-note-2.ensures.more c.in_ok-note-3.ensures.more few
