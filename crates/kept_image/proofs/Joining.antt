@@ -184,8 +184,11 @@ module _ (pieces : List Piece) (sorted : IsNonDecreasingBy (λ (x : Piece). x.bl
         from k d m = elim (cases_lt k (length blocks)) [
           | inl q ↦ (let x = w.of_one k d q in let x1 = x.1 in
               (x.0, (let t : x.0 < n + 1 = omega arith in t), x.2 ∙ sym (get_or_append_left blocks (one.block ∷ []) 0 k q)))
-          | inr q ↦ (let z = length-append blocks (one.block ∷ []) in
-              (n, (let t : n < n + 1 = omega arith in t), is_block d ∙ sym (get_or_at blocks one.block [] 0 k (let f : length blocks ≡ k = omega arith in f))))
+          | inr q ↦ (let z = length-append blocks (one.block ∷ []) in (
+            n,
+            (let t : n < n + 1 = omega arith in t),
+            is_block d ∙ sym (get_or_at blocks one.block [] 0 k (let f : length blocks ≡ k = omega arith in f)),
+          ))
         ]
 
 -- the same of a loop's step

@@ -24,7 +24,8 @@ room_read (Some b) size at start count n bytes zeros room w h l m o c z e = reco
     part_long = (let d = length-drop (at - start) bytes in length-take-le count (drop (at - start) bytes) (omega arith))
 
     all_long : length (take count (drop (at - start) bytes) ++ drop count zeros) ≡ length zeros
-    all_long = (let a = length-append (take count (drop (at - start) bytes)) (drop count zeros) in let p = part_long in let d = length-drop count zeros in omega arith)
+    all_long = (let a = length-append (take count (drop (at - start) bytes)) (drop count zeros) in
+        let p = part_long in let d = length-drop count zeros in omega arith)
 
     here : (i : ℕ) → i < length zeros
         → get_or (take count (drop (at - start) bytes) ++ drop count zeros) i 0 ≡ get_or (take size b) (at + i) 0

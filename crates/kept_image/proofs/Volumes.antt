@@ -137,7 +137,8 @@ module _ (b a : List ℕ) (g : IsGatheredOf b a) where
   names : text_at (image a) HEAD_SIZE ≡ text_at (image b) HEAD_SIZE
   names = text_alike (is_same (image a) (image b)) (image a) (image b)
       (record { long = images_long; same = λ p s. eqb-true _ _ s }) HEAD_SIZE
-      (volume_text (is_same (image a) (image b)) (image a) (λ p l m. same_true (get_or (image a) p 0) (get_or (image b) p 0) (images_front p l)))
+      (volume_text (is_same (image a) (image b)) (image a)
+      (λ p l m. same_true (get_or (image a) p 0) (get_or (image b) p 0) (images_front p l)))
     where
       same_true : (x y : ℕ) → x ≡ y → IsTrue (x == y)
       same_true x y e = grind (arith, nat_tests)

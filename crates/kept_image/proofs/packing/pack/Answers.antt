@@ -7,4 +7,5 @@ pub returns-clause-bytes : goal.returns-clause-bytes
 returns-clause-bytes g c =
     subst (λ a. IsFilled c.args.pieces.items c.args.size a) (sym c.new.ensures.bytes)
     (packed_filled _ c.sort.new.pieces.items _ _ _ c.sort.ensures
-    (subst (λ p. IsPacked p c.in_ok-packed.packed.blocks.items c.in_ok-packed.packed.bytes.items) c.deref.ensures.value c.in_ok-packed.ensures))
+    (subst (λ p. IsPacked p c.in_ok-packed.packed.blocks.items c.in_ok-packed.packed.bytes.items)
+    c.deref.ensures.value c.in_ok-packed.ensures))

@@ -6,4 +6,5 @@ use Rattle.kept_image.proofs.pieces.drop_repeats.Goals as goal
 
 pub returns : goal.returns
 returns g c = fewer_both _ _ _ c.sort.ensures.fewer
-    (fewer_deduped _ _ (dedup_same _ (λ (x y : Piece). x.block == y.block) _ (λ x y b f' x' y' k. search rules) _ _ c.dedup_by_key.ensures.filtered))
+    (fewer_deduped _ _ (dedup_same _ (λ (x y : Piece). x.block == y.block) _
+    (λ x y b f' x' y' k. search rules) _ _ c.dedup_by_key.ensures.filtered))
