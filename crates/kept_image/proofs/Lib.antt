@@ -1,0 +1,12 @@
+pub mod Blocks
+pub mod Fields
+pub mod Fronts
+pub mod Names
+pub mod Collecting
+pub mod Joining
+pub mod Reading
+pub mod Visits
+pub mod Walks
+pub mod Alike
+pub mod Likeness
+pub mod Volumes

@@ -1,0 +1,6 @@
+pub mod Kept
+pub mod Pieces
+pub mod Reads
+pub mod Footprint
+pub mod Gathered
+pub mod Walk

@@ -1,0 +1,299 @@
+//! What is kept of an image, and reading in it.
+//!
+//! The numbers of the blocks that are kept rise, and their bytes stand one block after another: so
+//! bytes that lie together in the image lie together here, and a name is a slice. A block is looked
+//! up by halves.
+
+ghost use Rattle.std.specs.Prelude.{◌≡◌, ◌+◌, ◌*◌, ◌/◌, ◌^◌, ◌<◌, ◌≤◌, length, take, drop, slice_index, vec_len, min, ℕ, List, IfSome};
+ghost use Rattle.std.specs.Option.{option_map};
+ghost use Rattle.romfs_format.specs.declared.limits.TheConstants.{HEAD_SIZE};
+ghost use Rattle.romfs_format.specs.Fields.{word as word_of, text_at as text_of, text_end, ended, name_field as field_of};
+ghost use Rattle.romfs_format.specs.Heads.{head_of, name_of};
+ghost use Rattle.kept_image.specs.Kept.{Rises, IsRank, AreInRow, IsRun, IsKept, IsFront, filled, byte_of};
+
+use crate::pieces::BLOCK_SIZE;
+use byteorder::{BigEndian, ByteOrder};
+use memchr::memchr;
+use romfs_format::head::Head;
+use romfs_format::limits::{HEAD_SIZE, NAME_FIELD_SIZE};
+use romfs_format::read::{cleared, kind_of, padded, word};
+use std::alloc::Allocator;
+use std::marker::Model;
+
+/// How many blocks a run has at most: as many as a header and its name can reach into.
+const RUN_BLOCKS: usize = 18;
+
+/// What is kept of an image: some of its blocks of 16 bytes. A clause sees a list of bytes, those
+/// of the blocks at their places and zeros between. The list is as long as the full size says, or as
+/// the image where that is shorter; 16 bytes at least, where there are so many.
+#[derive(Drop)]
+pub struct Kept<A: Allocator> {
+    size: u32,
+    /// The numbers of the blocks, in rising order.
+    blocks: Vec<u32, A>,
+    /// The bytes of the blocks, one block behind the other.
+    bytes: Vec<u8, A>,
+}
+
+impl<A: Allocator> Model for Kept<A> {
+    ghost use Rattle.std.specs.Prelude.{List, ℕ};
+    ghost use Rattle.kept_image.specs.Kept.{IsKept, filled};
+
+    ghost Value = { List ℕ };
+
+    ghost view = { λ kept. filled kept.size kept.blocks.items kept.bytes.items };
+
+    ghost invariant = { λ kept. IsKept kept.blocks.items kept.bytes.items };
+}
+
+/// How many blocks have a number below this one.
+fn rank(blocks: &[u32], block: u32) -> usize
+    requires { Rises blocks.now }
+    ensures { IsRank blocks.now block result }
+{
+    let mut low = 0;
+    let mut high = blocks.len();
+    while low < high {
+        let middle = low + (high - low) / 2;
+        if blocks[middle] < block {
+            low = middle + 1;
+        } else {
+            high = middle;
+        }
+    }
+    low
+}
+
+/// How many blocks from the one at a position on have numbers that rise by one, at most
+/// [`RUN_BLOCKS`].
+fn row(blocks: &[u32], at: usize, block: u32) -> usize
+    requires at { at < length blocks.now }
+    requires is { slice_index blocks.now at ≡ block }
+    requires block { block < 2 ^ 28 }
+    ensures { AreInRow blocks.now at block result }
+{
+    let mut count = 1;
+    while count < RUN_BLOCKS
+        && at + count < blocks.len()
+        && blocks[at + count] == block + count as u32
+    {
+        count += 1;
+    }
+    count
+}
+
+/// The kept bytes from a place on, as far as they go without a gap, or farther than a header and
+/// its name can.
+fn run<'a>(blocks: &[u32], bytes: &'a [u8], at: u32) -> &'a [u8]
+    requires { IsKept blocks.now bytes.now }
+    ensures { IsRun blocks.now bytes.now at result.now }
+{
+    let block = at / 16;
+    let position = rank(blocks, block);
+    if position == blocks.len() {
+        return &[];
+    }
+    if blocks[position] != block {
+        return &[];
+    }
+    let count = row(blocks, position, block);
+    let from = position * BLOCK_SIZE + at as usize % BLOCK_SIZE;
+    &bytes[from..(position + count) * BLOCK_SIZE]
+}
+
+/// The byte at a place.
+fn byte_in(blocks: &[u32], bytes: &[u8], at: u32) -> u8
+    requires { IsKept blocks.now bytes.now }
+    ensures { result ≡ byte_of blocks.now bytes.now at }
+{
+    match run(blocks, bytes, at).first() {
+        Some(byte) => *byte,
+        None => 0,
+    }
+}
+
+/// The big-endian word at a place.
+fn word_in(blocks: &[u32], bytes: &[u8], size: u32, at: u32) -> u32
+    requires kept { IsKept blocks.now bytes.now }
+    requires at { at + 4 ≤ size }
+    ensures { result ≡ word_of (filled size blocks.now bytes.now) at }
+{
+    let near = run(blocks, bytes, at);
+    if near.len() >= 4 {
+        return BigEndian::read_u32(near);
+    }
+    BigEndian::read_u32(&[
+        byte_in(blocks, bytes, at),
+        byte_in(blocks, bytes, at + 1),
+        byte_in(blocks, bytes, at + 2),
+        byte_in(blocks, bytes, at + 3),
+    ])
+}
+
+/// The first bytes, as many as are looked at for a name that begins there.
+fn name_field(near: &[u8], room: usize) -> &[u8]
+    ensures { result.now ≡ take (min room 256) near.now }
+{
+    &near[..near.len().min(room).min(NAME_FIELD_SIZE)]
+}
+
+/// Where the name ends that begins at a place, by the bytes from there on and by how many bytes
+/// there are from there to the image's end.
+fn end_in(near: &[u8], room: usize) -> Option<usize>
+    ensures value { (a : List ℕ) (at : ℕ) → length a ≡ at + room → IsFront a at 256 near.now →
+        option_map (λ end. take end near.now) result ≡ ended (field_of a at) }
+    ensures within { IfSome result (λ end. end ≤ length near.now) }
+{
+    let field = name_field(near, room);
+    let found = memchr(0, field);
+    if found.is_some() {
+        return found;
+    }
+    if field.len() == room.min(NAME_FIELD_SIZE) {
+        return None;
+    }
+    Some(field.len())
+}
+
+/// The name whose field begins at a place, by the bytes from there on.
+pub(crate) fn text_in(near: &[u8], at: u32, size: u32) -> Option<&[u8]>
+    requires { at ≤ size }
+    ensures value { (a : List ℕ) → length a ≡ size → IsFront a at 256 near.now →
+        option_map (λ text. text.now) result ≡ text_of a at }
+    ensures within { IfSome result (λ text. text_end at text.now ≤ size) }
+{
+    match end_in(near, (size - at) as usize) {
+        None => None,
+        Some(end) => {
+            let text = &near[..end];
+            if at as usize + padded(end + 1) <= size as usize {
+                Some(text)
+            } else {
+                None
+            }
+        }
+    }
+}
+
+/// How long the name of the header at a place is, by the bytes from the name on; 0 where it has no
+/// end.
+fn name_len_in(near: &[u8], at: u32, size: u32) -> u32
+    requires { at + HEAD_SIZE ≤ size }
+    ensures { (a : List ℕ) → length a ≡ size → IsFront a (at + HEAD_SIZE) 256 near.now →
+        result ≡ length (name_of a at) }
+{
+    match text_in(near, at + HEAD_SIZE as u32, size) {
+        Some(name) => name.len() as u32,
+        None => 0,
+    }
+}
+
+/// The header at a place, by its words and the length of its name.
+fn head_with(at: u32, first: u32, spec: u32, size: u32, name_len: u32) -> Head
+    requires { at + HEAD_SIZE < 2 ^ 32 }
+    ensures { (a : List ℕ) → first ≡ word_of a at → spec ≡ word_of a (at + 4) →
+        size ≡ word_of a (at + 8) → name_len ≡ length (name_of a at) → result ≡ head_of a at }
+{
+    Head {
+        offset: at,
+        next: cleared(first),
+        kind: kind_of(first),
+        exec: first / 8 % 2 == 1,
+        spec,
+        size,
+        name_at: at + HEAD_SIZE as u32,
+        name_len,
+    }
+}
+
+/// The header at a place, by the bytes from there on.
+fn head_in(near: &[u8], at: u32, size: u32) -> Head
+    requires near { HEAD_SIZE ≤ length near.now }
+    requires inside { at + HEAD_SIZE ≤ size }
+    ensures { (a : List ℕ) → length a ≡ size → IsFront a at 272 near.now → result ≡ head_of a at }
+{
+    let name_len = name_len_in(&near[HEAD_SIZE..], at, size);
+    head_with(at, word(near, 0), word(near, 4), word(near, 8), name_len)
+}
+
+/// The header at a place, of an image of this size.
+fn head_of_blocks(blocks: &[u32], bytes: &[u8], size: u32, at: u32) -> Head
+    requires kept { IsKept blocks.now bytes.now }
+    requires inside { at + HEAD_SIZE ≤ size }
+    ensures { result ≡ head_of (filled size blocks.now bytes.now) at }
+{
+    let near = run(blocks, bytes, at);
+    if near.len() >= HEAD_SIZE {
+        return head_in(near, at, size);
+    }
+    let name = run(blocks, bytes, at + HEAD_SIZE as u32);
+    let name_len = name_len_in(name, at, size);
+    let first = word_in(blocks, bytes, size, at);
+    let spec = word_in(blocks, bytes, size, at + 4);
+    let data_size = word_in(blocks, bytes, size, at + 8);
+    head_with(at, first, spec, data_size, name_len)
+}
+
+/// The name whose field begins at a place, of an image of this size.
+fn text_of_blocks<'a>(blocks: &[u32], bytes: &'a [u8], size: u32, at: u32) -> Option<&'a [u8]>
+    requires kept { IsKept blocks.now bytes.now }
+    requires at { at ≤ size }
+    ensures value { option_map (λ text. text.now) result
+        ≡ text_of (filled size blocks.now bytes.now) at }
+    ensures within { IfSome result (λ text. text_end at text.now ≤ size) }
+{
+    text_in(run(blocks, bytes, at), at, size)
+}
+
+impl<A: Allocator> Kept<A> {
+    /// The blocks of an image of this size.
+    #[tactic(auto, using(crate::proofs::Fronts::filled_long))]
+    pub(crate) fn new(size: u32, blocks: Vec<u32, A>, bytes: Vec<u8, A>) -> Kept<A>
+        requires { IsKept blocks.items bytes.items }
+        ensures bytes { result ≡ filled size blocks.items bytes.items }
+        ensures size { length result ≡ size }
+    {
+        Kept {
+            size,
+            blocks,
+            bytes,
+        }
+    }
+
+    /// How many bytes the list has.
+    #[tactic(auto, using(crate::proofs::Fronts::filled_long))]
+    pub fn size(&self) -> u32
+        ensures { result ≡ length self.now }
+    {
+        self.size
+    }
+
+    /// The big-endian word at a place.
+    #[tactic(auto, using(crate::proofs::Fronts::filled_long))]
+    pub fn word(&self, at: u32) -> u32
+        requires { at + 4 ≤ length self.now }
+        ensures { result ≡ word_of self.now at }
+    {
+        word_in(&self.blocks, &self.bytes, self.size, at)
+    }
+
+    /// The name whose field begins at a place; none where it has no end, or its padding ends beyond
+    /// the image.
+    #[tactic(auto, using(crate::proofs::Fronts::filled_long))]
+    pub fn text_at(&self, at: u32) -> Option<&[u8]>
+        requires { at ≤ length self.now }
+        ensures value { option_map (λ text. text.now) result ≡ text_of self.now at }
+        ensures within { IfSome result (λ text. text_end at text.now ≤ length self.now) }
+    {
+        text_of_blocks(&self.blocks, &self.bytes, self.size, at)
+    }
+
+    /// The header at a place.
+    #[tactic(auto, using(crate::proofs::Fronts::filled_long))]
+    pub fn head_at(&self, at: u32) -> Head
+        requires { at + HEAD_SIZE ≤ length self.now }
+        ensures { result ≡ head_of self.now at }
+    {
+        head_of_blocks(&self.blocks, &self.bytes, self.size, at)
+    }
+}

@@ -1,0 +1,57 @@
+//! What holds of bytes that agree with what was kept of them.
+
+ghost use Rattle.std.specs.Prelude.{◌≡◌, ◌≤◌, ℕ, List, Bool, Option, Some, length, take, drop};
+ghost use Rattle.romfs_format.specs.declared.rule.Rule.{Rule};
+ghost use Rattle.romfs_format.specs.declared.rule.ImageFault.{ImageFault};
+ghost use Rattle.romfs_format.specs.declared.rule.Profile.{Profile};
+ghost use Rattle.romfs_format.specs.declared.limits.TheConstants.{HEAD_SIZE, MAX_TARGET_SIZE};
+ghost use Rattle.romfs_format.specs.declared.head.Kind.TheVariants.{SymLink};
+ghost use Rattle.romfs_format.specs.Fields.{word, kind, size, name, data_at};
+ghost use Rattle.romfs_format.specs.Chains.{Has};
+ghost use Rattle.romfs_format.specs.Heads.{head_of};
+ghost use Rattle.romfs_format.specs.Rules.{Breaks, BreaksHeader, IsFaultOf};
+ghost use Rattle.kept_image.specs.Gathered.{IsGathered};
+ghost use Rattle.kept_image.specs.Footprint.{Agrees, IsClosed};
+
+/// Lists that agree where the headers of a closed set are kept break the same rules of headers,
+/// each at the same headers, whatever the profile.
+pub fn same_header_rules()
+    ensures { (profile : Profile) (kept headers : ℕ → Bool) (a xs : List ℕ) → Agrees kept a xs →
+        IsClosed kept headers a → (r : Rule) (h : ℕ) →
+        (BreaksHeader profile a r h → BreaksHeader profile xs r h)
+        × (BreaksHeader profile xs r h → BreaksHeader profile a r h) }
+{}
+
+/// What was gathered of bytes that have their full size breaks the rules that they break, and no
+/// others, each at the same places.
+pub fn same_rules()
+    ensures { (profile : Profile) (b a : List ℕ) → IsGathered (Some b) a → HEAD_SIZE ≤ word b 8 →
+        word b 8 ≤ length b → (r : Rule) (p : ℕ) →
+        (Breaks profile b r p → Breaks profile a r p)
+        × (Breaks profile a r p → Breaks profile b r p) }
+{}
+
+/// What was gathered of any bytes is sound where they are, and else has their fault.
+pub fn same_fault()
+    ensures { (profile : Profile) (b a : List ℕ) → IsGathered (Some b) a →
+        (fault : Option ImageFault) →
+        (IsFaultOf profile b fault → IsFaultOf profile a fault)
+        × (IsFaultOf profile a fault → IsFaultOf profile b fault) }
+{}
+
+/// Paths of lists that agree where the headers of a closed set are kept lead to the same headers,
+/// which have the same fields.
+pub fn same_paths()
+    ensures { (kept headers : ℕ → Bool) (a xs : List ℕ) → Agrees kept a xs →
+        IsClosed kept headers a → (path : List (List ℕ)) (h : ℕ) →
+        (Has a path h → Has xs path h × (head_of a h ≡ head_of xs h))
+        × (Has xs path h → Has a path h) }
+{}
+
+/// A symbolic link at a path has the same target in both, unless it is too long.
+pub fn same_targets()
+    ensures { (kept headers : ℕ → Bool) (a xs : List ℕ) → Agrees kept a xs →
+        IsClosed kept headers a → (path : List (List ℕ)) (h : ℕ) (n : List ℕ) → Has a path h →
+        kind a h ≡ SymLink → size a h ≤ MAX_TARGET_SIZE → name a h ≡ Some n →
+        take (size a h) (drop (data_at h n) a) ≡ take (size a h) (drop (data_at h n) xs) }
+{}

@@ -1,0 +1,201 @@
+//! Images laid out by hand, of which a file gives little at a time, ends or fails.
+//!
+//! In the image of these tests a directory leads to itself and a later header back to an earlier
+//! one, a header stands in the name of another, a hard link leads outside, a symbolic link has a
+//! target of 20 bytes, and a regular file has data that look like headers. 832 of 900 bytes belong
+//! to it.
+
+use crate::{GatherFault, gather};
+use image_bytes::{Contents, Unread};
+use std::alloc::Allocator;
+use std::cell::Cell;
+
+/// The bytes of the file.
+const FILE_SIZE: usize = 900;
+
+/// Puts bytes into an image.
+fn put(image: &mut [u8; FILE_SIZE], at: usize, bytes: &[u8]) {
+    for i in 0..bytes.len() {
+        if at < FILE_SIZE && i < FILE_SIZE - at {
+            image[at + i] = bytes[i];
+        }
+    }
+}
+
+// The image (romfs.rst): the first word of a header is the next one and the kind, the second is
+// spec.info, the third the size.
+fn image() -> [u8; FILE_SIZE] {
+    let mut image = [b'x'; FILE_SIZE];
+    put(
+        &mut image,
+        0,
+        b"-rom1fs-\0\0\x03\x40\0\0\0\0v\0\0\0\0\0\0\0\0\0\0\0\0\0\0\0",
+    );
+    // the root at 32, whose first header is at 528
+    put(
+        &mut image,
+        32,
+        b"\0\0\0\x09\0\0\x02\x10\0\0\0\0\0\0\0\0.\0\0\0\0\0\0\0\0\0\0\0\0\0\0\0",
+    );
+    // a directory at 528, whose first header is itself
+    put(
+        &mut image,
+        528,
+        b"\0\0\x02\x31\0\0\x02\x10\0\0\0\0\0\0\0\0d\0\0\0\0\0\0\0\0\0\0\0\0\0\0\0",
+    );
+    // a symbolic link at 560, its target at 592
+    put(
+        &mut image,
+        560,
+        b"\0\0\x02\x73\0\0\0\0\0\0\0\x14\0\0\0\0l\0\0\0\0\0\0\0\0\0\0\0\0\0\0\0",
+    );
+    put(
+        &mut image,
+        592,
+        b"0123456789abcdefghij\0\0\0\0\0\0\0\0\0\0\0\0",
+    );
+    // a regular file of 64 bytes at 624
+    put(
+        &mut image,
+        624,
+        b"\0\0\x02\xd2\0\0\0\0\0\0\0\x40\0\0\0\0f\0\0\0\0\0\0\0\0\0\0\0\0\0\0\0",
+    );
+    // a hard link at 720, which leads outside
+    put(
+        &mut image,
+        720,
+        b"\0\0\x02\xf0\x7f\xff\xff\xf0\0\0\0\0\0\0\0\0h\0\0\0\0\0\0\0\0\0\0\0\0\0\0\0",
+    );
+    // a directory at 752, after which comes that at 528, and whose first header is in its name
+    put(&mut image, 752, b"\0\0\x02\x11\0\0\x03\0\0\0\0\0\0\0\0\0");
+    put(
+        &mut image,
+        768,
+        b"\x01\x01\x01\x22ABCDEFGHIJKLM\0\0\0\0\0\0\0\0\0\0\0\0\0\0\0",
+    );
+    image
+}
+
+/// A file of at most so many bytes of the image, which gives at most so many bytes a read, and of
+/// which a read fails, counted from 1.
+#[derive(Drop)]
+struct Slow {
+    image: [u8; FILE_SIZE],
+    size: usize,
+    most: usize,
+    fails_at: u32,
+    reads: Cell<u32>,
+}
+
+fn file(size: usize, most: usize, fails_at: u32) -> Slow {
+    Slow {
+        image: image(),
+        size: size.min(FILE_SIZE),
+        most,
+        fails_at,
+        reads: Cell::new(0),
+    }
+}
+
+impl Contents for Slow {
+    ghost use Rattle.std.specs.Prelude.{None};
+
+    ghost contents = { λ _. None };
+
+    fn size(&self) -> u64 {
+        self.size as u64
+    }
+
+    fn read_at(&self, room: &mut [u8], offset: u64) -> Result<usize, Unread> {
+        let number = self.reads.get().wrapping_add(1);
+        self.reads.set(number);
+        if number == self.fails_at {
+            return Err(Unread);
+        }
+        let size = self.size.min(FILE_SIZE);
+        if size as u64 <= offset {
+            return Ok(0);
+        }
+        let rest = &self.image[offset as usize..size];
+        let count = rest.len().min(room.len()).min(self.most);
+        room[..count].copy_from_slice(&rest[..count]);
+        Ok(count)
+    }
+}
+
+/// What is asked of what was kept.
+#[derive(Clone, Copy, Debug, PartialEq, Eq)]
+struct Seen {
+    size: u32,
+    words: [u32; 6],
+    reads: u32,
+}
+
+// The size of what was kept, and the words at some places of it.
+fn look_at<A: Allocator + Copy>(
+    alloc: A,
+    source: &Slow,
+    at: [u32; 6],
+) -> Result<Seen, GatherFault> {
+    let kept = gather(alloc, source)?;
+    let size = kept.size();
+    let mut words = [0; 6];
+    for i in 0..6 {
+        if at[i] < size && 4 <= size - at[i] {
+            words[i] = kept.word(at[i]);
+        }
+    }
+    Ok(Seen {
+        size,
+        words,
+        reads: source.reads.get(),
+    })
+}
+
+// Headers, a name, a target and data.
+const PLACES: [u32; 6] = [528, 576, 608, 656, 720, 784];
+
+// What is kept there: of the data nothing.
+const WORDS: [u32; 6] = [0x231, 0x6c00_0000, 0x6768_696a, 0, 0x2f0, 0x4d00_0000];
+
+#[test]
+fn headers_names_and_targets_are_kept(rt: HostRuntime) {
+    let told = Seen {
+        size: 832,
+        words: WORDS,
+        reads: 2,
+    };
+    assert_eq!(rt; look_at(rt.alloc(), &file(900, 900, 0), PLACES), Ok(told));
+}
+
+#[test]
+fn short_reads_make_no_difference(rt: HostRuntime) {
+    let told = look_at(rt.alloc(), &file(900, 1, 0), PLACES);
+    assert_eq!(rt; told.map(|seen| seen.words), Ok(WORDS));
+}
+
+#[test]
+fn a_failed_read_is_told(rt: HostRuntime) {
+    assert_eq!(rt;
+        look_at(rt.alloc(), &file(900, 900, 1), PLACES),
+        Err(GatherFault::Unread)
+    );
+    assert_eq!(rt;
+        look_at(rt.alloc(), &file(900, 900, 2), PLACES),
+        Err(GatherFault::Unread)
+    );
+    assert_eq!(rt;
+        look_at(rt.alloc(), &file(900, 64, 9), PLACES),
+        Err(GatherFault::Unread)
+    );
+}
+
+#[test]
+fn a_cut_file_is_gathered_up_to_its_end(rt: HostRuntime) {
+    let told = Seen {
+        size: 600,
+        words: [0x231, 0x6c00_0000, 0, 0, 0, 0],
+        reads: 2,
+    };
+    assert_eq!(rt; look_at(rt.alloc(), &file(600, 900, 0), PLACES), Ok(told));
+}
