@@ -9,7 +9,6 @@ use Rattle.romfs_format.specs.declared.head.End.{End}
 use Rattle.romfs_format.specs.declared.head.End.TheVariants.{AtDirectory, AtOther, Nowhere}
 use Rattle.romfs_format.specs.declared.rule.Rule.{Rule}
 use Rattle.romfs_format.specs.declared.rule.Profile.{Profile}
-use Rattle.romfs_format.specs.declared.rule.Profile.TheVariants.{Usual, Strict}
 use Rattle.romfs_format.specs.declared.rule.Rule.TheVariants.{Outside, NameOpen, NameBad, DataOutside, TargetLong, LinkedTwice, SameName, LinkLoop, LinkDirectory, MajorLarge, HeaderSum, TooDeep}
 use Rattle.romfs_format.specs.Fields.{word, root, IsInside, kind_of, kind, next, spec, size, name, cleared, data_at, word_sum, header_bytes}
 use Rattle.romfs_format.specs.Chains.{IsFirst, IsNext, IsAt, IsInChain, IsDotted, IsPassedOver, IsOpened, at_root, below, Stands, IsMember, IsSomeMember, Leads, Has}
@@ -316,10 +315,9 @@ module _ (headers : ℕ → Bool) (a xs : List ℕ) (s : Alike headers a xs) (c 
       )
   breaks_alike profile TooDeep h (path, p, l) =
       (path, (has_alike headers a xs s c path h p).0, l)
-  breaks_alike Strict HeaderSum h (t, i, b) =
+  breaks_alike profile HeaderSum h (q, t, i, b) =
       let r = reached_alike headers a xs s c h t in
-      (r.0, inside_alike headers a xs s h i, sum_alike h r.1 b)
-  breaks_alike Usual HeaderSum h x = absurd x
+      (q, r.0, inside_alike headers a xs s h i, sum_alike h r.1 b)
   breaks_alike profile r h x = absurd x
 
 pub header_rules : (profile : Profile) (kept headers : ℕ → Bool) (a xs : List ℕ) → Agrees kept a xs → IsClosed kept headers a

@@ -10,8 +10,9 @@ use Rattle.romfs_format.specs.declared.limits.TheConstants.{HEAD_SIZE, SUMMED_SI
 use Rattle.romfs_format.specs.declared.rule.Rule.{Rule}
 use Rattle.romfs_format.specs.declared.rule.ImageFault.{ImageFault}
 use Rattle.romfs_format.specs.declared.rule.Profile.{Profile}
-use Rattle.romfs_format.specs.declared.rule.Rule.TheVariants.{Short, Magic, FullSize, BadSum, VolumeName, NoRoot}
+use Rattle.romfs_format.specs.declared.rule.Rule.TheVariants.{Short, Magic, FullSize, BadSum, VolumeName, NoRoot, Attributes}
 use Rattle.romfs_format.specs.Fields.{word, image, summed, text_at, word_sum, root}
+use Rattle.romfs_format.specs.Profiles.{reads_attributes}
 use Rattle.romfs_format.specs.Rules.{StartsWith, magic, HasNoRoot, Breaks, BreaksHeader, rule_number, stage, IsNamedBefore, IsFault, IsSound, IsFaultOf}
 use Rattle.kept_image.specs.Footprint.{Agrees, is_same}
 use Rattle.kept_image.specs.Gathered.{IsGatheredOf}
@@ -198,23 +199,27 @@ module _ (b a : List ℕ) (g : IsGatheredOf b a) where
         (no_root_goes g.headers a (take (length a) b) (alike_sym g.headers (take (length a) b) a looks)
         (subst (λ h. IsTrue (g.headers h)) looks.roots g.closed.at_root) (subst (λ l. HasNoRoot l) image_a n))
 
-    pub all_forth : (profile : Profile) (r : Rule) (p : ℕ) → Breaks profile b r p → Breaks profile a r p
-    all_forth profile Short p x = volume_goes b a (volume_sym a b same_volume) profile Short p (omega arith) x
-    all_forth profile Magic p x = volume_goes b a (volume_sym a b same_volume) profile Magic p (omega arith) x
-    all_forth profile FullSize p x = volume_goes b a (volume_sym a b same_volume) profile FullSize p (omega arith) x
-    all_forth profile BadSum p x = volume_goes b a (volume_sym a b same_volume) profile BadSum p (omega arith) x
-    all_forth profile VolumeName p x = volume_goes b a (volume_sym a b same_volume) profile VolumeName p (omega arith) x
-    all_forth profile NoRoot p (x, e) = (root_forth x, e ∙ roots)
-    all_forth profile r p x = header_forth profile r p x
+    pub all_forth : (profile : Profile) → ¬ IsTrue (reads_attributes profile) → (r : Rule) (p : ℕ) → Breaks profile b r p
+        → Breaks profile a r p
+    all_forth profile none Short p x = volume_goes b a (volume_sym a b same_volume) profile Short p (omega arith) x
+    all_forth profile none Magic p x = volume_goes b a (volume_sym a b same_volume) profile Magic p (omega arith) x
+    all_forth profile none FullSize p x = volume_goes b a (volume_sym a b same_volume) profile FullSize p (omega arith) x
+    all_forth profile none BadSum p x = volume_goes b a (volume_sym a b same_volume) profile BadSum p (omega arith) x
+    all_forth profile none VolumeName p x = volume_goes b a (volume_sym a b same_volume) profile VolumeName p (omega arith) x
+    all_forth profile none NoRoot p (x, e) = (root_forth x, e ∙ roots)
+    all_forth profile none Attributes p x = absurd (none x.0)
+    all_forth profile none r p x = header_forth profile r p x
 
-    pub all_back : (profile : Profile) (r : Rule) (p : ℕ) → Breaks profile a r p → Breaks profile b r p
-    all_back profile Short p x = volume_goes a b same_volume profile Short p (omega arith) x
-    all_back profile Magic p x = volume_goes a b same_volume profile Magic p (omega arith) x
-    all_back profile FullSize p x = volume_goes a b same_volume profile FullSize p (omega arith) x
-    all_back profile BadSum p x = volume_goes a b same_volume profile BadSum p (omega arith) x
-    all_back profile VolumeName p x = volume_goes a b same_volume profile VolumeName p (omega arith) x
-    all_back profile NoRoot p (x, e) = (root_back x, e ∙ sym roots)
-    all_back profile r p x = header_back profile r p x
+    pub all_back : (profile : Profile) → ¬ IsTrue (reads_attributes profile) → (r : Rule) (p : ℕ) → Breaks profile a r p
+        → Breaks profile b r p
+    all_back profile none Short p x = volume_goes a b same_volume profile Short p (omega arith) x
+    all_back profile none Magic p x = volume_goes a b same_volume profile Magic p (omega arith) x
+    all_back profile none FullSize p x = volume_goes a b same_volume profile FullSize p (omega arith) x
+    all_back profile none BadSum p x = volume_goes a b same_volume profile BadSum p (omega arith) x
+    all_back profile none VolumeName p x = volume_goes a b same_volume profile VolumeName p (omega arith) x
+    all_back profile none NoRoot p (x, e) = (root_back x, e ∙ sym roots)
+    all_back profile none Attributes p x = absurd (none x.0)
+    all_back profile none r p x = header_back profile r p x
 
 -- two lists of which the volume looks the same, and that break the same rules where it keeps its full
 -- size
@@ -278,28 +283,28 @@ module _ (profile : Profile) (a b : List ℕ) (t : Twins profile a b) where
   fault_of_goes None s = sound_goes s
   fault_of_goes (Some f) s = fault_goes f.rule f.place s
 
-twins : (profile : Profile) (b a : List ℕ) → IsGatheredOf b a → Twins profile b a
-twins profile b a g = record {
+twins : (profile : Profile) → ¬ IsTrue (reads_attributes profile) → (b a : List ℕ) → IsGatheredOf b a → Twins profile b a
+twins profile none b a g = record {
   volume = volume_sym a b (same_volume b a g);
-  forth = λ l h r p x. all_forth b a g l h profile r p x;
-  back = λ l h r p x. all_back b a g l h profile r p x;
+  forth = λ l h r p x. all_forth b a g l h profile none r p x;
+  back = λ l h r p x. all_back b a g l h profile none r p x;
 }
 
-twins_back : (profile : Profile) (b a : List ℕ) → IsGatheredOf b a → Twins profile a b
-twins_back profile b a g =
+twins_back : (profile : Profile) → ¬ IsTrue (reads_attributes profile) → (b a : List ℕ) → IsGatheredOf b a → Twins profile a b
+twins_back profile none b a g =
     let s = same_volume b a g in
     let w = s.words in
     let f = s.fulls in record {
       volume = s;
-      forth = λ l h r p x. all_back b a g (omega arith) (omega arith) profile r p x;
-      back = λ l h r p x. all_forth b a g (omega arith) (omega arith) profile r p x;
+      forth = λ l h r p x. all_back b a g (omega arith) (omega arith) profile none r p x;
+      back = λ l h r p x. all_forth b a g (omega arith) (omega arith) profile none r p x;
     }
 
-pub same_fault : (profile : Profile) (b a : List ℕ) → IsGatheredOf b a → (fault : Option ImageFault)
-    → (IsFaultOf profile b fault → IsFaultOf profile a fault) × (IsFaultOf profile a fault → IsFaultOf profile b fault)
-same_fault profile b a g fault =
-    (fault_of_goes profile b a (twins profile b a g) fault, fault_of_goes profile a b (twins_back profile b a g) fault)
+pub same_fault : (profile : Profile) → ¬ IsTrue (reads_attributes profile) → (b a : List ℕ) → IsGatheredOf b a
+    → (fault : Option ImageFault) → (IsFaultOf profile b fault → IsFaultOf profile a fault) × (IsFaultOf profile a fault → IsFaultOf profile b fault)
+same_fault profile none b a g fault =
+    (fault_of_goes profile b a (twins profile none b a g) fault, fault_of_goes profile a b (twins_back profile none b a g) fault)
 
-pub same_breaks : (profile : Profile) (b a : List ℕ) → IsGatheredOf b a → 16 ≤ word b 8 → word b 8 ≤ length b → (r : Rule) (p : ℕ)
-    → (Breaks profile b r p → Breaks profile a r p) × (Breaks profile a r p → Breaks profile b r p)
-same_breaks profile b a g l h r p = (all_forth b a g l h profile r p, all_back b a g l h profile r p)
+pub same_breaks : (profile : Profile) → ¬ IsTrue (reads_attributes profile) → (b a : List ℕ) → IsGatheredOf b a → 16 ≤ word b 8
+    → word b 8 ≤ length b → (r : Rule) (p : ℕ) → (Breaks profile b r p → Breaks profile a r p) × (Breaks profile a r p → Breaks profile b r p)
+same_breaks profile none b a g l h r p = (all_forth b a g l h profile none r p, all_back b a g l h profile none r p)

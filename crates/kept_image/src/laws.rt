@@ -1,6 +1,6 @@
 //! What holds of bytes that agree with what was kept of them.
 
-ghost use Rattle.std.specs.Prelude.{◌≡◌, ◌≤◌, ℕ, List, Bool, Option, Some, length, take, drop};
+ghost use Rattle.std.specs.Prelude.{◌≡◌, ◌≤◌, ℕ, List, Bool, Option, Some, IsTrue, length, take, drop};
 ghost use Rattle.romfs_format.specs.declared.rule.Rule.{Rule};
 ghost use Rattle.romfs_format.specs.declared.rule.ImageFault.{ImageFault};
 ghost use Rattle.romfs_format.specs.declared.rule.Profile.{Profile};
@@ -9,6 +9,7 @@ ghost use Rattle.romfs_format.specs.declared.head.Kind.TheVariants.{SymLink};
 ghost use Rattle.romfs_format.specs.Fields.{word, kind, size, name, data_at};
 ghost use Rattle.romfs_format.specs.Chains.{Has};
 ghost use Rattle.romfs_format.specs.Heads.{head_of};
+ghost use Rattle.romfs_format.specs.Profiles.{reads_attributes};
 ghost use Rattle.romfs_format.specs.Rules.{Breaks, BreaksHeader, IsFaultOf};
 ghost use Rattle.kept_image.specs.Gathered.{IsGathered};
 ghost use Rattle.kept_image.specs.Footprint.{Agrees, IsClosed};
@@ -23,18 +24,20 @@ pub fn same_header_rules()
 {}
 
 /// What was gathered of bytes that have their full size breaks the rules that they break, and no
-/// others, each at the same places.
+/// others, each at the same places, under a profile that does not read attributes: their trailer
+/// stands behind the full size, and is not gathered.
 pub fn same_rules()
-    ensures { (profile : Profile) (b a : List ℕ) → IsGathered (Some b) a → HEAD_SIZE ≤ word b 8 →
-        word b 8 ≤ length b → (r : Rule) (p : ℕ) →
+    ensures { (profile : Profile) → ¬ IsTrue (reads_attributes profile) → (b a : List ℕ) →
+        IsGathered (Some b) a → HEAD_SIZE ≤ word b 8 → word b 8 ≤ length b → (r : Rule) (p : ℕ) →
         (Breaks profile b r p → Breaks profile a r p)
         × (Breaks profile a r p → Breaks profile b r p) }
 {}
 
-/// What was gathered of any bytes is sound where they are, and else has their fault.
+/// What was gathered of any bytes is sound where they are, and else has their fault, under such a
+/// profile.
 pub fn same_fault()
-    ensures { (profile : Profile) (b a : List ℕ) → IsGathered (Some b) a →
-        (fault : Option ImageFault) →
+    ensures { (profile : Profile) → ¬ IsTrue (reads_attributes profile) → (b a : List ℕ) →
+        IsGathered (Some b) a → (fault : Option ImageFault) →
         (IsFaultOf profile b fault → IsFaultOf profile a fault)
         × (IsFaultOf profile a fault → IsFaultOf profile b fault) }
 {}
