@@ -27,7 +27,7 @@ def path_of(name):
 
 
 def put(image, path, entry):
-    """Puts an entry into an image; the mode that it is shown with where no trailer is read."""
+    """Puts an entry into an image."""
     executable = entry.mode & 0o111 != 0
     if entry.kind in tars.FILES:
         image.file(path, executable, entry.size, entry.data).said = said_by(entry)
@@ -37,19 +37,14 @@ def put(image, path, entry):
         image.symlink(path, entry.link).said = said_by(entry)
     elif entry.kind == tars.HARD:
         image.hard_link(path, path_of(entry.link))
-        # what it leads to says of itself what there is to say
-        return entry.mode
     elif entry.kind in (tars.CHARACTER, tars.BLOCK_DEVICE):
         kind = romfs.CHARACTER if entry.kind == tars.CHARACTER else romfs.BLOCK
         image.device(path, kind, entry.major, entry.minor).said = said_by(entry)
-        return 0o600
     elif entry.kind == tars.FIFO:
         image.fifo(path).said = said_by(entry)
-        return 0o644
     else:
         raise Refused("%s: an entry of the unknown type '%s'"
                       % (shown(entry.name), shown(entry.kind)))
-    return 0o755 if executable else 0o644
 
 
 def said_by(entry):
@@ -73,9 +68,9 @@ def write_image(out, source, volume_name, note, below):
         is_marker = path != () and path[-1].startswith(MARKER)
         # where a file replaces a directory, umoci also says that what was in the directory is gone
         if not is_marker or not image.is_barred(path):
-            mode = put(image, path, entry)
+            put(image, path, entry)
             if not is_marker:
-                note(entry, mode)
+                note(entry)
     # what stands behind the archive says nothing, but a packed one has its own checksum at the end
     while source.read(tars.PIECE):
         pass
@@ -90,8 +85,7 @@ def write_unpacked(blob, number, descriptor, out, lost, below, unpacked):
     source = Unpacked(blob, PACKED[descriptor.media], unpacked is not None)
     try:
         name = digest_of(descriptor).encode()[:VOLUME_NAME_MOST]
-        found = write_image(
-            out, source, name, lambda entry, mode: lost.note_all(number, entry, mode), below)
+        found = write_image(out, source, name, lambda entry: lost.note_all(number, entry), below)
     finally:
         source.close()
     if unpacked is not None and source.digest() != unpacked:

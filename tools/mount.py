@@ -133,7 +133,7 @@ def answers_first(plan, server):
 
 def serve_words(plan):
     """How strata is called."""
-    words = [plan.program, "serve", "--device", *["--strict"] * plan.strict]
+    words = [plan.program, "serve", "--device", "--attributes", *["--strict"] * plan.strict]
     words += ["--workers", str(plan.workers)] * (plan.workers is not None)
     words += ["--owner", plan.owner] * (plan.owner is not None)
     return words + list(map(os.path.abspath, plan.images))
@@ -269,27 +269,13 @@ def hints(fault, plan):
         yield "-o: not known: %s" % ", ".join(unknown)
 
 
-def owner_of(options, program):
-    """The words of `--owner`, which a strata must have for them."""
-    if options.owner() is None:
-        return None
-    try:
-        told = subprocess.run([program, "serve", "--help"], stdin=subprocess.DEVNULL, stdout=subprocess.PIPE,
-                              stderr=subprocess.STDOUT)
-    except OSError as fault:
-        raise Wrong("uid=, gid=: %s: %s" % (fault.filename, fault.strerror)) from None
-    if b"--owner" not in told.stdout:
-        raise Wrong("uid=, gid=: this strata has no --owner, and all is root's")
-    return options.owner()
-
-
 def settle(plan, options):
     """Puts what -o says into a plan."""
     relayed = [RELAYED_READ] * (plan.is_relayed() and "max_read" not in {it.partition("=")[0] for it in options.mount})
     plan.words = [*WORDS.split(","), *relayed, *options.mount]
     plan.strict = plan.strict or "strict" in options.strata
     plan.workers = options.strata.get("workers")
-    plan.owner = owner_of(options, plan.program)
+    plan.owner = options.owner()
 
 
 def parser_of(name):

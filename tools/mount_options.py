@@ -17,6 +17,7 @@ IGNORED_FRONTS = ("x-", "X-")
 OWN = ("fd", "rootmode", "user_id", "group_id", "fsname", "subtype", "auto_unmount")
 # strata's own words, and whether a number stands behind them
 STRATA = {"strict": False, "workers": True, "uid": True, "gid": True}
+OWNER_MOST = 2 ** 32 - 1
 
 # words stand between commas, but for those in quotation marks
 WORD = re.compile(r'(?:[^,"]|"[^"]*"?)+')
@@ -49,7 +50,10 @@ class Options:
         """`UID:GID` where one of them is said."""
         if not {"uid", "gid"} & set(self.strata):
             return None
-        return "%d:%d" % (self.strata.get("uid", 0), self.strata.get("gid", 0))
+        numbers = self.strata.get("uid", 0), self.strata.get("gid", 0)
+        if max(numbers) > OWNER_MOST:
+            raise Wrong("uid=N, gid=N are numbers up to %d" % OWNER_MOST)
+        return "%d:%d" % numbers
 
 
 def bare(name, equals):

@@ -2,7 +2,8 @@
 
 python3 checks fuzz PROGRAM [--seed N] [--tries N] [--minutes N] [PART..]
 
-Each try of a part makes its inputs of a seed of its own, from N (1) on, and goes by any plan, strictly or not. The parts:
+Each try of a part makes its inputs of a seed of its own, from N (1) on, and goes by any plan, strictly or not, with attributes or
+not, and with any owner. Some images have an attribute trailer, right or broken. The parts:
 
 - `images`: images, most of them broken, through `check` and `list`; `stacks`: stacks of 1 to 6 layers, too.
 - `streams`: requests over such stacks through `serve`, from files and through pipes in pieces, lastingly or not, with
@@ -33,6 +34,7 @@ from checks.plain import plain
 from checks.shared.clients import Client
 from checks.shared.images import EMPTY
 from checks.shared.random_inputs import kinds_of, long_stack, long_stream, mutated, others_of, random_image, random_stack, random_stream
+from checks.shared.random_trailers import random_owner, with_trailer
 from checks.shared.replies import single
 from checks.shared.runs import add_parts
 
@@ -42,21 +44,33 @@ MOST_PACKET = 131072
 
 # --- images ---
 
-def lines_or_stop(lines, images, strict):
+class Profile:
+    """By which rules images are looked at, and whether their trailers are read: at random, `--strict` so often as is said."""
+
+    def __init__(self, rng, strictly):
+        self.strict, self.attributes = rng.random() < strictly, rng.random() < 0.4
+        self.words = ["--strict"] * self.strict + ["--attributes"] * self.attributes
+        self.rules = self.strict, self.attributes
+
+    def images(self, rng, images):
+        """Images, some of which get a trailer: most of them where it is read."""
+        return [with_trailer(rng, data) if rng.random() < (0.7 if self.attributes else 0.1) else data for data in images]
+
+
+def lines_or_stop(lines, images, profile):
     """What must come of a command that prints lines."""
     try:
-        return Wanted(0, "".join(line + "\n" for line in lines(images, strict)).encode(), "", {})
+        return Wanted(0, "".join(line + "\n" for line in lines(images, *profile.rules)).encode(), "", {})
     except plain.Stop as stop:
         return Wanted(stop.args[1], b"", stop.args[0] + "\n", {})
 
 
-def hold_lines(running, images, strict):
+def hold_lines(running, images, profile):
     """Holds `check` and `list` of these images; how `list` must end."""
     names = [running.write("image-%d" % number, data) for number, data in enumerate(images)]
-    strictly = ["--strict"] * strict
-    running.hold(["check", *strictly, *names], lines_or_stop(plain.check, images, strict))
-    want = lines_or_stop(plain.list_, images, strict)
-    running.hold(["list", *names, *strictly], want)
+    running.hold(["check", *profile.words, *names], lines_or_stop(plain.check, images, profile))
+    want = lines_or_stop(plain.list_, images, profile)
+    running.hold(["list", *names, *profile.words], want)
     return want
 
 
@@ -67,13 +81,15 @@ def rule_of(line):
 
 def try_image(running, rng, seen):
     """Holds a single image."""
-    want = hold_lines(running, [mutated(rng, random_image(rng))], rng.random() < 0.3)
+    profile = Profile(rng, 0.3)
+    want = hold_lines(running, profile.images(rng, [mutated(rng, random_image(rng))]), profile)
     seen[rule_of(want.line)] += 1
 
 
 def try_stack(running, rng, seen):
-    images = random_stack(rng, others_of(rng))
-    want = hold_lines(running, images, rng.random() < 0.2)
+    profile = Profile(rng, 0.2)
+    images = profile.images(rng, random_stack(rng, others_of(rng)))
+    want = hold_lines(running, images, profile)
     seen["broken"] += want.status != 0
     seen["lines"] += want.output.count(b"\n")
     seen["markers"] += sum(data.count(b".wh.") for data in images)
@@ -105,15 +121,16 @@ class Inputs:
     """Images, and the words that name them; the stack that they make, or that of the sound ones where some are broken."""
 
     def __init__(self, running, rng, images, are_long=False):
-        self.running, self.rng, self.strict, self.are_long = running, rng, rng.random() < 0.1, are_long
-        self.stop = None
+        self.running, self.rng, self.are_long, self.stop = running, rng, are_long, None
+        profile, owner = Profile(rng, 0.1), random_owner(rng)
+        images = profile.images(rng, images)
         try:
-            self.stack = plain.stack_of(images, self.strict)
+            self.stack = plain.stack_of(images, *profile.rules, owner or (0, 0))
         except plain.Stop as stop:
             self.stop = stop
             self.stack = plain.stack_of([data for data in images if plain.fault(data) is None] or [EMPTY])
         self.words = [running.write("image-%d" % number, data) for number, data in enumerate(images)]
-        self.words += ["--strict"] * self.strict
+        self.words += profile.words + (["--owner", "%d:%d" % owner] if owner else [])
         if rng.random() < 0.8:
             self.words += random_plan(rng, are_long)
 
@@ -229,7 +246,9 @@ MADE = Made()
 
 def try_made(running, rng, seen):
     images = [mutated_image(rng, MADE.image(rng)) for _ in range(rng.choice([1, 1, 2, 3]))]
-    want = hold_lines(running, images, rng.random() < 0.3)
+    profile = Profile(rng, 0.3)
+    images = profile.images(rng, images)
+    want = hold_lines(running, images, profile)
     seen[rule_of(want.line)] += 1
     if rng.random() < 0.3:
         inputs = Inputs(running, rng, images)

@@ -125,15 +125,14 @@ def words(root):
 
 
 def owner(root):
-    """uid= and gid= are whose all files are, where strata has an option for it, and else are said not to be had."""
-    done = root.run("mount", "-t", "strata", STACK, "/srv/made", "-o", "uid=7,gid=8")
-    if "--owner" in root.run("strata", "serve", "--help").err:
-        hold("-o uid=7,gid=8", (0, ""), (done.status, done.err))
-        hold("whose a file is", (7, 8), os.stat("/srv/made/etc/hostname")[4:6])
-        root.good("umount", "/srv/made")
-    else:
-        hold("-o uid=7,gid=8", WRONG_WORDS, done.status)
-        hold_in("-o uid=7,gid=8", "mount.strata: uid=, gid=: this strata has no --owner", done.err)
+    """uid= and gid= are whose all files are of which no image says it."""
+    root.good("mount", "-t", "strata", STACK, "/srv/made", "-o", "uid=7,gid=4294967295")
+    hold("whose a file is", 7, os.stat("/srv/made/etc/hostname").st_uid)
+    root.good("umount", "/srv/made")
+    for said in ("uid=4294967296", "gid=4294967296"):
+        done = root.run("mount", "-t", "strata", STACK, "/srv/made", "-o", said)
+        hold("the status of -o %s" % said, WRONG_WORDS, done.status)
+        hold_in("-o " + said, "uid=N, gid=N are numbers up to 4294967295", done.err)
 
 
 def colons(root):

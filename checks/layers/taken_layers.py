@@ -153,10 +153,7 @@ def random_archive(rng):
 def test_lost(room):
     told = room.take(archive([directory("d", mode=0o1777, mtime=0), file("a", mode=0o4755, mtime=7), file("b", mode=0o444, uid=5)]),
                      archive([file("c", gid=7, pax_headers={"SCHILY.xattr.user.x": "1"}), symlink("l", "x", mode=0o700, mtime=9)]))
-    expect(told == [
-        "owners are not kept: 2 entries, first layer 0: b", "times are not kept: 2 entries, first layer 0: a",
-        "mode bits are not kept, but whether a file or directory is executable: 3 entries, first layer 0: d/",
-        "extended attributes are not kept: 1 entry", "  layer 1: c: user.x"], "told %r" % told)
+    expect(told == ["extended attributes are not kept: 1 entry", "  layer 1: c: user.x"], "told %r" % told)
     kept = archive([file("a"), directory("d"), file("x", mode=0o755), hard("h", "a"), file(".wh.y", mode=0, uid=5, mtime=7)])
     expect(room.take(kept) == [], "something was lost")
 
@@ -167,4 +164,4 @@ def test_pax_everywhere(room):
     made = archive([
         entry(b"g", "g", b"15 comment=abc\n"), file("a", b"1"), entry(b"g", "g", b"8 uid=7\n"), file("b", b"2"),
         file("c", b"3", pax_headers={"uid": "0"}), file("d", pax_headers={"uid": "", "path": "e"})])
-    expect(room.take(made) == ["owners are not kept: 1 entry, first layer 0: b"], "owners")
+    expect(room.take(made) == [], "something was lost")

@@ -4,6 +4,8 @@ What is seen is held against what went into the images, or against the plain rea
 process and a mount namespace of its own and says in a line what it saw, or what is missing here for it. Who is not root
 mounts in a user namespace. A check is a function of a room (checks/shared/mounting.py) that gives its line back, or raises Failed.
 
+`system` looks at the system's own files, or at the tree that STRATA_TREE in the environment names, as debootstrap makes one.
+
 It needs /dev/fuse and a namespace in which it may be mounted; without them a line says that all is left out. The status is 0
 where no check fails.
 """
@@ -12,12 +14,14 @@ import signal
 import sys
 import tempfile
 
+from checks.mounts import mounted_attributes
 from checks.mounts import mounted_ends as ends
 from checks.mounts import mounted_trees as trees
 from checks.shared.mounting import Room, adopt, apart, try_mount
 
 CHECKS = (trees.tree, trees.whiteouts, trees.directory, trees.reads, trees.mapped, trees.many, trees.names, trees.writes,
-          trees.silent, ends.again, ends.killed, ends.aborted, ends.lazily, ends.waiting, ends.refused, ends.shared, ends.helped)
+          trees.silent, ends.again, ends.killed, ends.aborted, ends.lazily, ends.waiting, ends.refused, ends.shared, ends.helped,
+          *mounted_attributes.CHECKS)
 
 
 def told_of(check, program, scratch):

@@ -63,6 +63,8 @@ SHOWN = {
     "/tmp": ("040755", 4, 0), "/var": ("040755", 3, 0), "/var/cache": ("040755", 3, 0),
     "/var/cache/3": ("100644", 3, 5),
 }
+# the modes that the layers say, where `list` without attributes shows others
+MODES = {"/root": "040700", "/root/key": "100600", "/tmp": "041777"}
 RUN = {"Entrypoint": ["/bin/say", "it's"], "Cmd": ["a b"], "Env": ["PATH=/bin", "WORD=x y"],
        "WorkingDir": "/var", "User": "7:8"}
 

@@ -47,7 +47,8 @@ def seen(at):
     return found
 
 
-WANTED = {path: (mode, size) for path, (mode, _, size) in made.SHOWN.items()}
+# with the modes that the layers say
+WANTED = {path: (made.MODES.get(path, mode), size) for path, (mode, _, size) in made.SHOWN.items()}
 
 
 def check_mounts_by_name(room):

@@ -39,7 +39,7 @@ def on_another_machine(room, source):
 
 
 def check_against_umoci(room):
-    """Converted, pushed, pulled on another machine and mounted: what umoci unpacks."""
+    """Converted, pushed, pulled on another machine and mounted: what umoci unpacks, modes, owners and times too."""
     needs("umoci")
     needs_root()
     registry, source = Registry(room), made.layout(room.name())

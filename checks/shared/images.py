@@ -1,5 +1,7 @@
 """Images in a text form: what they hold, a line each, or edits of the sample images by offset."""
-from checks.shared.build import finished, header, padded, seal, volume
+from checks.plain.plain_images import Image
+from checks.plain.plain_stacks import paths_of
+from checks.shared.build import finished, header, padded, seal, trailer, volume
 from checks.shared.text import Wrong, plain_bytes
 
 # the empty image as a dump prints it
@@ -109,8 +111,23 @@ def sample():
 SAMPLES = {"empty": lambda: EMPTY, "sample": sample}
 
 
+def row_of(data, words):
+    """A row of an attribute trailer: a path, or an offset, and then the mode, the owner, and the last change, as
+    `a/x 4755 5:6 -2.750000000`; `/` is the root."""
+    if words.words[0][:2] == "0x":
+        at = words.number()
+    else:
+        path = () if words.take("/") else path_of(words)
+        at = paths_of(Image(data)).get(path)
+        if at is None:
+            raise Wrong("no path %r" % (path,))
+    mode, owner, time = words.number(8), words.next().split(":"), words.next().split(".")
+    return (at, mode, *map(int, owner), *map(int, time), 0)
+
+
 def edited(data, words):
-    """An image after an edit: `at 0x60 word 00001413`, `at 0x14b0 hex 64`, `fill 0x10 0x5f 41`, `keep 15`, `add "more"`, `seal`."""
+    """An image after an edit: `at 0x60 word 00001413`, `at 0x14b0 hex 64`, `fill 0x10 0x5f 41`, `keep 15`, `add "more"`, `seal`;
+    `trailer` adds an attribute trailer, of the rows that stand behind it."""
     if words.take("at"):
         at = words.number()
         if words.take("word"):
@@ -126,6 +143,11 @@ def edited(data, words):
         return data[:words.number()]
     elif words.take("add"):
         return data + words.data()
+    elif words.take("trailer"):
+        rows = []
+        while words.more():
+            rows.append(row_of(data, words))
+        return data + bytes(-len(data) % 16) + trailer(rows)
     else:
         words.expect("seal")
         return seal(data)
@@ -134,7 +156,7 @@ def edited(data, words):
     return data[:at] + new + data[at + len(new):]
 
 
-EDITS = ("at", "fill", "keep", "add", "seal")
+EDITS = ("at", "fill", "keep", "add", "trailer", "seal")
 
 
 def image_of(head, lines, known):

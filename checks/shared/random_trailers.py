@@ -11,6 +11,11 @@ TIMES = [0, 1, -1, 1700000000, 2 ** 31, -2 ** 63, 2 ** 63 - 1]
 BAD_MODES, BAD_NANOSECONDS = [0o10000, 0o100644, 2 ** 32 - 1], [10 ** 9, 2 ** 31, 2 ** 32 - 1]
 
 
+def random_owner(rng):
+    """Whom files without a row belong to, or None, where nobody says."""
+    return (rng.choice(OWNERS), rng.choice(OWNERS)) if rng.random() < 0.3 else None
+
+
 def random_row(rng, at):
     return [at, rng.choice([*MODES, rng.randrange(0o10000)]), rng.choice(OWNERS), rng.choice(OWNERS),
             rng.choice([*TIMES, rng.randrange(-2 ** 40, 2 ** 40)]), rng.choice([0, 0, 1, 999999999, rng.randrange(10 ** 9)]), 0]
