@@ -1,5 +1,5 @@
 use Rattle.std.proofs.Common.{refl, List, ap, subst}
-use Rattle.stack_model.specs.Listing.{Entry, IsListing}
+use Rattle.stack_model.specs.Listing.{Entry, IsListing, stacked}
 use Rattle.table_reader.specs.Held.{IsTable}
 use Rattle.table_reader.specs.Stacked.{Listed, listed_once}
 use Rattle.table_reader.proofs.Nodes.{have_keys}
@@ -11,12 +11,13 @@ hints_of-requires g c = rw c.deref.ensures.value (have_keys _ _ _ _ c.requires.1
 pub invariant_of-result-2 : goal.invariant_of-result-2
 invariant_of-result-2 g c =
     let mine : Listed c.args.images.items = (c.requires.0, ∣ c.requires.1.listing ∣₁) in
+    let table = subst (λ (e : List Entry). IsTable (stacked c.args.images.items e) c.args.nodes.items c.args.directories c.args.blocks)
+    (ap (λ x. x.0) (listed_once c.args.images.items mine c.result-1.given.0)) c.requires.1 in
     record {
-      table = subst (λ (e : List Entry). IsTable (record { layers = c.args.images.items; entries = e }) c.args.nodes.items
-          c.args.directories c.args.blocks)
-          (ap (λ x. x.0) (listed_once c.args.images.items mine c.result-1.given.0)) c.requires.1;
-      noted = rw c.deref.ensures.value at c.in_ok-hints.ensures.noted;
+      table = record { listing = table.listing; are = table.are; blocks_are = table.blocks_are };
       briefs_are = rw c.deref-2.ensures.value at c.in_ok-briefs.ensures;
+      stamps_are = rw c.deref-3.ensures.value at c.in_ok-stamps.ensures;
+      noted = rw c.deref.ensures.value at c.in_ok-hints.ensures.noted;
     }
 
 pub returns : goal.returns
@@ -24,6 +25,8 @@ returns g c =
     let mine : Listed c.args.images.items = (c.requires.0, ∣ c.requires.1.listing ∣₁) in
     record {
       layers_are = refl;
+      rows_are = _;
+      owner_is = refl;
       listing = subst (λ (e : List Entry). IsListing c.args.images.items e)
           (ap (λ x. x.0) (listed_once c.args.images.items mine c.result-1.given.0)) c.requires.1.listing;
     }
