@@ -1,4 +1,6 @@
 pub mod Text
 pub mod Faults
 pub mod Targets
+pub mod Trailers
 pub mod Worked
+pub mod WorkedTrailers

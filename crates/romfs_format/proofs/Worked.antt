@@ -5,4 +5,15 @@ use Rattle.romfs_format.specs.Examples.{LimitExamples}
 
 -- the sizes and limits of an image are the numbers of the examples
 pub limits : LimitExamples
-limits = record { head = refl; name_field = refl; summed = refl; target = refl; major = refl; names = refl }
+limits = record {
+  head = refl;
+  name_field = refl;
+  summed = refl;
+  target = refl;
+  major = refl;
+  names = refl;
+  trailer_head = refl;
+  row = refl;
+  mode = refl;
+  second = refl;
+}

@@ -1,7 +1,10 @@
 pub mod Fields
 pub mod Chains
 pub mod Links
+pub mod Profiles
+pub mod Trailer
 pub mod Rules
 pub mod Heads
 pub mod Texts
 pub mod Examples
+pub mod TrailerExamples

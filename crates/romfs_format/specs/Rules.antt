@@ -1,14 +1,16 @@
 -- The rules of an image, each with the place that it is named at, and the one fault of an image
 -- that breaks some.
-use Rattle.std.specs.Prelude.{Option, MatchOption, ◌≡◌, ◌≢◌, ℕ, ◌+◌, ◌/◌, ◌%◌, ◌^◌, ◌<◌, ◌⊎◌, List, [], ◌++◌, length, nat_lt, if◌then◌else◌, IsSome, IsSomeAnd, IsNone, Contains, codes}
+use Rattle.std.specs.Prelude.{Option, MatchOption, ◌≡◌, ◌≢◌, ℕ, ◌+◌, ◌/◌, ◌%◌, ◌^◌, ◌<◌, ◌⊎◌, List, [], ◌++◌, length, nat_lt, if◌then◌else◌, IsSome, IsSomeAnd, IsNone, IsTrue, Contains, codes}
 use Rattle.romfs_format.specs.declared.head.Kind.TheVariants.{Directory, Regular, SymLink, Block, Character}
 use Rattle.romfs_format.specs.declared.head.End.TheVariants.{AtDirectory, Nowhere}
 use Rattle.romfs_format.specs.declared.limits.TheConstants.{HEAD_SIZE, MAX_TARGET_SIZE, MAX_MAJOR, MAX_NAMES}
 use Rattle.romfs_format.specs.declared.rule.Rule.{Rule}
 use Rattle.romfs_format.specs.declared.rule.ImageFault.{ImageFault}
 use Rattle.romfs_format.specs.declared.rule.Profile.{Profile}
-use Rattle.romfs_format.specs.declared.rule.Profile.TheVariants.{Usual, Strict}
-use Rattle.romfs_format.specs.declared.rule.Rule.TheVariants.{Short, Magic, FullSize, BadSum, VolumeName, NoRoot, Outside, NameOpen, NameBad, DataOutside, TargetLong, LinkedTwice, SameName, LinkLoop, LinkDirectory, MajorLarge, HeaderSum, TooDeep}
+use Rattle.romfs_format.specs.declared.rule.Profile.TheVariants.{Usual}
+use Rattle.romfs_format.specs.declared.rule.Rule.TheVariants.{Short, Magic, FullSize, BadSum, VolumeName, NoRoot, Outside, NameOpen, NameBad, DataOutside, TargetLong, LinkedTwice, SameName, LinkLoop, LinkDirectory, MajorLarge, HeaderSum, TooDeep, Attributes}
+use Rattle.romfs_format.specs.Profiles.{asks_sums, reads_attributes}
+use Rattle.romfs_format.specs.Trailer.{trailer_at, IsTrailerBroken}
 use Rattle.romfs_format.specs.Fields.{word, image, summed, text_at, word_sum, root, IsInside, kind, spec, size, name, data_at, header_bytes}
 use Rattle.romfs_format.specs.Chains.{Stands, IsMember, IsSomeMember, Has}
 use Rattle.romfs_format.specs.Links.{Field, IsLink, IsHardLink, EndsAs, IsTarget, IsReached}
@@ -90,8 +92,8 @@ BreaksHeader profile a LinkLoop h = IsSomeMember a h × IsHardLink a h × EndsAs
 BreaksHeader profile a LinkDirectory h =
     IsSomeMember a h × IsHardLink a h × EndsAs a h AtDirectory
 BreaksHeader profile a MajorLarge h = IsUsed a h × HasLargeMajor a h
-BreaksHeader Strict a HeaderSum h = IsReached a h × IsInside a h × HasBadSum a h
-BreaksHeader Usual a HeaderSum h = ⊥
+BreaksHeader profile a HeaderSum h =
+    IsTrue (asks_sums profile) × IsReached a h × IsInside a h × HasBadSum a h
 BreaksHeader profile a TooDeep h =
     (path : List (List ℕ)) × Has a path h × (MAX_NAMES < length path)
 BreaksHeader profile a _ h = ⊥
@@ -108,6 +110,8 @@ Breaks profile b FullSize p = ((length b < word b 8) ⊎ (word b 8 < HEAD_SIZE))
 Breaks profile b BadSum p = (word_sum (summed (image b)) % 2 ^ 32 ≢ 0) × (p ≡ 12)
 Breaks profile b VolumeName p = IsNone (text_at (image b) HEAD_SIZE) × (p ≡ HEAD_SIZE)
 Breaks profile b NoRoot p = HasNoRoot (image b) × (p ≡ root (image b))
+Breaks profile b Attributes p =
+    IsTrue (reads_attributes profile) × IsTrailerBroken b × (p ≡ trailer_at b)
 Breaks profile b r p = BreaksHeader profile (image b) r p
 
 -- the rules in order
@@ -130,12 +134,14 @@ rule_number LinkDirectory = 14
 rule_number MajorLarge = 15
 rule_number HeaderSum = 16
 rule_number TooDeep = 17
+rule_number Attributes = 18
 
 -- the rules of the volume header one by one, then all rules of file headers together, then the
--- depth
+-- depth, and then the attributes
 abbrev pub stage : Rule → ℕ
 stage r =
-    if nat_lt (rule_number r) 6 then rule_number r else (if nat_lt (rule_number r) 17 then 6 else 7)
+    if nat_lt (rule_number r) 6 then rule_number r
+    else (if nat_lt (rule_number r) 17 then 6 else rule_number r)
 
 -- breaking r at p is named before breaking s at q: by stage, then by place, then by number
 abbrev pub IsNamedBefore : Rule → ℕ → Rule → ℕ → Type 0

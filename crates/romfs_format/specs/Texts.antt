@@ -1,7 +1,7 @@
 -- The rules in words, as they are printed.
 use Rattle.std.specs.Prelude.{ℕ, List, codes}
 use Rattle.romfs_format.specs.declared.rule.Rule.{Rule}
-use Rattle.romfs_format.specs.declared.rule.Rule.TheVariants.{Short, Magic, FullSize, BadSum, VolumeName, NoRoot, Outside, NameOpen, NameBad, DataOutside, TargetLong, LinkedTwice, SameName, LinkLoop, LinkDirectory, MajorLarge, HeaderSum, TooDeep}
+use Rattle.romfs_format.specs.declared.rule.Rule.TheVariants.{Short, Magic, FullSize, BadSum, VolumeName, NoRoot, Outside, NameOpen, NameBad, DataOutside, TargetLong, LinkedTwice, SameName, LinkLoop, LinkDirectory, MajorLarge, HeaderSum, TooDeep, Attributes}
 
 -- what is wrong with an image that breaks the rule
 abbrev pub text_of : Rule → List ℕ
@@ -23,3 +23,4 @@ text_of LinkDirectory = codes "link to directory"
 text_of MajorLarge = codes "major too large"
 text_of HeaderSum = codes "bad header sum"
 text_of TooDeep = codes "too deep"
+text_of Attributes = codes "bad attributes"

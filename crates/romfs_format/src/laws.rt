@@ -1,12 +1,16 @@
 //! What holds of every list of bytes, by the definitions alone.
 
-ghost use Rattle.std.specs.Prelude.{◌≡◌, ◌≤◌, ℕ, List};
+ghost use Rattle.std.specs.Prelude.{◌≡◌, ◌≤◌, ◌↔◌, ℕ, List, IsTrue};
 ghost use Rattle.romfs_format.specs.declared.head.Kind.TheVariants.{SymLink};
 ghost use Rattle.romfs_format.specs.declared.limits.TheConstants.{MAX_TARGET_SIZE};
 ghost use Rattle.romfs_format.specs.declared.rule.Rule.{Rule};
 ghost use Rattle.romfs_format.specs.declared.rule.Profile.{Profile};
 ghost use Rattle.romfs_format.specs.declared.rule.Profile.TheVariants.{Strict, Usual};
-ghost use Rattle.romfs_format.specs.Fields.{image, kind, size};
+ghost use Rattle.romfs_format.specs.declared.rule.Profile.TheVariants.{StrictWithAttributes};
+ghost use Rattle.romfs_format.specs.declared.rule.Profile.TheVariants.{UsualWithAttributes};
+ghost use Rattle.romfs_format.specs.Profiles.{reads_attributes};
+ghost use Rattle.romfs_format.specs.Trailer.{HasTrailer, IsTrailer, IsTrailerBroken, trailer};
+ghost use Rattle.romfs_format.specs.Fields.{image, kind, size, word};
 ghost use Rattle.romfs_format.specs.Chains.{Has};
 ghost use Rattle.romfs_format.specs.Links.{IsFinal};
 ghost use Rattle.romfs_format.specs.Rules.{IsFault, IsSound};
@@ -24,6 +28,22 @@ pub fn one_fault()
 #[tactic(auto, using(crate::proofs::Faults::strict_sound))]
 pub fn strict_is_sound()
     ensures { (b : List ℕ) → IsSound Strict b → IsSound Usual b }
+{}
+
+/// A profile with attributes asks what the one without them asks, and that a trailer is not broken.
+#[tactic(auto, using(crate::proofs::Faults::with_usual, crate::proofs::Faults::with_strict))]
+pub fn attributes_are_one_rule()
+    ensures usual { (b : List ℕ) → IsSound UsualWithAttributes b
+        ↔ (IsSound Usual b × ¬ IsTrailerBroken b) }
+    ensures strict { (b : List ℕ) → IsSound StrictWithAttributes b
+        ↔ (IsSound Strict b × ¬ IsTrailerBroken b) }
+{}
+
+/// The trailer of a sound image keeps its rule, under a profile that reads it.
+#[tactic(auto, using(crate::proofs::Trailers::whole_trailer))]
+pub fn trailers_are_whole()
+    ensures { (profile : Profile) (b : List ℕ) → IsTrue (reads_attributes profile) →
+        IsSound profile b → HasTrailer b → IsTrailer (word b 8) (trailer b) }
 {}
 
 /// A symbolic link of a sound image that a path leads to, after hard links, has a target of at most

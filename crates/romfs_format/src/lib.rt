@@ -3,13 +3,16 @@
 //!
 //! `specs/` restates the document: the fields of headers (`Fields`, `Heads`), which headers stand
 //! in which directory (`Chains`), what they lead to (`Links`), the rules of an image and the one
-//! fault of an image that breaks some (`Rules`, in words `Texts`). [`limits`] has its sizes and
-//! limits, and [`examples`] the number of each. [`read`] reads words, names and headers where they
-//! lie within the image; no call takes memory. [`laws`] says that an image has at most one fault.
+//! fault of an image that breaks some (`Rules`, in words `Texts`). Behind an image may stand an
+//! attribute trailer with the owners, modes and times of its files (`Trailer`), which the profiles
+//! read that ask for it (`Profiles`). [`limits`] has all sizes and limits, and [`examples`] the
+//! number of each, and worked trailers. [`read`] reads words, names and headers where they lie
+//! within the image; no call takes memory. [`laws`] says that an image has at most one fault.
 //!
 //! The crate stands on `byteorder` for words and `memchr` for the ends of names.
 #![tactic(auto)]
 
+pub mod attribute_row;
 pub mod examples;
 pub mod head;
 pub mod laws;
@@ -17,5 +20,6 @@ pub mod limits;
 pub mod read;
 pub mod rule;
 
+pub use attribute_row::AttributeRow;
 pub use head::{End, Head, Kind};
 pub use rule::{ImageFault, Profile, Rule};

@@ -18,3 +18,15 @@ pub const MAX_MAJOR: u32 = 4_095;
 
 /// The most names of a path.
 pub const MAX_NAMES: u16 = 512;
+
+/// The size of what stands before the rows of an attribute trailer, in bytes.
+pub const TRAILER_HEAD_SIZE: usize = 16;
+
+/// The size of a row of an attribute trailer, in bytes.
+pub const ROW_SIZE: usize = 32;
+
+/// The greatest mode of a row, without the bits of the file's kind: 12 bits (linux/stat.h).
+pub const MAX_MODE: u32 = 4_095;
+
+/// How many nanoseconds a second has. A row has fewer.
+pub const SECOND: u32 = 1_000_000_000;

@@ -6,6 +6,7 @@ ghost use Rattle.romfs_format.specs.declared.limits.TheConstants.{HEAD_SIZE};
 ghost use Rattle.romfs_format.specs.Fields.{root, word, padded, cleared, text_end, kind_of, text_at};
 ghost use Rattle.romfs_format.specs.Fields.{name_field, ended, is_dot_name, word_sum, data_at, header_bytes};
 ghost use Rattle.romfs_format.specs.Heads.{head_of, name_of};
+ghost use Rattle.romfs_format.specs.Trailer.{long_word};
 
 use crate::head::{Head, Kind};
 use crate::limits::{HEAD_SIZE, NAME_FIELD_SIZE};
@@ -22,6 +23,15 @@ pub fn word(bytes: &[u8], at: usize) -> u32
     ensures { result ≡ word bytes.now at }
 {
     BigEndian::read_u32(&bytes[at..])
+}
+
+/// The big-endian number in the eight bytes at a place.
+#[tactic(auto, unfolding(crate::specs::Trailer::long_word))]
+pub fn long_word(bytes: &[u8], at: usize) -> u64
+    requires { at + 8 ≤ length bytes.now }
+    ensures { result ≡ long_word bytes.now at }
+{
+    BigEndian::read_u64(&bytes[at..])
 }
 
 /// A length rounded up to a multiple of 16, as names and data are padded.

@@ -1,13 +1,14 @@
 //! What an image may break.
 
 ghost use Rattle.std.specs.Prelude.{◌≡◌};
+ghost use Rattle.romfs_format.specs.Profiles.{asks_sums, profile_with, reads_attributes};
 ghost use Rattle.romfs_format.specs.Texts.{text_of};
 
 use std::fmt;
 
 /// A rule that every image keeps, in the order in which rules are named where several are broken:
 /// the rules of the volume header one by one, then all rules of file headers by place, then the
-/// depth.
+/// depth, then the attributes.
 #[derive(Clone, Copy, Debug, PartialEq, Eq)]
 pub enum Rule {
     /// The image has 16 bytes or more.
@@ -47,14 +48,21 @@ pub enum Rule {
     HeaderSum,
     /// A path has at most [`MAX_NAMES`](crate::limits::MAX_NAMES) names.
     TooDeep,
+    /// An attribute trailer behind the full size is whole, its words sum to 0, and its rows rise by
+    /// offset and hold nothing out of range. A profile with attributes alone asks it.
+    Attributes,
 }
 
-/// Which rules an image has to keep: all of them, or all but [`Rule::HeaderSum`].
+/// Which rules an image has to keep, and whether its attribute trailer is read: the strict profiles
+/// ask for [`Rule::HeaderSum`], those with attributes for [`Rule::Attributes`], and all for all
+/// other rules.
 #[derive(Clone, Copy, Debug, PartialEq, Eq)]
 pub enum Profile {
     /// Header sums are not looked at, as Linux does.
     Usual,
     Strict,
+    UsualWithAttributes,
+    StrictWithAttributes,
 }
 
 /// The rule that an image breaks, and where.
@@ -63,6 +71,40 @@ pub struct ImageFault {
     pub rule: Rule,
     /// The place that the fault is named at, an offset in bytes.
     pub place: u32,
+}
+
+impl Profile {
+    /// The profile that asks for header sums, and reads attributes, or does not.
+    pub fn with(sums: bool, attributes: bool) -> Profile
+        ensures { result ≡ profile_with sums attributes }
+    {
+        match (sums, attributes) {
+            (false, false) => Profile::Usual,
+            (true, false) => Profile::Strict,
+            (false, true) => Profile::UsualWithAttributes,
+            (true, true) => Profile::StrictWithAttributes,
+        }
+    }
+
+    /// Whether it asks that the words of each header sum to 0.
+    pub fn asks_sums(self) -> bool
+        ensures { result ≡ asks_sums self }
+    {
+        match self {
+            Profile::Usual | Profile::UsualWithAttributes => false,
+            Profile::Strict | Profile::StrictWithAttributes => true,
+        }
+    }
+
+    /// Whether it reads the attribute trailer.
+    pub fn reads_attributes(self) -> bool
+        ensures { result ≡ reads_attributes self }
+    {
+        match self {
+            Profile::Usual | Profile::Strict => false,
+            Profile::UsualWithAttributes | Profile::StrictWithAttributes => true,
+        }
+    }
 }
 
 impl Rule {
@@ -89,6 +131,7 @@ impl Rule {
             Rule::MajorLarge => "major too large",
             Rule::HeaderSum => "bad header sum",
             Rule::TooDeep => "too deep",
+            Rule::Attributes => "bad attributes",
         }
     }
 }

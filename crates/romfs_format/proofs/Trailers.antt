@@ -1,0 +1,49 @@
+-- What keeps its rule is known by its bounds, and bounds that can't fail hold (stable_..): so the
+-- trailer of a sound image keeps its rule, where the profile reads it (whole_trailer).
+use Rattle.std.proofs.Common.{◌≡◌, ℕ, ◌<◌, ◌≤◌, inl, inr, List, IsTrue, arith, refl}
+use Rattle.std.proofs.lemmas.Bool.{cases_lt, cases_order}
+use Rattle.romfs_format.specs.declared.rule.Profile.{Profile}
+use Rattle.romfs_format.specs.declared.rule.Rule.TheVariants.{Attributes}
+use Rattle.romfs_format.specs.Fields.{word}
+use Rattle.romfs_format.specs.Profiles.{reads_attributes}
+use Rattle.romfs_format.specs.Trailer.{trailer_at, trailer, HasTrailer, IsTrailer, IsTrailerBroken}
+use Rattle.romfs_format.specs.Rules.{IsSound}
+
+stable_le : (m n : ℕ) → ¬ ¬ (m ≤ n) → m ≤ n
+stable_le m n h = elim (cases_lt n m) [ inl l ↦ absurd (h (λ k. omega arith)) | inr l ↦ l ]
+
+stable_lt : (m n : ℕ) → ¬ ¬ (m < n) → m < n
+stable_lt m n h = elim (cases_lt m n) [ inl l ↦ l | inr l ↦ absurd (h (λ k. omega arith)) ]
+
+stable_eq : (m n : ℕ) → ¬ ¬ (m ≡ n) → m ≡ n
+stable_eq m n h = elim (cases_order m n) [
+  | inl e ↦ e
+  | inr (inl l) ↦ absurd (h (λ k. omega arith))
+  | inr (inr l) ↦ absurd (h (λ k. omega arith))
+]
+
+-- a trailer of which it can't be that it breaks its rule keeps it
+stable_trailer : (full : ℕ) (t : List ℕ) → ¬ ¬ IsTrailer full t → IsTrailer full t
+stable_trailer full t h = record {
+  whole = stable_le _ _ (λ n. h (λ x. n x.whole));
+  sum = stable_eq _ _ (λ n. h (λ x. n x.sum));
+  rows = record {
+    each = λ i l. record {
+      aligned = stable_eq _ _ (λ n. h (λ x. n (x.rows.each i l).aligned));
+      inside = stable_lt _ _ (λ n. h (λ x. n (x.rows.each i l).inside));
+      mode = stable_le _ _ (λ n. h (λ x. n (x.rows.each i l).mode));
+      nanoseconds = stable_lt _ _ (λ n. h (λ x. n (x.rows.each i l).nanoseconds));
+      last = stable_eq _ _ (λ n. h (λ x. n (x.rows.each i l).last));
+    };
+    rising = λ i j l m. stable_lt _ _ (λ n. h (λ x. n (x.rows.rising i j l m)));
+  };
+}
+
+-- a trailer that is not broken keeps its rule
+pub kept_trailer : (b : List ℕ) → HasTrailer b → ¬ IsTrailerBroken b → IsTrailer (word b 8) (trailer b)
+kept_trailer b h k = stable_trailer (word b 8) (trailer b) (λ n. k (h, n))
+
+-- the trailer of a sound image, where its profile reads it
+pub whole_trailer : (profile : Profile) (b : List ℕ) → IsTrue (reads_attributes profile) → IsSound profile b → HasTrailer b
+    → IsTrailer (word b 8) (trailer b)
+whole_trailer profile b r s h = kept_trailer b h (λ x. s.keeps Attributes (trailer_at b) (r, x, refl))
