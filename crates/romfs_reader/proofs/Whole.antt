@@ -3,11 +3,11 @@
 -- accessible bytes says the same of both (`kept_all`); `checked` is what callers use.
 use Rattle.std.proofs.Common.{◌≡◌, ◌≢◌, ◌∙◌, sym, ap, subst, ℕ, ◌+◌, ◌-◌, ◌%◌, ◌<◌, ◌≤◌, ◌^◌, ◌⊎◌, inl, inr, List, length, take, drop, get_or, arith, refl, lit<}
 use Rattle.std.proofs.lemmas.List.{take_all, length-take-le, get_or-drop, get_or-take}
-use Rattle.std.proofs.lemmas.Bool.{cases_lt}
+use Rattle.std.proofs.lemmas.Bool.{cases_lt, false≢true}
 use Rattle.std.proofs.Math.Seq.{take-append-add}
 use Rattle.romfs_format.specs.declared.rule.Profile.TheVariants.{Usual}
 use Rattle.romfs_format.specs.declared.rule.Rule.{Rule}
-use Rattle.romfs_format.specs.declared.rule.Rule.TheVariants.{Short, Magic, FullSize, BadSum, VolumeName, NoRoot, Outside, NameOpen, NameBad, DataOutside, TargetLong, LinkedTwice, SameName, LinkLoop, LinkDirectory, MajorLarge, HeaderSum, TooDeep}
+use Rattle.romfs_format.specs.declared.rule.Rule.TheVariants.{Short, Magic, FullSize, BadSum, VolumeName, NoRoot, Outside, NameOpen, NameBad, DataOutside, TargetLong, LinkedTwice, SameName, LinkLoop, LinkDirectory, MajorLarge, HeaderSum, TooDeep, Attributes}
 use Rattle.std.specs.Prelude.{IsNone}
 use Rattle.romfs_format.specs.declared.head.Kind.TheVariants.{Directory}
 use Rattle.romfs_format.specs.Fields.{word, image, root, word_sum, summed, text_at, kind}
@@ -71,8 +71,9 @@ module _ (b : List ℕ) (v : IsVolume b) (long : 16 ≤ word b 8) (within : word
     kept_all LinkLoop p = header_kept LinkLoop p (sound.keeps LinkLoop p)
     kept_all LinkDirectory p = header_kept LinkDirectory p (sound.keeps LinkDirectory p)
     kept_all MajorLarge p = header_kept MajorLarge p (sound.keeps MajorLarge p)
-    kept_all HeaderSum p = λ x. x
+    kept_all HeaderSum p = λ x. false≢true x.0
     kept_all TooDeep p = header_kept TooDeep p (sound.keeps TooDeep p)
+    kept_all Attributes p = λ x. false≢true x.0
 
     -- the accessible bytes of a sound image are an image, given the bounds of its full size
     pub is_image : word b 8 < 2 ^ 32 → IsImage (image b)

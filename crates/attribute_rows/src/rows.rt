@@ -1,0 +1,94 @@
+//! What is kept of a trailer.
+
+ghost use Rattle.std.specs.Prelude.{◌≡◌, ◌≤◌, [], length, nat_eq, IfOk, IfSome};
+ghost use Rattle.romfs_format.specs.declared.limits.TheConstants.{HEAD_SIZE, MAX_MODE};
+ghost use Rattle.romfs_format.specs.declared.limits.TheConstants.{TRAILER_HEAD_SIZE};
+ghost use Rattle.romfs_format.specs.Trailer.{IsTrailerBroken, first_rows, row_at, row_count, rows};
+ghost use Rattle.romfs_format.specs.Trailer.{trailer_end};
+
+use crate::read::{row_of, trailer_of};
+use romfs_format::AttributeRow;
+use romfs_format::read::word;
+use std::alloc::{AllocError, Allocator};
+use std::marker::Model;
+
+/// The rows of an image's trailer, which rise by offset. A clause sees them as a list.
+#[derive(Drop)]
+pub struct Rows<A: Allocator> {
+    rows: Vec<AttributeRow, A>,
+}
+
+impl<A: Allocator> Model for Rows<A> {
+    ghost use Rattle.std.specs.Prelude.{List};
+    ghost use Rattle.romfs_format.specs.declared.attribute_row.AttributeRow.{AttributeRow};
+    ghost use Rattle.attribute_rows.specs.Order.{AreOrdered};
+
+    ghost Value = { List AttributeRow };
+
+    ghost view = { λ held. held.rows.items };
+
+    ghost invariant = { λ held. AreOrdered held.rows.items };
+}
+
+impl<A: Allocator> Rows<A> {
+    /// No rows: what an image without a trailer has.
+    pub fn none(alloc: A) -> Rows<A>
+        ensures { result ≡ [] }
+    {
+        Rows {
+            rows: Vec::new(alloc),
+        }
+    }
+
+    /// The rows of the trailer of an image, by all its bytes; none where it has no trailer. A
+    /// trailer is not broken.
+    ///
+    /// It takes 32 bytes for each row. The error comes only where memory was refused.
+    pub fn of(alloc: A, bytes: &[u8]) -> Result<Rows<A>, AllocError>
+        requires long { HEAD_SIZE ≤ length bytes.now }
+        requires whole { ¬ IsTrailerBroken bytes.now }
+        ensures { IfOk result (λ kept. kept ≡ rows bytes.now) }
+    {
+        match trailer_of(bytes) {
+            None => Ok(Rows::none(alloc)),
+            Some(trailer) => {
+                let rows = rows_in(alloc, trailer.bytes)?;
+                Ok(Rows { rows })
+            }
+        }
+    }
+
+    /// Whether there are none.
+    pub fn is_empty(&self) -> bool
+        ensures { result ≡ nat_eq (length self.now) 0 }
+    {
+        self.rows.is_empty()
+    }
+
+    /// The row for the header at an offset in bytes, if there is one. It takes as many steps as
+    /// the number of rows can be halved.
+    pub fn at(&self, place: u32) -> Option<AttributeRow>
+        ensures value { result ≡ row_at self.now place }
+        ensures mode { IfSome result (λ row. row.mode ≤ MAX_MODE) }
+    {
+        let index = self.rows.partition_point(|row| row.place < place);
+        match self.rows.get(index) {
+            Some(row) if row.place == place => Some(*row),
+            _ => None,
+        }
+    }
+}
+
+// All rows of a trailer, in their order.
+fn rows_in<A: Allocator>(alloc: A, trailer: &[u8]) -> Result<Vec<AttributeRow, A>, AllocError>
+    requires long { TRAILER_HEAD_SIZE ≤ length trailer.now }
+    requires whole { trailer_end trailer.now ≤ length trailer.now }
+    ensures { IfOk result (λ found. found.items ≡ first_rows trailer.now (row_count trailer.now)) }
+{
+    let count = word(trailer, 8);
+    let mut rows = Vec::with_capacity(alloc, count as usize)?;
+    for number in 0..count {
+        rows.push(row_of(trailer, number))?;
+    }
+    Ok(rows)
+}
