@@ -19,6 +19,4 @@ mod numbering;
 mod walk;
 
 pub use making::OfTree;
-pub use table_reader::{
-    Attr, AttributeRow, Attributes, Kind, Node, Owner, Place, Row, Rows, Table,
-};
+pub use table_reader::{Attr, Attributes, Kind, Node, Owner, Place, Row, Rows, Table};

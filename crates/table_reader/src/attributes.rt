@@ -1,6 +1,6 @@
 //! What is known of nodes beside their headers: rows of attributes, and an owner.
 
-ghost use Rattle.std.specs.Prelude.{◌≡◌, [], ⊤, None, Some, MatchOption, IfOk, is_some, length};
+ghost use Rattle.std.specs.Prelude.{◌≡◌, [], map, IfOk, is_some};
 ghost use Rattle.std.specs.List.{list_any};
 ghost use Rattle.node_attr.specs.declared.owner.TheConstants.Owner.{ROOT};
 ghost use Rattle.stack_model.specs.Attributes.{mode_by, row_in};
@@ -8,8 +8,9 @@ ghost use Rattle.table_reader.specs.Readers.{placed};
 ghost use Rattle.table_reader.specs.Held.{row_held, brief_by, stamp_by, briefs_of, stamps_of};
 
 use crate::node::{Brief, Node, Stamp};
-use attribute_rows::{AttributeRow, Rows};
+use attribute_rows::Rows;
 use node_attr::Owner;
+use romfs_format::AttributeRow;
 use std::alloc::{AllocError, Allocator};
 use whiteout_tree::Place;
 

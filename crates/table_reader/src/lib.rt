@@ -18,10 +18,10 @@ mod node;
 mod row;
 mod table;
 
+pub use attribute_rows::Rows;
 pub use attributes::Attributes;
 pub use directory::{Directories, Directory};
 pub use guess::Guess;
-pub use attribute_rows::{AttributeRow, Rows};
 pub use name_lookup::hashed;
 pub use node::Node;
 pub use node_attr::{Attr, Owner};
