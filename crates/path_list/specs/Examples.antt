@@ -9,6 +9,13 @@ abbrev pub sticky_root : Stacked
 sticky_root = record {
   layers = (0 ∷ 0 ∷ 0 ∷ 9 ∷ []) ∷ [];
   entries = record { path = []; layer = 0; header = 0 } ∷ [];
-  rows = (record { place = 0; mode = 0o1777; uid = 0; gid = 0; seconds = 0; nanoseconds = 0 } ∷ []) ∷ [];
+  rows = (record {
+    place = 0;
+    mode = 0o1777;
+    uid = 0;
+    gid = 0;
+    seconds = 0;
+    nanoseconds = 0;
+  } ∷ []) ∷ [];
   owner = ROOT;
 }

@@ -49,8 +49,9 @@ impl From<Failed> for ListFault {
 /// Puts a line for each shown path of the table's layers to a sink, in the order of the paths.
 ///
 /// A line is `<number> <mode> <nlink> <size> <layer> <path>`: the mode in six octal digits, by the
-/// row of the node where it has one, the layer that of the node's place, and the path after `/`, which alone is the root. A byte of a
-/// name outside 0x21 to 0x7e, and that of `\`, is printed as `\` and two lower hexadecimal digits.
+/// node's row where it has one, the layer that of the node's place, and the path after `/`, which
+/// alone is the root. A byte of a name outside 0x21 to 0x7e, and that of `\`, is printed as `\` and
+/// two lower hexadecimal digits.
 ///
 /// The lines go out in pieces of about 64 KiB, each of which is flushed. Memory is taken first, 64
 /// KiB for a piece and 383 KiB for the longest path that there can be: at `Memory` the sink is as

@@ -43,8 +43,8 @@ use std::snapshot::Snapshot;
 /// together; beside each row lies the key by which its name is found (`name_lookup`), where a guess
 /// does not tell the row. A node keeps where its data lie, so no answer parses a header, and only a
 /// directory keeps more: where its rows lie, and which directory is above. Attributes lie once more
-/// in lists of their own, since most requests ask for nothing else of a node. Rows of attributes are
-/// sought once, when these lists are made, and then let go.
+/// in lists of their own, since most requests ask for nothing else of a node. Rows of attributes
+/// are sought once, when these lists are made, and then let go.
 #[derive(Drop)]
 pub struct Table<A: Allocator> {
     images: Vec<Image<A>, A>,
