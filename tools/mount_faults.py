@@ -43,6 +43,7 @@ RULES = {
     "major too large": "a device's major number is above 4,095",
     "bad header sum": "the words of a header don't add up; only --strict asks for that",
     "too deep": "a path has more than 512 names",
+    "bad attributes": "the owners, modes and times behind the image are cut off or were changed; only --attributes asks for them",
 }
 
 

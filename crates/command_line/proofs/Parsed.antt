@@ -36,6 +36,7 @@ use Rattle.command_line.specs.declared.options.Verb.TheVariants as verbs
 use Rattle.command_line.proofs.Agreed.{one_name, one_word, same_rows}
 use Rattle.command_line.proofs.Taken.{taken_names}
 use Rattle.command_line.specs.CommandLine.{AreCrossed, GivesSocket, HoldsRows, IsFilled, IsFlagFilled, LineParts, Says, names_both, names_both_of, parts_of, IsLineOf, IsLineFault, IsNoLine, IsRefusedFor, TellsKind, IsNumberNamed, IsNumberTo, HaveNumbersInRange, Number, numbers, IsTaken, command_in, faults_in, program, verb_word}
+use Rattle.command_line.specs.Owners.{IsOwner}
 
 program_is_simple : is_simple program ≡ true
 program_is_simple = refl
@@ -196,7 +197,11 @@ pub number_fault : (rows : List Row) (name : Text) (most default : ℕ) → IsNu
     → ¬ IfSome (first_of name rows) (IsNumberTo most) → ¬ HaveNumbersInRange rows
 number_fault rows name most default named bad numbered =
     bad (found_passes (λ number. IfSome (first_of number.name rows) (IsNumberTo number.most)) (λ number. bytes_eq number.name name) numbers
-    (record { name = name; most = most; default = default }) numbered named)
+    (record { name = name; most = most; default = default }) numbered.each named)
+
+-- an owner that is none is a fault of the rows
+pub owner_fault : (rows : List Row) → ¬ IfSome (first_of (codes "owner") rows) IsOwner → ¬ HaveNumbersInRange rows
+owner_fault rows bad numbered = bad numbered.owner
 
 -- an option that is given, as the line has it
 some_named : (o : Option (Bor Text)) (p : Option Text) → option_map (λ file. file.now) o ≡ p → is_some o ≡ is_some p

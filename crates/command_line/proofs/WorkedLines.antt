@@ -1,7 +1,7 @@
 -- The worked command lines, by computation. What words come to is one value (`told`), so that each
 -- example computes once: what is wrong with them, the command that they name, and what is seen of its
 -- rows. The numbers of a line are tested by a function that computes (`is_numbered`).
-use Rattle.std.proofs.Common.{◌≡◌, ◌∙◌, ◌&&◌, ℕ, Bool, refl, ap, sym, subst, true, false, true≢false, nat_lt, nat_le, length, unwrap_or, option_map, List, [], ◌∷◌, Option, Some, None, IfSome}
+use Rattle.std.proofs.Common.{◌≡◌, ◌∙◌, ◌&&◌, ◌^◌, ℕ, Bool, codes, refl, ap, sym, subst, true, false, true≢false, nat_lt, nat_le, length, unwrap_or, option_map, List, [], ◌∷◌, Option, Some, None, IfSome}
 use Rattle.std.specs.Char.{digit_value}
 use Rattle.std.specs.List.{All, list_all}
 use Rattle.std.specs.Str.Parse.{AllDigits, digits_value}
@@ -14,6 +14,7 @@ use Rattle.clap.proofs.WalkLemmas.{both}
 use Rattle.command_line.specs.declared.options.Verb.{Verb}
 use Rattle.command_line.specs.declared.options.Verb.TheVariants as verbs
 use Rattle.command_line.specs.CommandLine.{AreCrossed, IsCrossed, names_both_of, IsMisnumbered, IsNumberTo, HaveNumbersInRange, Number, numbers, IsTaken, LineParts, Says, command_in, faults_in, parts_of, verb_word}
+use Rattle.command_line.specs.Owners.{IsId, IsOwner, group_in, user_in}
 use Rattle.command_line.specs.LineExamples.{MisnumberedLines, ReadsAs, RefusedLines, TakenLines, words_of}
 use Rattle.command_line.proofs.Agreed.{one_name, one_word, same_rows}
 
@@ -73,8 +74,38 @@ given_passed most (Some text) e = number_passed most text e
 abbrev is_in_range : List Row → Number → Bool
 is_in_range rows number = passes number.most (first_of number.name rows)
 
+-- ---- a test of owners
+
+abbrev is_id : Text → Bool
+is_id text = nat_lt 0 (length text) && (all_digits text && nat_lt (digits_value 10 text) (2 ^ 32))
+
+id_passes : (text : Text) → IsId text → is_id text ≡ true
+id_passes text is = rw (lt-ltb 0 (length text) is.0.0, digits_pass text is.0.1, lt-ltb (digits_value 10 text) (2 ^ 32) is.1) refl
+
+id_passed : (text : Text) → is_id text ≡ true → IsId text
+id_passed text e =
+    let some = both (nat_lt 0 (length text)) _ e in
+    let digits = both (all_digits text) _ some.1 in
+    ((ltb-true 0 (length text) some.0, digits_passed text digits.0), ltb-true (digits_value 10 text) (2 ^ 32) digits.1)
+
+abbrev owns : Option Text → Bool
+owns None = true
+owns (Some text) = is_id (user_in text) && is_id (group_in text)
+
+owner_passes : (o : Option Text) → IfSome o IsOwner → owns o ≡ true
+owner_passes None is = refl
+owner_passes (Some text) is = rw (id_passes (user_in text) is.0, id_passes (group_in text) is.1) refl
+
+owner_passed : (o : Option Text) → owns o ≡ true → IfSome o IsOwner
+owner_passed None e = tt
+owner_passed (Some text) e =
+    let tests = both (is_id (user_in text)) (is_id (group_in text)) e in
+    (id_passed (user_in text) tests.0, id_passed (group_in text) tests.1)
+
+-- ---- the numbers of a command
+
 abbrev is_numbered : List Row → Bool
-is_numbered rows = list_all (is_in_range rows) numbers
+is_numbered rows = owns (first_of (codes "owner") rows) && list_all (is_in_range rows) numbers
 
 numbers_pass : (rows : List Row) (ns : List Number) → All (λ n. IfSome (first_of n.name rows) (IsNumberTo n.most)) ns
     → list_all (is_in_range rows) ns ≡ true
@@ -91,6 +122,15 @@ numbers_passed rows (n ∷ ns) e =
     let tests = both (is_in_range rows n) (list_all (is_in_range rows) ns) e in
     All-cons (λ n. IfSome (first_of n.name rows) (IsNumberTo n.most)) n ns (given_passed n.most (first_of n.name rows) tests.0)
     (numbers_passed rows ns tests.1)
+
+in_range : (rows : List Row) → HaveNumbersInRange rows → is_numbered rows ≡ true
+in_range rows have =
+    rw (owner_passes (first_of (codes "owner") rows) have.owner, numbers_pass rows numbers have.each) refl
+
+are_in_range : (rows : List Row) → is_numbered rows ≡ true → HaveNumbersInRange rows
+are_in_range rows e =
+    let tests = both (owns (first_of (codes "owner") rows)) (list_all (is_in_range rows) numbers) e in
+    record { each = numbers_passed rows numbers tests.1; owner = owner_passed (first_of (codes "owner") rows) tests.0 }
 
 -- ---- what words come to
 
@@ -141,7 +181,7 @@ reads {text} {parts} e =
     record {
       taken = shown.taken;
       numbered = λ bad.
-          let numbered : HaveNumbersInRange rows = numbers_passed rows numbers numbers_are in
+          let numbered : HaveNumbersInRange rows = are_in_range rows numbers_are in
           bad.wrong (subst HaveNumbersInRange (same_rows (command_in words) _ _ rows bad.rows shown.command bad.command) numbered);
       apart = λ bad. true≢false (sym (subst AreCrossed (same_rows (command_in words) _ _ bad.rows rows bad.command shown.command)
           bad.crossed) ∙ apart);
@@ -165,7 +205,7 @@ misnumbers {words} verb e =
       name = verb_word verb;
       rows = shown.rows;
       command = shown.command;
-      wrong = λ numbered. true≢false (sym (numbers_pass shown.rows numbers numbered) ∙ shown.seen);
+      wrong = λ numbered. true≢false (sym (in_range shown.rows numbered) ∙ shown.seen);
     }
 
 -- the lines that are commands say what the examples state
@@ -175,12 +215,15 @@ taken_lines = record {
   check_one = reads refl;
   check_two = reads refl;
   check_strict = reads refl;
+  check_attributes = reads refl;
   list_one = reads refl;
   list_strict = reads refl;
+  list_attributes = reads refl;
   serve_one = reads refl;
   serve_device = reads refl;
   serve_layers = reads refl;
   all_options = reads refl;
+  largest_owner = reads refl;
   attached = reads refl;
   least_numbers = reads refl;
   most_numbers = reads refl;
@@ -227,6 +270,8 @@ refused_lines = record {
   device_of_socket = refl;
   sessions_of_serve = refl;
   listen_of_list = refl;
+  owner_of_check = refl;
+  owner_of_list = refl;
   minus_apart = refl;
 }
 
@@ -247,4 +292,12 @@ misnumbered_lines = record {
   fraction = misnumbers verbs.Serve refl;
   past_32_bits = misnumbers verbs.Serve refl;
   past_64_bits = misnumbers verbs.Serve refl;
+  user_alone = misnumbers verbs.Serve refl;
+  no_user = misnumbers verbs.Serve refl;
+  no_group = misnumbers verbs.Serve refl;
+  three_ids = misnumbers verbs.Serve refl;
+  named_owner = misnumbers verbs.Serve refl;
+  plus_owner = misnumbers verbs.Serve refl;
+  large_user = misnumbers verbs.Serve refl;
+  large_group = misnumbers verbs.Socket refl;
 }

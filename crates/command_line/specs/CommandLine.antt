@@ -31,6 +31,8 @@ use Rattle.command_line.specs.declared.options.NoLine.{NoLine}
 use Rattle.command_line.specs.declared.options.NoLine.TheVariants.{Version, Fault}
 use Rattle.command_line.specs.declared.options.Verb.{Verb}
 use Rattle.command_line.specs.declared.options.Verb.TheVariants as verbs
+use Rattle.command_line.specs.Owners.{IsOwner, owner_or_root}
+use Rattle.node_attr.specs.declared.owner.Owner.{Owner}
 
 -- ---- the program
 
@@ -74,11 +76,11 @@ plan_options = value_option (codes "workers") ∷ value_option (codes "batch") �
 
 -- the images, and how they are taken
 abbrev pub images : List Rule
-images = flag (codes "strict") ∷ words (codes "image") ∷ []
+images = flag (codes "strict") ∷ flag (codes "attributes") ∷ words (codes "image") ∷ []
 
--- the images that are served, and what the client is told of them
+-- the images that are served, what the client is told of them, and whom their files belong to
 abbrev pub served_images : List Rule
-served_images = flag (codes "lasting") ∷ images
+served_images = flag (codes "lasting") ∷ value_option (codes "owner") ∷ images
 
 -- the command `serve`
 abbrev pub serve_command : App
@@ -173,10 +175,10 @@ abbrev pub IsNumberNamed : Text → ℕ → ℕ → Type 0
 IsNumberNamed name most default =
     number_named name ≡ Some (record { name = name; most = most; default = default })
 
--- the numbers that the rows of a command give are numbers in their ranges
-abbrev pub HaveNumbersInRange : List Row → Type 0
-HaveNumbersInRange rows =
-    All (λ number. IfSome (first_of number.name rows) (IsNumberTo number.most)) numbers
+-- the numbers that the rows of a command give are numbers in their ranges, those of an owner too
+pub record HaveNumbersInRange (rows : List Row) : Type 0 where
+  pub each : All (λ number. IfSome (first_of number.name rows) (IsNumberTo number.most)) numbers
+  pub owner : IfSome (first_of (codes "owner") rows) IsOwner
 
 -- ---- lines
 
@@ -195,6 +197,7 @@ rows_in found = rows_of (found_of found)
 pub record LineParts : Type 0 where
   pub verb : Verb
   pub strict : Bool
+  pub attributes : Bool
   pub device : Bool
   pub lasting : Bool
   pub workers : ℕ
@@ -204,6 +207,7 @@ pub record LineParts : Type 0 where
   pub balances : Option Text
   pub listen : Option Text
   pub sessions : ℕ
+  pub owner : Owner
   pub images : List Text
 
 -- the number of this name that the rows of a command give, or else its default
@@ -217,6 +221,7 @@ abbrev pub parts_of : Verb → List Row → LineParts
 parts_of verb rows = record {
   verb = verb;
   strict = is_given (codes "strict") rows;
+  attributes = is_given (codes "attributes") rows;
   device = is_given (codes "device") rows;
   lasting = is_given (codes "lasting") rows;
   workers = number_in (codes "workers") rows;
@@ -226,6 +231,7 @@ parts_of verb rows = record {
   balances = first_of (codes "balances") rows;
   listen = first_of (codes "listen") rows;
   sessions = number_in (codes "sessions") rows;
+  owner = owner_or_root (first_of (codes "owner") rows);
   images = unwrap_or (all_of (codes "image") rows) [];
 }
 
@@ -234,6 +240,7 @@ abbrev pub parts_in : Line → LineParts
 parts_in line = record {
   verb = line.verb;
   strict = line.strict;
+  attributes = line.attributes;
   device = line.device;
   lasting = line.lasting;
   workers = line.workers;
@@ -243,6 +250,7 @@ parts_in line = record {
   balances = option_map (λ file. file.now) line.balances;
   listen = option_map (λ path. path.now) line.listen;
   sessions = line.sessions;
+  owner = line.owner;
   images = texts line.images.items;
 }
 
@@ -333,7 +341,7 @@ IsFlagFilled id rows = MatchOption (one_of id rows) (is_given id rows ≡ false)
 
 -- the flags of the program
 abbrev pub flags : List Text
-flags = codes "strict" ∷ codes "device" ∷ codes "lasting" ∷ []
+flags = codes "strict" ∷ codes "attributes" ∷ codes "device" ∷ codes "lasting" ∷ []
 
 -- the option of this name is one of them
 abbrev pub is_flag : Text → Bool

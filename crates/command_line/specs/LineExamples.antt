@@ -23,6 +23,7 @@ abbrev pub plain : Verb → Text → LineParts
 plain verb images = record {
   verb = verb;
   strict = false;
+  attributes = false;
   device = false;
   lasting = false;
   workers = 4;
@@ -32,6 +33,7 @@ plain verb images = record {
   balances = None;
   listen = None;
   sessions = 1;
+  owner = record { uid = 0; gid = 0 };
   images = words_of images;
 }
 
@@ -50,7 +52,8 @@ pub record ReadsAs (text : Text) (parts : LineParts) : Type 0 where
 -- each option of `serve` but the device
 abbrev pub every_option : Text
 every_option =
-    codes "serve --workers 2 --batch 3 --requests q --replies r --balances b --strict --lasting f"
+    codes "serve --workers 2 --batch 3 --requests q --replies r --balances b"
+    ++ codes " --owner 7:8 --attributes --strict --lasting f"
 
 -- words that are a command, and what they say
 pub record TakenLines : Type 0 where
@@ -58,9 +61,13 @@ pub record TakenLines : Type 0 where
   pub check_two : ReadsAs (codes "check b a") (plain verbs.Check (codes "b a"))
   pub check_strict : ReadsAs (codes "check --strict a")
       (record (plain verbs.Check (codes "a")) { strict = true })
+  pub check_attributes : ReadsAs (codes "check --attributes a")
+      (record (plain verbs.Check (codes "a")) { attributes = true })
   pub list_one : ReadsAs (codes "list f.img") (plain verbs.List (codes "f.img"))
   pub list_strict : ReadsAs (codes "list a b --strict")
       (record (plain verbs.List (codes "a b")) { strict = true })
+  pub list_attributes : ReadsAs (codes "list a b --attributes")
+      (record (plain verbs.List (codes "a b")) { attributes = true })
   pub serve_one : ReadsAs (codes "serve f.img") (plain verbs.Serve (codes "f.img"))
   pub serve_device : ReadsAs (codes "serve --device --workers 2 f")
       (record (plain verbs.Serve (codes "f")) { device = true; workers = 2 })
@@ -70,6 +77,7 @@ pub record TakenLines : Type 0 where
       (record {
         verb = verbs.Serve;
         strict = true;
+        attributes = true;
         device = false;
         lasting = true;
         workers = 2;
@@ -79,20 +87,28 @@ pub record TakenLines : Type 0 where
         balances = Some (codes "b");
         listen = None;
         sessions = 1;
+        owner = record { uid = 7; gid = 8 };
         images = codes "f" ∷ [];
       })
   pub socket_one : ReadsAs (codes "socket --listen s f") (at_socket (codes "s") (codes "f"))
   pub socket_options : ReadsAs
-      (codes "socket --workers 2 --batch 3 --listen s --sessions 5 --lasting --strict f g")
+      (codes "socket --workers 2 --batch 3 --listen s --sessions 5 --lasting --strict"
+      ++ codes " --owner 7:8 --attributes f g")
       (record (at_socket (codes "s") (codes "f g")) {
         strict = true;
+        attributes = true;
         lasting = true;
         workers = 2;
         batch = 3;
         sessions = 5;
+        owner = record { uid = 7; gid = 8 };
       })
   pub most_sessions : ReadsAs (codes "socket f --sessions 65535 --listen=s")
       (record (at_socket (codes "s") (codes "f")) { sessions = 65535 })
+  pub largest_owner : ReadsAs (codes "serve --owner 4294967295:0004294967295 f")
+      (record (plain verbs.Serve (codes "f")) {
+        owner = record { uid = 4294967295; gid = 4294967295 };
+      })
   pub attached : ReadsAs (codes "serve --workers=5 --requests=q f")
       (record (plain verbs.Serve (codes "f")) { workers = 5; requests = Some (codes "q") })
   pub least_numbers : ReadsAs (codes "serve --workers 1 --batch 1 f")
@@ -147,6 +163,8 @@ pub record RefusedLines : Type 0 where
   pub device_of_socket : HasOneFault (codes "socket --device --listen s a") kind.UnknownArgument
   pub sessions_of_serve : HasOneFault (codes "serve --sessions 2 a") kind.UnknownArgument
   pub listen_of_list : HasOneFault (codes "list --listen s a") kind.UnknownArgument
+  pub owner_of_check : HasOneFault (codes "check --owner 1:1 a") kind.UnknownArgument
+  pub owner_of_list : HasOneFault (codes "list --owner 1:1 a") kind.UnknownArgument
   pub minus_apart : HasOneFault (codes "serve --workers -4 a") kind.UnknownArgument
 
 -- words that are a command but for a number
@@ -164,3 +182,11 @@ pub record MisnumberedLines : Type 0 where
   pub fraction : IsMisnumbered (words_of (codes "serve --batch 16.0 a"))
   pub past_32_bits : IsMisnumbered (words_of (codes "serve --workers 4294967300 a"))
   pub past_64_bits : IsMisnumbered (words_of (codes "serve --batch 18446744073709551632 a"))
+  pub user_alone : IsMisnumbered (words_of (codes "serve --owner 7 a"))
+  pub no_user : IsMisnumbered (words_of (codes "serve --owner :7 a"))
+  pub no_group : IsMisnumbered (words_of (codes "serve --owner 7: a"))
+  pub three_ids : IsMisnumbered (words_of (codes "serve --owner 7:8:9 a"))
+  pub named_owner : IsMisnumbered (words_of (codes "serve --owner root:root a"))
+  pub plus_owner : IsMisnumbered (words_of (codes "serve --owner +7:8 a"))
+  pub large_user : IsMisnumbered (words_of (codes "serve --owner 4294967296:0 a"))
+  pub large_group : IsMisnumbered (words_of (codes "socket --listen s --owner 0:4294967296 a"))

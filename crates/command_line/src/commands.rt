@@ -97,6 +97,18 @@ const STRICT: Argument = Argument {
     help: "Holds images to the strict profile",
 };
 
+const ATTRIBUTES: Argument = Argument {
+    name: "attributes",
+    form: Form::Flag,
+    help: "Reads owners, modes and times that stand behind images",
+};
+
+const OWNER: Argument = Argument {
+    name: "owner",
+    form: Form::Value("UID:GID"),
+    help: "Whom files belong to of which no image says it [default: 0:0]",
+};
+
 const IMAGE: Argument = Argument {
     name: "image",
     form: Form::Words("IMAGE"),
@@ -149,7 +161,8 @@ fn serve<'a>(alloc: Global) -> Result<Command<'a>, AllocError>
         "serve",
         "Answers FUSE requests over the stacked images",
         &[
-            WORKERS, BATCH, REQUESTS, REPLIES, BALANCES, DEVICE, LASTING, STRICT, IMAGE,
+            WORKERS, BATCH, REQUESTS, REPLIES, BALANCES, DEVICE, LASTING, OWNER, STRICT,
+            ATTRIBUTES, IMAGE,
         ],
     )
 }
@@ -161,7 +174,9 @@ fn socket<'a>(alloc: Global) -> Result<Command<'a>, AllocError>
         alloc,
         "socket",
         "Answers FUSE requests of one client after another at a Unix socket",
-        &[WORKERS, BATCH, LISTEN, SESSIONS, LASTING, STRICT, IMAGE],
+        &[
+            WORKERS, BATCH, LISTEN, SESSIONS, LASTING, OWNER, STRICT, ATTRIBUTES, IMAGE,
+        ],
     )
 }
 
@@ -169,7 +184,7 @@ fn socket<'a>(alloc: Global) -> Result<Command<'a>, AllocError>
 fn over_images<'a>(alloc: Global, name: &'a str, about: &'a str) -> Result<Command<'a>, AllocError>
     ensures { IsApp result (images_command name.entry.now) }
 {
-    command_with(alloc, name, about, &[STRICT, IMAGE])
+    command_with(alloc, name, about, &[STRICT, ATTRIBUTES, IMAGE])
 }
 
 // The command of this name, with these arguments.

@@ -3,6 +3,9 @@
 ghost use Rattle.std.specs.Prelude.{◌≡◌, IfSome, None};
 ghost use Rattle.std.specs.Str.Parse.{digits_value};
 ghost use Rattle.command_line.specs.CommandLine.{IsNumberTo};
+ghost use Rattle.command_line.specs.Owners.{IsId, IsOwner, owner_in};
+
+use node_attr::Owner;
 
 /// The number that a text of digits alone writes, if it is one from 1 to `most`.
 pub(crate) fn number_to(text: &str, most: u32) -> Option<u32>
@@ -16,5 +19,31 @@ pub(crate) fn number_to(text: &str, most: u32) -> Option<u32>
     match text.parse::<u32>() {
         Ok(number) if 1 <= number && number <= most => Some(number),
         _ => None,
+    }
+}
+
+/// The user and the group that a text of two numbers joined by a colon writes, if it is one, and
+/// each number is below 2^32.
+pub(crate) fn owner_in(text: &str) -> Option<Owner>
+    ensures some { IfSome result (λ owner. IsOwner text.now × (owner ≡ owner_in text.now)) }
+    ensures none { result ≡ None → ¬ IsOwner text.now }
+{
+    let (user, group) = text.split_once(':')?;
+    let uid = id_in(user)?;
+    let gid = id_in(group)?;
+    Some(Owner { uid, gid })
+}
+
+// The number that a text of digits alone writes, if it is one below 2^32.
+fn id_in(text: &str) -> Option<u32>
+    ensures some { IfSome result (λ id. IsId text.now × (id ≡ digits_value 10 text.now)) }
+    ensures none { result ≡ None → ¬ IsId text.now }
+{
+    if text.starts_with('+') {
+        return None;
+    }
+    match text.parse::<u32>() {
+        Ok(id) => Some(id),
+        Err(_) => None,
     }
 }

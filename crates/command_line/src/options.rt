@@ -4,6 +4,7 @@ ghost use Rattle.std.specs.Prelude.{◌≡◌};
 ghost use Rattle.command_line.specs.declared.options.LineFault.TheVariants.{Memory};
 ghost use Rattle.command_line.specs.declared.options.NoLine.TheVariants.{Fault};
 
+use node_attr::Owner;
 use std::alloc::{AllocError, AllocFailed};
 
 /// The most sessions that one command serves at a socket.
@@ -29,6 +30,8 @@ pub struct Line<'a> {
     pub verb: Verb,
     /// Images are held to the strict profile too.
     pub strict: bool,
+    /// The attribute trailers of images are read, checked and shown.
+    pub attributes: bool,
     /// Standard input and output are one open `/dev/fuse`. No file is named in place of one of
     /// them, nor for the balances.
     pub device: bool,
@@ -48,6 +51,8 @@ pub struct Line<'a> {
     pub listen: Option<&'a str>,
     /// So many sessions are served, one after another, from 1 to 65,535. The default is 1.
     pub sessions: u32,
+    /// Whom files belong to of which no image says it. The default is user and group 0.
+    pub owner: Owner,
     /// The files of the images, one or more, the lowest layer first.
     pub images: Vec<&'a str>,
 }

@@ -12,13 +12,15 @@ ghost use Rattle.command_line.specs.CommandLine.{IsLineOf, IsNoLine, IsTaken, Te
 ghost use Rattle.command_line.specs.CommandLine.{HoldsRows, IsFilled, IsInLimits, names_both, verb_word};
 ghost use Rattle.command_line.specs.CommandLine.{AreCrossed, GivesSocket, NamesSocket, is_flag, rows_in};
 ghost use Rattle.command_line.specs.CommandLine.{HaveNumbersInRange, IsNumberNamed, IsNumberOf};
+ghost use Rattle.command_line.specs.Owners.{IsOwnerOf};
 ghost use Rattle.command_line.specs.declared.options.LineFault.TheVariants.{Memory};
 
 use crate::commands::{MOUNTING, program};
-use crate::numbers::number_to;
+use crate::numbers::{number_to, owner_in};
 use crate::options::{Line, LineFault, MAX_SESSIONS, NoLine, Verb};
 use clap::error::ErrorKind;
 use clap::{ArgMatches, Error};
+use node_attr::Owner;
 use std::alloc::{AllocError, Global};
 use std::convert::AsStr;
 use std::env::Env;
@@ -44,8 +46,8 @@ pub fn words<R: Env + AllocGlobal>(rt: &R) -> Result<Vec<String>, LineFault> {
 
 /// Reads the words after the program's name: the line has their verb, the flag, the first value of
 /// each option or else its default, and all images in order. A number is decimal, in digits alone,
-/// from 1 to 64 (`--workers`), 256 (`--batch`) or 65,535 (`--sessions`). Of the verb `socket` it
-/// has the path of the socket.
+/// from 1 to 64 (`--workers`), 256 (`--batch`) or 65,535 (`--sessions`), and an owner two numbers
+/// below 2^32 joined by a colon. Of the verb `socket` it has the path of the socket.
 ///
 /// Words that ask for the version have no line, and are `Version`. It is `Usage` only where the
 /// words are no command of the program, as where they ask for help, where they give another number,
@@ -108,6 +110,7 @@ fn line_of<'a>(alloc: Global, verb: Verb, found: &ArgMatches<'a>) -> Result<Line
     let line = Line {
         verb,
         strict: flag(found, "strict"),
+        attributes: flag(found, "attributes"),
         device: flag(found, "device"),
         lasting: flag(found, "lasting"),
         workers: number(alloc, found, "workers", DEFAULT_WORKERS, MAX_WORKERS)?,
@@ -117,6 +120,7 @@ fn line_of<'a>(alloc: Global, verb: Verb, found: &ArgMatches<'a>) -> Result<Line
         balances: value(found, "balances"),
         listen: value(found, "listen"),
         sessions: number(alloc, found, "sessions", DEFAULT_SESSIONS, MAX_SESSIONS)?,
+        owner: owner(alloc, found)?,
         images: images(alloc, found)?,
     };
     match named_beside_device(&line) {
@@ -194,6 +198,21 @@ fn number(
     }
 }
 
+// The owner that is given, or user and group 0 where none is.
+fn owner(alloc: Global, found: &ArgMatches<'_>) -> Result<Owner, LineFault>
+    ensures ok { IfOk result (λ owner. IsOwnerOf (first_of (codes "owner") (rows_in found.now)) owner) }
+    ensures err { IfErr result (λ fault. (fault ≡ Memory)
+        ⊎ ¬ HaveNumbersInRange (rows_in found.now)) }
+{
+    match value(found, "owner") {
+        None => Ok(Owner::ROOT),
+        Some(text) => match owner_in(text) {
+            Some(owner) => Ok(owner),
+            None => Err(no_owner(alloc, text)?),
+        },
+    }
+}
+
 // What `clap` answers in place of matches.
 fn refusal<S: AsStr>(alloc: Global, words: &[S], error: &Error) -> NoLine
     ensures { TellsKind (kind_of error.now) result }
@@ -231,6 +250,15 @@ fn misnumbered(alloc: Global, name: &str, text: &str, most: u32) -> Result<LineF
     let text = format!(in alloc;
         "error: invalid value '{text}' for '--{name} <N>': not a number from 1 to {most}\n\n\
          For more information, try '--help'."
+    )?;
+    Ok(LineFault::Usage { text })
+}
+
+// What another text than two numbers joined by a colon is answered, as `clap` words it.
+fn no_owner(alloc: Global, text: &str) -> Result<LineFault, AllocError> {
+    let text = format!(in alloc;
+        "error: invalid value '{text}' for '--owner <UID:GID>': not two numbers from 0 to \
+         4294967295 joined by a colon\n\nFor more information, try '--help'."
     )?;
     Ok(LineFault::Usage { text })
 }

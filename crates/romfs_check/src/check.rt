@@ -1,14 +1,17 @@
 //! Whether bytes are an image.
 
-ghost use Rattle.std.specs.Prelude.{IfOk, IfErr};
-ghost use Rattle.romfs_check.specs.Checks.{IsChecked};
+ghost use Rattle.std.specs.Prelude.{◌≡◌, IfOk, IfErr};
+ghost use Rattle.romfs_format.specs.Rules.{IsSound};
+ghost use Rattle.romfs_format.specs.Trailer.{rows_shown};
+ghost use Rattle.romfs_check.specs.Checks.{IsChecked, IsCheckedWithRows};
 ghost use Rattle.romfs_check.specs.Refusals.{IsRefusal};
 
 use crate::refusal::CheckFault;
+use attribute_rows::Rows;
 use romfs_format::Profile;
 use romfs_reader::Image;
 use romfs_rules::first_fault;
-use std::alloc::Allocator;
+use std::alloc::{AllocError, Allocator};
 
 /// What bytes are checked to be.
 pub trait Check: Sized {
@@ -17,6 +20,9 @@ pub trait Check: Sized {
 
     /// The bytes.
     type Bytes;
+
+    /// What their attribute trailer says.
+    type Rows;
 
     /// Checks bytes by the usual profile.
     fn check(alloc: Self::Memory, bytes: Self::Bytes) -> Result<Self, CheckFault>;
@@ -27,12 +33,21 @@ pub trait Check: Sized {
         bytes: Self::Bytes,
         profile: Profile,
     ) -> Result<Self, CheckFault>;
+
+    /// Checks bytes by the rules of a profile, and reads the rows that it shows.
+    fn check_with_rows(
+        alloc: Self::Memory,
+        bytes: Self::Bytes,
+        profile: Profile,
+    ) -> Result<(Self, Self::Rows), CheckFault>;
 }
 
 impl<A: Allocator + Copy> Check for Image<A> {
     type Memory = A;
 
     type Bytes = Vec<u8, A>;
+
+    type Rows = Rows<A>;
 
     /// Checks that bytes are an image by the usual profile, and keeps the accessible ones: as many
     /// as the full size says (romfs.rst, the volume header). Bytes after them are not looked at.
@@ -51,17 +66,56 @@ impl<A: Allocator + Copy> Check for Image<A> {
         Image::check_as(alloc, bytes, Profile::Usual)
     }
 
-    /// Checks that bytes are an image as `check` does, by the rules of a profile: the strict one
-    /// also asks that the words of each header, its name and the padding sum to 0 (romfs.rst,
-    /// "checksum"). It costs one more pass over headers and names.
+    /// Checks that bytes are an image as `check` does, by the rules of a profile: a strict one also
+    /// asks that the words of each header, its name and the padding sum to 0 (romfs.rst,
+    /// "checksum"), which costs one more pass over headers and names; one with attributes also asks
+    /// that the attribute trailer behind the full size, if there is one, is not broken.
     #[tactic(auto, using(romfs_format::proofs::Faults::profile_sound))]
     fn check_as(alloc: A, bytes: Vec<u8, A>, profile: Profile) -> Result<Image<A>, CheckFault>
         ensures ok { IfOk result (IsChecked profile bytes.items) }
         ensures err { IfErr result (IsRefusal profile bytes.items) }
     {
-        match first_fault(alloc, &bytes, profile)? {
-            Some(fault) => Err(CheckFault::Broken(fault)),
-            None => Ok(Image::of_sound(bytes)),
-        }
+        hold(alloc, &bytes, profile)?;
+        Ok(Image::of_sound(bytes))
+    }
+
+    /// Checks that bytes are an image as `check_as` does, and gives the rows of its attribute
+    /// trailer beside it: none where it has no trailer, or the profile is one without attributes.
+    /// They take 32 bytes each.
+    #[tactic(auto, using(romfs_format::proofs::Faults::profile_sound))]
+    fn check_with_rows(
+        alloc: A,
+        bytes: Vec<u8, A>,
+        profile: Profile,
+    ) -> Result<(Image<A>, Rows<A>), CheckFault>
+        ensures ok { IfOk result (λ both. IsCheckedWithRows profile bytes.items both.0 both.1) }
+        ensures err { IfErr result (IsRefusal profile bytes.items) }
+    {
+        hold(alloc, &bytes, profile)?;
+        let rows = rows_of(alloc, &bytes, profile)?;
+        Ok((Image::of_sound(bytes), rows))
+    }
+}
+
+// Holds bytes to the rules of a profile.
+fn hold<A: Allocator + Copy>(alloc: A, bytes: &[u8], profile: Profile) -> Result<(), CheckFault>
+    ensures ok { IfOk result (λ _. IsSound profile bytes.now) }
+    ensures err { IfErr result (IsRefusal profile bytes.now) }
+{
+    match first_fault(alloc, bytes, profile)? {
+        Some(fault) => Err(CheckFault::Broken(fault)),
+        None => Ok(()),
+    }
+}
+
+// The rows of sound bytes that their profile shows.
+fn rows_of<A: Allocator>(alloc: A, bytes: &[u8], profile: Profile) -> Result<Rows<A>, AllocError>
+    requires { IsSound profile bytes.now }
+    ensures { IfOk result (λ rows. rows ≡ rows_shown profile bytes.now) }
+{
+    if profile.reads_attributes() {
+        Rows::of(alloc, bytes)
+    } else {
+        Ok(Rows::none(alloc))
     }
 }

@@ -3,7 +3,7 @@
 -- right away (target), one field names a header (one_field), and paths are short (short).
 use Rattle.std.proofs.Common.{◌≡◌, ◌≢◌, ◌∙◌, sym, ap, subst, ℕ, zero, suc, ◌+◌, ◌<◌, ◌≤◌, ◌⊎◌, inl, inr, List, [], ◌∷◌, length, get_or, Bool, Some, IsNone, IsSomeAnd, refl, arith}
 use Rattle.std.specs.List.{Contains}
-use Rattle.std.proofs.lemmas.Bool.{true≢false}
+use Rattle.std.proofs.lemmas.Bool.{false≢true, true≢false}
 use Rattle.romfs_format.specs.declared.rule.Rule.{Rule}
 use Rattle.romfs_format.specs.declared.rule.Rule.TheVariants.{TooDeep}
 use Rattle.romfs_format.specs.declared.rule.Profile.TheVariants.{Usual}
@@ -189,7 +189,7 @@ module _ (a : List ℕ) (v : IsVolumeImage a) (marks : List Bool) (d : Descends 
     link_loop = no_loop h;
     link_directory = no_directory h;
     major_large = λ x. (used h x.0).2.major x.1;
-    header_sum = λ x. x;
+    header_sum = λ x. false≢true x.0;
   }) r
 
   -- a path from a directory that was gone along is short

@@ -1,16 +1,18 @@
 -- Which breach is named first: on a header the rules are tried by number (one_tried, first_broken),
 -- the headers upward by slot (scan_more, asked_next, scan_all). The first breach is below the root,
--- inside, or past the end (breach_..); else the depth is asked (fault_by_.., sound_by_depth).
+-- inside, or past the end (breach_..); else the depth is asked (fault_by_depth, kept_by_depth), and
+-- at last the attributes (fault_by_trailer, sound_by_trailer).
 use Rattle.std.proofs.Common.{◌≡◌, ◌∙◌, sym, subst, ℕ, ◌+◌, ◌*◌, ◌/◌, ◌<◌, ◌≤◌, ◌↔◌, ◌⊎◌, inl, inr, List, length, Bool, true, false, get_or, Option, Some, None, refl, arith, lit<, lit≤}
-use Rattle.std.proofs.lemmas.Bool.{cases_order, cases_lt}
+use Rattle.std.proofs.lemmas.Bool.{cases_order, cases_lt, false≢true}
 use Rattle.romfs_format.specs.declared.rule.Rule.{Rule}
-use Rattle.romfs_format.specs.declared.rule.Rule.TheVariants.{Short, Magic, FullSize, BadSum, VolumeName, NoRoot, Outside, NameOpen, NameBad, DataOutside, TargetLong, LinkedTwice, SameName, LinkLoop, LinkDirectory, MajorLarge, HeaderSum, TooDeep}
+use Rattle.romfs_format.specs.declared.rule.Rule.TheVariants.{Short, Magic, FullSize, BadSum, VolumeName, NoRoot, Outside, NameOpen, NameBad, DataOutside, TargetLong, LinkedTwice, SameName, LinkLoop, LinkDirectory, MajorLarge, HeaderSum, TooDeep, Attributes}
 use Rattle.romfs_format.specs.declared.limits.TheConstants.{HEAD_SIZE}
 use Rattle.romfs_format.specs.Fields.{root, image, IsInside, cleared}
 use Rattle.romfs_format.specs.Chains.{IsSomeMember}
 use Rattle.romfs_format.specs.Links.{IsTarget, IsReached}
 use Rattle.romfs_format.specs.declared.rule.Profile.{Profile}
-use Rattle.romfs_format.specs.declared.rule.Profile.TheVariants.{Usual, Strict}
+use Rattle.romfs_format.specs.declared.rule.Profile.TheVariants.{Usual}
+use Rattle.romfs_format.specs.Profiles.{asks_sums}
 use Rattle.romfs_format.specs.Rules.{IsVolume, BreaksHeader, Breaks, IsUsed, rule_number, stage, IsNamedBefore, IsFault, IsSound}
 use Rattle.romfs_format.proofs.Faults.{one_rule}
 use Rattle.romfs_rules.specs.Marks.{HasSlot, IsVolumeImage, AreMarks, IsElsewhere}
@@ -21,30 +23,32 @@ use Rattle.slot_sets.proofs.Unions.{over_to}
 use Rattle.romfs_rules.proofs.Slots.{IsGap, clear_gap, root_slot, cleared_root, cleared_in_chain, cleared_destination, slot_inside}
 use Rattle.romfs_format.specs.declared.rule.ImageFault.{ImageFault}
 use Rattle.romfs_rules.specs.Outside.{IsLeast, IsBeforeRoot, IsPastEnd}
-use Rattle.romfs_rules.specs.Judge.{IsHeaderRule, KeepsBefore, KeepsHeaderRules, IsFirstRule, IsFirstAt, KeepsBelow, IsFirstInside, KeepsAllHeaderRules, IsFirstBreach}
+use Rattle.romfs_rules.specs.Judge.{IsHeaderRule, KeepsBefore, KeepsHeaderRules, IsFirstRule, IsFirstAt, KeepsBelow, IsFirstInside, KeepsAllHeaderRules, IsFirstBreach, KeepsToDepth}
 use Rattle.romfs_rules.proofs.Standing.{reached, member_in_chain}
 use Rattle.romfs_rules.proofs.Judging.{root_elsewhere}
 
 -- a fact of every rule, by its part in the order
-by_part : (Q : Rule → Type 0) → ((r : Rule) → rule_number r < 6 → Q r) → ((r : Rule) → IsHeaderRule r → Q r) → Q TooDeep → (r : Rule) → Q r
-by_part Q v h d Short = v Short (lit< tt)
-by_part Q v h d Magic = v Magic (lit< tt)
-by_part Q v h d FullSize = v FullSize (lit< tt)
-by_part Q v h d BadSum = v BadSum (lit< tt)
-by_part Q v h d VolumeName = v VolumeName (lit< tt)
-by_part Q v h d NoRoot = v NoRoot (lit< tt)
-by_part Q v h d Outside = h Outside (lit≤ tt, lit< tt)
-by_part Q v h d NameOpen = h NameOpen (lit≤ tt, lit< tt)
-by_part Q v h d NameBad = h NameBad (lit≤ tt, lit< tt)
-by_part Q v h d DataOutside = h DataOutside (lit≤ tt, lit< tt)
-by_part Q v h d TargetLong = h TargetLong (lit≤ tt, lit< tt)
-by_part Q v h d LinkedTwice = h LinkedTwice (lit≤ tt, lit< tt)
-by_part Q v h d SameName = h SameName (lit≤ tt, lit< tt)
-by_part Q v h d LinkLoop = h LinkLoop (lit≤ tt, lit< tt)
-by_part Q v h d LinkDirectory = h LinkDirectory (lit≤ tt, lit< tt)
-by_part Q v h d MajorLarge = h MajorLarge (lit≤ tt, lit< tt)
-by_part Q v h d HeaderSum = h HeaderSum (lit≤ tt, lit< tt)
-by_part Q v h d TooDeep = d
+by_part : (Q : Rule → Type 0) → ((r : Rule) → rule_number r < 6 → Q r) → ((r : Rule) → IsHeaderRule r → Q r) → Q TooDeep → Q Attributes
+    → (r : Rule) → Q r
+by_part Q v h d t Short = v Short (lit< tt)
+by_part Q v h d t Magic = v Magic (lit< tt)
+by_part Q v h d t FullSize = v FullSize (lit< tt)
+by_part Q v h d t BadSum = v BadSum (lit< tt)
+by_part Q v h d t VolumeName = v VolumeName (lit< tt)
+by_part Q v h d t NoRoot = v NoRoot (lit< tt)
+by_part Q v h d t Outside = h Outside (lit≤ tt, lit< tt)
+by_part Q v h d t NameOpen = h NameOpen (lit≤ tt, lit< tt)
+by_part Q v h d t NameBad = h NameBad (lit≤ tt, lit< tt)
+by_part Q v h d t DataOutside = h DataOutside (lit≤ tt, lit< tt)
+by_part Q v h d t TargetLong = h TargetLong (lit≤ tt, lit< tt)
+by_part Q v h d t LinkedTwice = h LinkedTwice (lit≤ tt, lit< tt)
+by_part Q v h d t SameName = h SameName (lit≤ tt, lit< tt)
+by_part Q v h d t LinkLoop = h LinkLoop (lit≤ tt, lit< tt)
+by_part Q v h d t LinkDirectory = h LinkDirectory (lit≤ tt, lit< tt)
+by_part Q v h d t MajorLarge = h MajorLarge (lit≤ tt, lit< tt)
+by_part Q v h d t HeaderSum = h HeaderSum (lit≤ tt, lit< tt)
+by_part Q v h d t TooDeep = d
+by_part Q v h d t Attributes = t
 
 -- a fact of every rule of file headers, a field for each: so a proof that leaves out a rule does not
 -- pass
@@ -81,6 +85,7 @@ by_rule Q of LinkDirectory x = of.link_directory
 by_rule Q of MajorLarge x = of.major_large
 by_rule Q of HeaderSum x = of.header_sum
 by_rule Q of TooDeep x = absurd (omega arith)
+by_rule Q of Attributes x = absurd (omega arith)
 
 header_stage : (r : Rule) → IsHeaderRule r → stage r ≡ 6
 header_stage = by_rule (λ r. stage r ≡ 6) (record {
@@ -116,6 +121,25 @@ to_breaks profile b p = by_rule (λ r. BreaksHeader profile (image b) r p ↔ Br
   header_sum = same;
 })
 
+-- a profile that does not look at sums asks of headers what the usual one does
+pub as_usual : (profile : Profile) (a : List ℕ) → asks_sums profile ≡ false → KeepsAllHeaderRules Usual a → KeepsAllHeaderRules profile a
+as_usual profile a skips k = record { keeps = λ s q x b. k.keeps s q x (same_there s q x b) }
+  where
+    same_there : (r : Rule) (h : ℕ) → IsHeaderRule r → BreaksHeader profile a r h → BreaksHeader Usual a r h
+    same_there r h = by_rule (λ r. BreaksHeader profile a r h → BreaksHeader Usual a r h) (record {
+      outside = λ x. x;
+      name_open = λ x. x;
+      name_bad = λ x. x;
+      data_outside = λ x. x;
+      target_long = λ x. x;
+      linked_twice = λ x. x;
+      same_name = λ x. x;
+      link_loop = λ x. x;
+      link_directory = λ x. x;
+      major_large = λ x. x;
+      header_sum = λ x. absurd (false≢true (sym skips ∙ x.0));
+    }) r
+
 -- the rules of the volume header and the depth are the same in every profile
 volume_kept : (profile : Profile) (b : List ℕ) → IsVolume b → (r : Rule) → rule_number r < 6 → (q : ℕ) → ¬ Breaks profile b r q
 volume_kept profile b v Short l q x = v.keeps Short q l x
@@ -136,6 +160,7 @@ volume_kept profile b v LinkDirectory l q x = absurd (omega arith)
 volume_kept profile b v MajorLarge l q x = absurd (omega arith)
 volume_kept profile b v HeaderSum l q x = absurd (omega arith)
 volume_kept profile b v TooDeep l q x = absurd (omega arith)
+volume_kept profile b v Attributes l q x = absurd (omega arith)
 
 -- of two breaches of these rules the one at the lower place is named, or by the lower number
 before : (s r : Rule) (q p : ℕ) → IsHeaderRule s → IsHeaderRule r → IsNamedBefore s q r p
@@ -163,10 +188,6 @@ module _ (a : List ℕ) where
   twice_reached h (inl x) = inr (inl (x.0, x.3))
   twice_reached h (inr x) = inl x.0
 
-  sum_reached : (profile : Profile) (h : ℕ) → BreaksHeader profile a HeaderSum h → IsReached a h
-  sum_reached Usual h x = absurd x
-  sum_reached Strict h x = x.0
-
   -- a header that breaks one of these rules is reached
   pub breach_reached : (profile : Profile) (h : ℕ) (r : Rule) → IsHeaderRule r → BreaksHeader profile a r h → IsReached a h
   breach_reached profile h = by_rule (λ r. BreaksHeader profile a r h → IsReached a h) (record {
@@ -180,7 +201,7 @@ module _ (a : List ℕ) where
     link_loop = λ x. member_reached h x.0;
     link_directory = λ x. member_reached h x.0;
     major_large = λ x. used_reached h x.0;
-    header_sum = sum_reached profile h;
+    header_sum = λ x. x.1;
   })
 
 -- the rules tried on a header one after the other
@@ -392,6 +413,10 @@ module _ (profile : Profile) (b : List ℕ) (v : IsVolume b) where
         (λ q x. elim [
           | inl l ↦ (let e = header_stage r f.rule in omega arith)
           | inr y ↦ (let e = header_stage r f.rule in let g = y.0 in omega arith)
+        ])
+        (λ q x. elim [
+          | inl l ↦ (let e = header_stage r f.rule in omega arith)
+          | inr y ↦ (let e = header_stage r f.rule in let g = y.0 in omega arith)
         ]);
   }
 
@@ -408,14 +433,53 @@ module _ (profile : Profile) (b : List ℕ) (v : IsVolume b) where
             | inl l ↦ omega arith
             | inr (f, inl l) ↦ (let o = least_is (BreaksHeader Usual (image b) TooDeep) deep p q d e x in omega arith)
             | inr (f, inr y) ↦ (let m = y.1 in omega arith)
+          ])
+          (λ q x. elim [
+            | inl l ↦ omega arith
+            | inr y ↦ (let g = y.0 in omega arith)
           ]);
     }
 
-    -- where all keep these rules, and no header is too deep, the image is sound
-    pub sound_by_depth : (deep : Option ℕ) → IsLeast (BreaksHeader Usual (image b) TooDeep) deep → deep ≡ None → IsSound profile b
-    sound_by_depth deep d e = record {
-      keeps = by_part (λ s. (q : ℕ) → ¬ Breaks profile b s q)
-          (λ s l q x. volume_kept profile b v s l q x)
-          (λ s h q x. k.keeps s q h ((to_breaks profile b q s h).1 x))
-          (λ q x. no_least (BreaksHeader Usual (image b) TooDeep) deep q d e x);
+    -- where all keep these rules, and no header is too deep, the image breaks no rule but that of
+    -- attributes
+    pub kept_by_depth : (deep : Option ℕ) → IsLeast (BreaksHeader Usual (image b) TooDeep) deep → deep ≡ None → KeepsToDepth profile b
+    kept_by_depth deep d e = record {
+      keeps = by_part (λ s. (q : ℕ) → rule_number s < 18 → ¬ Breaks profile b s q)
+          (λ s l q m x. volume_kept profile b v s l q x)
+          (λ s h q m x. k.keeps s q h ((to_breaks profile b q s h).1 x))
+          (λ q m x. no_least (BreaksHeader Usual (image b) TooDeep) deep q d e x)
+          (λ q m x. omega arith);
     }
+
+-- the fault of an image by its attributes, where it breaks no rule before
+module _ (profile : Profile) (b : List ℕ) (k : KeepsToDepth profile b) where
+  -- that of a trailer that is broken
+  pub fault_by_trailer : (p : ℕ) → Breaks profile b Attributes p → IsFault profile b Attributes p
+  fault_by_trailer p x = record {
+    broken = x;
+    first = λ s q y z. elim (cases_lt (rule_number s) 18) [
+      | inl l ↦ k.keeps s q l y
+      | inr l ↦ (let e = one_rule s Attributes (last s l) in last_first p x q (subst (λ r. Breaks profile b r q) e y)
+          (subst (λ r. IsNamedBefore r q Attributes p) e z))
+    ];
+  }
+    where
+      last : (s : Rule) → 18 ≤ rule_number s → rule_number s ≡ 18
+      last s l = by_part (λ s. 18 ≤ rule_number s → rule_number s ≡ 18) (λ r m n. absurd (omega arith))
+          (λ r h n. let m = h.1 in absurd (omega arith)) (λ n. absurd (omega arith)) (λ n. refl) s l
+
+      last_first : (p : ℕ) → Breaks profile b Attributes p → (q : ℕ) → Breaks profile b Attributes q
+          → ¬ IsNamedBefore Attributes q Attributes p
+      last_first p x q y (inl l) = omega arith
+      last_first p x q y (inr (e, inl l)) = let i = x.2 in let j = y.2 in omega arith
+      last_first p x q y (inr (e, inr z)) = let m = z.1 in omega arith
+
+  -- none where that rule is kept too
+  pub sound_by_trailer : ((p : ℕ) → ¬ Breaks profile b Attributes p) → IsSound profile b
+  sound_by_trailer n = record {
+    keeps = by_part (λ s. (q : ℕ) → ¬ Breaks profile b s q)
+        (λ s l q x. k.keeps s q (omega arith) x)
+        (λ s h q x. let m = h.1 in k.keeps s q (omega arith) x)
+        (λ q x. k.keeps TooDeep q (lit< tt) x)
+        n;
+  }

@@ -1,12 +1,12 @@
 -- The first rule that an image breaks, of the rules of file headers, and of all.
 use Rattle.std.specs.Prelude.{◌≡◌, ℕ, ◌<◌, ◌≤◌, List, Option, MatchOption, IsNone}
 use Rattle.romfs_format.specs.declared.rule.Rule.{Rule}
-use Rattle.romfs_format.specs.declared.rule.Rule.TheVariants.{TooDeep}
+use Rattle.romfs_format.specs.declared.rule.Rule.TheVariants.{TooDeep, Attributes}
 use Rattle.romfs_format.specs.declared.rule.Profile.{Profile}
 use Rattle.romfs_format.specs.declared.rule.Profile.TheVariants.{Usual}
 use Rattle.romfs_format.specs.declared.rule.ImageFault.{ImageFault}
 use Rattle.romfs_format.specs.Fields.{image}
-use Rattle.romfs_format.specs.Rules.{BreaksHeader, rule_number, IsNamedBefore, IsVolume, IsFaultOf}
+use Rattle.romfs_format.specs.Rules.{Breaks, BreaksHeader, rule_number, IsNamedBefore, IsVolume, IsFault}
 use Rattle.romfs_rules.specs.Marks.{HasSlot}
 use Rattle.romfs_rules.specs.Outside.{IsLeast}
 
@@ -68,7 +68,17 @@ IsHeaderFault profile a fault =
 abbrev pub IsDeepFault : List ℕ → Option ImageFault → Option ℕ → Type 0
 IsDeepFault a fault deep = IsNone fault → IsLeast (BreaksHeader Usual a TooDeep) deep
 
--- the fault of all bytes of which these are the accessible ones, and that keep the volume rules
+-- b breaks no rule but that of attributes, which is the last
+pub record KeepsToDepth (profile : Profile) (b : List ℕ) : Type 0 where
+  pub keeps : (r : Rule) (p : ℕ) → rule_number r < rule_number Attributes
+      → ¬ Breaks profile b r p
+
+-- the fault of b, whatever its attributes; none where it breaks no rule but theirs
+abbrev pub IsFaultToDepth : Profile → List ℕ → Option ImageFault → Type 0
+IsFaultToDepth profile b fault =
+    MatchOption fault (KeepsToDepth profile b) (λ f. IsFault profile b f.rule f.place)
+
+-- that of all bytes of which these are the accessible ones, and that keep the volume rules
 abbrev pub IsFaultBehindVolume : Profile → List ℕ → Option ImageFault → Type 0
 IsFaultBehindVolume profile a fault =
-    (b : List ℕ) → image b ≡ a → IsVolume b → IsFaultOf profile b fault
+    (b : List ℕ) → image b ≡ a → IsVolume b → IsFaultToDepth profile b fault

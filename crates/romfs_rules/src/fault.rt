@@ -1,11 +1,13 @@
-//! The first rule that an image breaks behind its volume header.
+//! The first rule that an image breaks.
 
-ghost use Rattle.std.specs.Prelude.{◌≡◌, IfOk, IsTrue};
+ghost use Rattle.std.specs.Prelude.{◌≡◌, ◌≤◌, false, length, IfOk, IsTrue};
+ghost use Rattle.romfs_format.specs.declared.limits.TheConstants.{HEAD_SIZE};
 ghost use Rattle.romfs_format.specs.Fields.{root as root_of};
+ghost use Rattle.romfs_format.specs.Profiles.{asks_sums};
 ghost use Rattle.romfs_rules.specs.InChains.{AreChains};
 ghost use Rattle.romfs_rules.specs.SameNames.{HaveSameNamesIfAlone};
 ghost use Rattle.romfs_rules.specs.Twice.{AreTwice};
-ghost use Rattle.romfs_rules.specs.Judge.{IsHeaderFault, IsFaultBehindVolume};
+ghost use Rattle.romfs_rules.specs.Judge.{IsHeaderFault, IsFaultBehindVolume, IsFaultToDepth};
 ghost use Rattle.romfs_rules.specs.Plain.{KeepsPlainly};
 ghost use Rattle.romfs_format.specs.Rules.{IsFaultOf};
 
@@ -19,6 +21,7 @@ use crate::same_names::find_same_names;
 use crate::targets::mark_targets;
 use crate::twice::find_twice;
 use crate::volume::{Volume, image_of, volume_fault};
+use attribute_rows::trailer_fault;
 use romfs_format::read::{root_of, word};
 use romfs_format::{ImageFault, Profile};
 use std::alloc::{AllocError, Allocator};
@@ -27,7 +30,8 @@ use std::alloc::{AllocError, Allocator};
 ///
 /// That is the first broken rule of the volume header; else, of all broken rules of file headers,
 /// the one at the least place, and there the first; else a path of too many names, at the least
-/// such header. The error comes only where memory was refused.
+/// such header; else, under a profile with attributes, a trailer that is broken, where it begins.
+/// The error comes only where memory was refused.
 ///
 /// It takes n log n steps in headers and one pass over the bytes of the image, whatever they are.
 /// Beside them it takes at most a byte for each 40 of the image and 96 for each header that is
@@ -47,13 +51,37 @@ pub fn first_fault<A: Allocator + Copy>(
                 bytes: accessible,
                 root: root_of(accessible) as usize,
             };
-            fault_in(alloc, &volume, profile)
+            let fault = fault_in(alloc, &volume, profile)?;
+            Ok(fault_with_attributes(bytes, profile, fault))
         }
     }
 }
 
-// The fault of an image that keeps the rules of the volume header, by its accessible bytes; none
-// where it is sound. Most images are plainly sound, and then no set is made.
+// The fault of an image, where that before its attributes are looked at is known.
+fn fault_with_attributes(
+    bytes: &[u8],
+    profile: Profile,
+    fault: Option<ImageFault>,
+) -> Option<ImageFault>
+    requires long { HEAD_SIZE ≤ length bytes.now }
+    requires before { IsFaultToDepth profile bytes.now fault }
+    ensures { IsFaultOf profile bytes.now result }
+{
+    match fault {
+        Some(fault) => Some(fault),
+        None => {
+            if profile.reads_attributes() {
+                trailer_fault(bytes)
+            } else {
+                None
+            }
+        }
+    }
+}
+
+// The fault of an image that keeps the rules of the volume header, by its accessible bytes, whatever
+// its attributes; none where it breaks no other rule. Most images are plainly sound, and then no set
+// is made.
 fn fault_in<A: Allocator + Copy>(
     alloc: A,
     volume: &Volume,
@@ -68,19 +96,20 @@ fn fault_in<A: Allocator + Copy>(
     }
 }
 
-// Whether an image keeps all rules behind the volume header, as far as one walk tells. The sums of
-// headers are not looked at there, so under the strict profile it is not told.
+// Whether an image keeps all rules of headers, as far as one walk tells. Their sums are not looked
+// at there, so under a strict profile it is not told.
 fn is_plain_by<A: Allocator + Copy>(
     alloc: A,
     volume: &Volume,
     profile: Profile,
 ) -> Result<bool, AllocError>
     ensures { IfOk result (λ plain. IsTrue plain →
-        (profile ≡ Profile.Usual) × KeepsPlainly volume.now.bytes.now) }
+        (asks_sums profile ≡ false) × KeepsPlainly volume.now.bytes.now) }
 {
-    match profile {
-        Profile::Usual => is_plain_image(alloc, volume),
-        Profile::Strict => Ok(false),
+    if profile.asks_sums() {
+        Ok(false)
+    } else {
+        is_plain_image(alloc, volume)
     }
 }
 

@@ -198,10 +198,7 @@ impl<'h> Header<'h> {
     fn breaks_header_sum(&self, profile: Profile) -> bool
         ensures { IsTrue result ↔ BreaksHeader profile self.now.image Rule.HeaderSum self.now.at }
     {
-        match profile {
-            Profile::Usual => false,
-            Profile::Strict => is_sum_bad(self.volume, self.at),
-        }
+        profile.asks_sums() && is_sum_bad(self.volume, self.at)
     }
 }
 

@@ -7,10 +7,11 @@ ghost use Rattle.std.specs.Prelude.{◌≡◌, ℕ, List, ◌*◌, ◌<◌, ◌�
 ghost use Rattle.romfs_format.specs.declared.rule.Profile.TheVariants.{Usual};
 ghost use Rattle.romfs_format.specs.Fields.{image};
 ghost use Rattle.romfs_format.specs.Chains.{IsSomeMember};
-ghost use Rattle.romfs_format.specs.Rules.{IsVolume, IsUsed, BreaksHeader, IsFaultOf};
+ghost use Rattle.romfs_format.specs.Rules.{IsVolume, IsUsed, BreaksHeader};
 ghost use Rattle.romfs_rules.specs.Marks.{HasSlot};
 ghost use Rattle.romfs_rules.specs.Headers.{IsAsked, IsEndOfMember};
 ghost use Rattle.romfs_rules.specs.Judge.{KeepsBelow, IsFirstInside, IsHeaderFault, IsDeepFault};
+ghost use Rattle.romfs_rules.specs.Judge.{IsFaultToDepth};
 
 use crate::chains::Chains;
 use crate::ends::WalkedEnds;
@@ -151,11 +152,11 @@ impl<'s, A: Allocator> Sets<'s, A> {
     }
 }
 
-/// The fault of an image that keeps the rules of the volume header: its first breach of a rule of
-/// file headers, or else its least header that is too deep.
+/// The fault of an image that keeps the rules of the volume header, whatever its attributes: its
+/// first breach of a rule of file headers, or else its least header that is too deep.
 pub(crate) fn fault_of(header: Option<ImageFault>, deep: Option<u32>) -> Option<ImageFault>
     ensures { (profile : Profile) (b : List ℕ) → IsVolume b → IsHeaderFault profile (image b) header
-        → IsDeepFault (image b) header deep → IsFaultOf profile b result }
+        → IsDeepFault (image b) header deep → IsFaultToDepth profile b result }
 {
     match header {
         Some(fault) => Some(fault),

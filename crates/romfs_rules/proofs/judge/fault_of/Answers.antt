@@ -1,5 +1,5 @@
 use Rattle.std.proofs.Common.{rules}
-use Rattle.romfs_rules.proofs.Verdict.{fault_by_header, fault_by_depth, sound_by_depth}
+use Rattle.romfs_rules.proofs.Verdict.{fault_by_header, fault_by_depth, kept_by_depth}
 use Rattle.romfs_rules.proofs.judge.fault_of.Goals as goal
 
 pub returns-in-Some : goal.returns-in-Some
@@ -12,4 +12,4 @@ returns-in-Some-deep c = λ profile b v h d. let k = rw c.in-None.is at h in
 
 pub returns-in-None-deep : goal.returns-in-None-deep
 returns-in-None-deep c = λ profile b v h d. let k = rw c.in-None.is at h in
-    sound_by_depth profile b v k c.args.deep (d (search (rules, c.in-None.is))) c.in-None-deep.is
+    kept_by_depth profile b v k c.args.deep (d (search (rules, c.in-None.is))) c.in-None-deep.is
