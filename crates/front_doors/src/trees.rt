@@ -2,12 +2,12 @@
 
 ghost use Rattle.std.specs.Prelude.{◌≤◌, ◌∷◌, [], length, IfOk};
 ghost use Rattle.layer_tree.specs.Trees.{IsTreeOf};
-ghost use Rattle.node_table.specs.Stacked.{IsTableOf};
+ghost use Rattle.node_table.specs.Stacked.{IsTableOf, IsTableWith};
 ghost use Rattle.stack_core.specs.Trees.{IsTreeOf as IsTreeOfAll};
 ghost use Rattle.stack_model.specs.declared.limits.TheConstants.{MAX_LAYERS};
 
 pub use layer_tree::{Child, Entry, OfLayer, Place, Tree, lay};
-pub use node_table::{Attr, Node, OfTree, Row, Table};
+pub use node_table::{Attr, Attributes, Node, OfTree, Owner, Row, Table};
 use romfs_image::Image;
 pub use stack_core::{FreePass, Gate, Work, shown, stack};
 use std::alloc::{AllocError, Allocator};
@@ -49,6 +49,23 @@ pub fn tabled<R: Threads + Sync, A: Allocator + Copy + Send + Sync>(
 {
     let tree = stack(rt, alloc, &images, &FreePass)?;
     Table::of(rt, alloc, tree, images)
+}
+
+/// The table of a list of layers without rows of attributes, where all belongs to an owner.
+pub fn owned<R: Threads + Sync, A: Allocator + Copy + Send + Sync>(
+    rt: &R,
+    alloc: A,
+    images: Vec<Image<A>, A>,
+    owner: Owner,
+) -> Result<Table<A>, AllocError>
+    requires some { 1 ≤ length images.items }
+    requires few { length images.items ≤ MAX_LAYERS }
+    ensures { IfOk result (λ table. IsTableWith images.items [] owner table) }
+{
+    let tree = stack(rt, alloc, &images, &FreePass)?;
+    let mut attributes = Attributes::none(alloc);
+    attributes.owner = owner;
+    Table::with_attributes(rt, alloc, tree, images, &attributes)
 }
 
 /// What a tree tells of a path.

@@ -10,7 +10,7 @@ use Rattle.std.proofs.lemmas.List.{drop-map, take-map, drop_min, length-drop, le
 use Rattle.std.proofs.lemmas.List.FromFn.{length-enumerate_from}
 use Rattle.fuse_wire.specs.Structures.{dirent, direntplus}
 use Rattle.fuse_wire.proofs.Sizes.{length-dirent, length-direntplus}
-use Rattle.stack_model.specs.Attributes.{is_directory_at, mode, attr_of}
+use Rattle.stack_model.specs.Attributes.{is_directory_at, mode_at, attr_of}
 use Rattle.stack_model.specs.Numbers.{Place, Child, number, node_of, parent, children}
 use Rattle.node_attr.specs.declared.attr.Attr.{Attr}
 use Rattle.table_reader.specs.Rows.{Line}
@@ -100,7 +100,7 @@ pub record IsForm (stack : Stacked) (plus : Bool) (form : Row → List ℕ) : Ty
 pub plain : (stack : Stacked) → IsForm stack false (dirent_of stack)
 unfolding dirent_of
 plain stack = record {
-  sized = λ r. (let e = length-dirent (number stack.entries r.1.place) r.0 (mode stack.layers r.1.place / 2 ^ 12) r.1.name in omega arith);
+  sized = λ r. (let e = length-dirent (number stack.entries r.1.place) r.0 (mode_at stack r.1.place / 2 ^ 12) r.1.name in omega arith);
   written = λ r numbered. ap (λ o. dirent (number stack.entries r.1.place) r.0 (option_map_or (λ (a : Attr). a.mode / 2 ^ 12)
       (option_map (attr_of stack) o) 0) r.1.name) numbered;
 }
@@ -110,7 +110,7 @@ pub with_entries : (stack : Stacked) → IsForm stack true (direntplus_of stack)
 unfolding direntplus_of
 with_entries stack = record {
   sized = λ r. (let e = length-direntplus (cond (nat_lt 2 r.0) (Some (attr_of stack r.1.place)) None)
-      (number stack.entries r.1.place) r.0 (mode stack.layers r.1.place / 2 ^ 12) r.1.name in omega arith);
+      (number stack.entries r.1.place) r.0 (mode_at stack r.1.place / 2 ^ 12) r.1.name in omega arith);
   written = λ r numbered. ap (λ o. direntplus (cond (nat_lt 2 r.0) (option_map (attr_of stack) o)
       None) (number stack.entries r.1.place) r.0 (option_map_or (λ (a : Attr). a.mode / 2 ^ 12)
       (option_map (attr_of stack) o) 0) r.1.name) numbered;

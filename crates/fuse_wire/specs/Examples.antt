@@ -1,9 +1,11 @@
--- Worked examples: what each opcode asks, and rows of directories as bytes.
-use Rattle.std.specs.Prelude.{◌≡◌, ℕ, ◌^◌, List, [], ◌∷◌, ◌++◌, map, replicate, codes}
+-- Worked examples: what each opcode asks, and rows of directories and attributes as bytes.
+use Rattle.std.specs.Prelude.{◌≡◌, ℕ, ◌^◌, List, [], ◌∷◌, ◌++◌, map, flat_map, replicate, codes}
 use Rattle.fuse_wire.specs.declared.flags.TheConstants.{ASYNC_READ, EXPORT_SUPPORT, DO_READDIRPLUS, READDIRPLUS_AUTO, NO_OPEN_SUPPORT, PARALLEL_DIROPS, MAX_PAGES, CACHE_SYMLINKS, NO_OPENDIR_SUPPORT, FOPEN_KEEP_CACHE, FOPEN_CACHE_DIR}
 use Rattle.fuse_wire.specs.declared.limits.TheConstants.{HEADER_SIZE, OUT_HEADER_SIZE, MAX_DATA_SIZE, MAX_READAHEAD, MAX_WRITE, MAX_MESSAGE_SIZE, MAX_REPLY_SIZE, MAX_NAME_SIZE, MAX_FORGETS}
 use Rattle.fuse_wire.specs.Requests.{init, at_node, lookup, getattr, readlink, open_file, read, opendir, readdir, readdirplus, statfs, done, release, fsync, flush, releasedir, fsyncdir, destroy, silent, forget, batch_forget, interrupt, modify, other, malformed, op_of, asked}
-use Rattle.fuse_wire.specs.Structures.{u32, u64, zeros, dirent}
+use Rattle.byteorder.specs.Endian.{big_bytes}
+use Rattle.node_attr.specs.declared.attr.Attr.{Attr}
+use Rattle.fuse_wire.specs.Structures.{u32, u64, zeros, attr, dirent}
 
 -- a body of 56 bytes: the numbers 2, 1, 9 and 7 of 64 bits, and zeros. As items of a BATCH_FORGET
 -- it has three whole ones behind the first 8 bytes, and the count says two
@@ -78,6 +80,32 @@ pub record DirentExamples : Type 0 where
       ++ codes "nnnnnnnn"
   pub nine_bytes : dirent 1 2 4 (codes "nnnnnnnnn") ≡ u64 1 ++ u64 2 ++ u32 9 ++ u32 4
       ++ codes "nnnnnnnnn" ++ zeros 7
+
+-- a setuid file of user 1000 and group 2^32 - 1, last changed a second and a quarter before 1970:
+-- at -2 seconds and 750,000,000 nanoseconds
+abbrev pub some_attributes : Attr
+some_attributes = record {
+  ino = 0x123;
+  size = 0x1001;
+  blocks = 9;
+  seconds = 0xfffffffffffffffe;
+  nanoseconds = 750000000;
+  mode = 0o104755;
+  nlink = 2;
+  uid = 1000;
+  gid = 0xffffffff;
+  rdev = 0;
+}
+
+-- its 88 bytes as a dump prints them, four at a time, by the offset of each field in the structure:
+-- 0 ino, 8 size, 16 blocks, 24 atime, 32 mtime, 40 ctime, 48 atimensec, 52 mtimensec, 56 ctimensec,
+-- 60 mode, 64 nlink, 68 uid, 72 gid, 76 rdev, 80 blksize, 84 padding
+pub record AttributesExample : Type 0 where
+  pub are : attr some_attributes ≡ flat_map (λ word. big_bytes 4 word) (
+      0x23010000 ∷ 0x00000000 ∷ 0x01100000 ∷ 0x00000000 ∷ 0x09000000 ∷ 0x00000000
+      ∷ 0xfeffffff ∷ 0xffffffff ∷ 0xfeffffff ∷ 0xffffffff ∷ 0xfeffffff ∷ 0xffffffff
+      ∷ 0x8017b42c ∷ 0x8017b42c ∷ 0x8017b42c ∷ 0xed890000 ∷ 0x02000000
+      ∷ 0xe8030000 ∷ 0xffffffff ∷ 0x00000000 ∷ 0x00100000 ∷ 0x00000000 ∷ [])
 
 -- the flags of INIT and of the replies to OPEN and OPENDIR, by the places of their bits
 pub record FlagExamples : Type 0 where

@@ -86,15 +86,16 @@ init_out (Terms lasting minor readahead flags) =
     if nat_lt minor 23 then init_out_22 lasting readahead flags
     else init_out_22 lasting readahead flags ++ init_out_rest lasting flags
 
--- attr: owners and times are all 0
+-- attr: its three times are one
 unfoldable pub attr : Attr → List ℕ
 attr a =
     -- ino, size, blocks
     u64 a.ino ++ u64 a.size ++ u64 a.blocks
     -- atime, mtime, ctime, atimensec, mtimensec, ctimensec
-    ++ u64 0 ++ u64 0 ++ u64 0 ++ u32 0 ++ u32 0 ++ u32 0
+    ++ u64 a.seconds ++ u64 a.seconds ++ u64 a.seconds
+    ++ u32 a.nanoseconds ++ u32 a.nanoseconds ++ u32 a.nanoseconds
     -- mode, nlink, uid, gid, rdev, blksize, padding
-    ++ u32 a.mode ++ u32 a.nlink ++ u32 0 ++ u32 0 ++ u32 a.rdev ++ u32 4096 ++ u32 0
+    ++ u32 a.mode ++ u32 a.nlink ++ u32 a.uid ++ u32 a.gid ++ u32 a.rdev ++ u32 4096 ++ u32 0
 
 -- entry_out of a node: it and its attributes are valid for an hour
 unfoldable pub entry_out : Attr → List ℕ

@@ -1,7 +1,7 @@
-//! Worked examples: what messages ask, and rows as bytes, by computation.
+//! Worked examples: what messages ask, and rows and attributes as bytes, by computation.
 #![tactic(auto, unfolding(crate::proofs::Computing::wire_on_literals))]
 
-ghost use Rattle.fuse_wire.specs.Examples.{OpcodeExamples, MessageExamples, ForgetExamples, DirentExamples, FlagExamples, LimitExamples};
+ghost use Rattle.fuse_wire.specs.Examples.{OpcodeExamples, MessageExamples, ForgetExamples, DirentExamples, AttributesExample, FlagExamples, LimitExamples};
 
 /// What each opcode asks, by its number.
 pub fn opcodes_example()
@@ -21,6 +21,11 @@ pub fn forgets_example()
 /// Names of several lengths in rows.
 pub fn dirents_example()
     ensures { DirentExamples }
+{}
+
+/// The attributes of a node, with its owner and its time.
+pub fn attributes_example()
+    ensures { AttributesExample }
 {}
 
 /// The bits of flags.

@@ -175,7 +175,7 @@ fn max_pages(lasting: bool, flags: u32) -> u16
     }
 }
 
-// `struct fuse_attr`. Owners and times are all 0.
+// `struct fuse_attr`. Its three times are one.
 #[tactic(auto, unfolding(crate::specs::Structures::attr))]
 fn attr(fields: &mut [u8], at: usize, node: &Attr) -> usize
     requires { at + 88 ≤ length fields.old }
@@ -186,16 +186,16 @@ fn attr(fields: &mut [u8], at: usize, node: &Attr) -> usize
     let at = set_u64(fields, at, node.ino);
     let at = set_u64(fields, at, node.size);
     let at = set_u64(fields, at, node.blocks);
-    let at = set_u64(fields, at, 0); // atime
-    let at = set_u64(fields, at, 0); // mtime
-    let at = set_u64(fields, at, 0); // ctime
-    let at = set_u32(fields, at, 0); // atimensec
-    let at = set_u32(fields, at, 0); // mtimensec
-    let at = set_u32(fields, at, 0); // ctimensec
+    let at = set_u64(fields, at, node.seconds); // atime
+    let at = set_u64(fields, at, node.seconds); // mtime
+    let at = set_u64(fields, at, node.seconds); // ctime
+    let at = set_u32(fields, at, node.nanoseconds); // atimensec
+    let at = set_u32(fields, at, node.nanoseconds); // mtimensec
+    let at = set_u32(fields, at, node.nanoseconds); // ctimensec
     let at = set_u32(fields, at, node.mode);
     let at = set_u32(fields, at, node.nlink);
-    let at = set_u32(fields, at, 0); // uid
-    let at = set_u32(fields, at, 0); // gid
+    let at = set_u32(fields, at, node.uid);
+    let at = set_u32(fields, at, node.gid);
     let at = set_u32(fields, at, node.rdev);
     let at = set_u32(fields, at, BLOCK_SIZE); // blksize
     set_u32(fields, at, 0) // padding

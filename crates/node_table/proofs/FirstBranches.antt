@@ -16,7 +16,7 @@ use Rattle.name_tree.specs.Rows.{Subtree, Rows, prefixed, spread, whole, NamesRi
 use Rattle.whiteout_tree.specs.declared.place.Entry.{Entry}
 use Rattle.whiteout_tree.specs.Trees.{TreeRows, IsTreeOf, listed}
 use Rattle.whiteout_tree.proofs.Listed.{is_listing}
-use Rattle.stack_model.specs.Listing.{Stacked}
+use Rattle.stack_model.specs.Listing.{Stacked, stacked}
 use Rattle.table_reader.specs.Readers.{placed}
 use Rattle.node_table.specs.Walks.{Visit, Walk, no_walk, under, IsLocated, visit_size, StandsAt, IsBelow, AreWalked, AddsWalk}
 use Rattle.node_table.specs.Numbering.{visit_place, bare, seen, paths_of, number_among, IsFirstVisit, IsNumbered}
@@ -90,7 +90,7 @@ module _ (layers : List (List ℕ)) (t : TreeRows) (root : Subtree Entry) (visit
   entries = map listed t.entries
 
   abbrev stack : Stacked
-  stack = record { layers = layers; entries = map listed t.entries }
+  stack = stacked layers (map listed t.entries)
 
   places_are : map place (map listed t.entries) ≡ map place (seen visits (length visits))
   places_are = places_same t.entries visits places level at

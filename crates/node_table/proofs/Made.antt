@@ -19,7 +19,7 @@ use Rattle.whiteout_tree.specs.declared.place.Place.{Place}
 use Rattle.whiteout_tree.specs.declared.place.Entry.{Entry}
 use Rattle.table_reader.specs.declared.node.Node.{Node}
 use Rattle.table_reader.specs.declared.directory.Directory.{Directory}
-use Rattle.stack_model.specs.Listing.{Stacked}
+use Rattle.stack_model.specs.Listing.{Stacked, stacked}
 use Rattle.table_reader.specs.Rows.{Line}
 use Rattle.table_reader.specs.Directories.{HeldDirectories}
 use Rattle.table_reader.specs.Readers.{placed}
@@ -278,8 +278,8 @@ node_made {A} {stack} {tell} {first} {old} {new} {node} {before} i made place_is
 -- past the last first branch all nodes are made
 pub nodes_ended : {layers : List (List ℕ)} {entries : List Listed} {tell : Place → ℕ} {above : ℕ → ℕ} {first : List (Visit Entry)}
     {starts paths : List ℕ} {made : List Node} {directories : HeldDirectories} {i : ℕ}
-    → AgreeWithListing (record { layers = layers; entries = entries }) tell above first starts paths → i ≡ length first
-    → Making (record { layers = layers; entries = entries }) made directories i → AreMade layers made directories
+    → AgreeWithListing (stacked layers entries) tell above first starts paths → i ≡ length first
+    → Making (stacked layers entries) made directories i → AreMade layers made directories
 nodes_ended {layers} {entries} {first = first} {made = made} {directories = directories} agree all making = (
   entries,
   agree.listing,
@@ -287,7 +287,7 @@ nodes_ended {layers} {entries} {first = first} {made = made} {directories = dire
     level = length-map made completed ∙ making.level ∙ all ∙ sym (length-map first visit_place) ∙ ap length agree.places;
     keys_level = making.keys_level;
     each = λ k node p at there. let x = get_of_map completed made k node at in
-        subst (λ (n : Node). IsNode (record { layers = layers; entries = entries }) directories n p) x.2
+        subst (λ (n : Node). IsNode (stacked layers entries) directories n p) x.2
         (making.each k x.0 p x.1 there);
   },
 )
@@ -300,7 +300,7 @@ table_made layers made new tail directories n blocks (entries, listing, are) don
   entries,
   record {
     listing = listing;
-    are = subst (λ x. AreNodes (record { layers = layers; entries = entries }) x directories)
+    are = subst (λ x. AreNodes (stacked layers entries) x directories)
         (sym (take_at new tail n (sym len) ∙ done)) are;
     blocks_are = sum;
   },

@@ -1,14 +1,13 @@
 -- Where the first branches of places agree with the listing, so that a table can be made of them.
 use Rattle.std.specs.Prelude.{◌≡◌, ℕ, List, length, map, slice_get, slice_index, count_by, Some, false}
 use Rattle.romfs_reader.specs.Readers.{data_of_header as data_in}
-use Rattle.stack_model.specs.Listing.{Entry as Listed, IsListing}
+use Rattle.stack_model.specs.Listing.{Entry as Listed, IsListing, Stacked, stacked}
 use Rattle.stack_model.specs.Numbers.{Place, Child, nodes, number, parent, children}
 use Rattle.stack_model.specs.Attributes.{kind_at, is_directory_at, nlink, data_of}
 use Rattle.name_tree.specs.Rows.{Subtree, spread, IsForest}
 use Rattle.whiteout_tree.specs.declared.place.Place.{Place as TreePlace}
 use Rattle.whiteout_tree.specs.declared.place.Entry.{Entry}
 use Rattle.table_reader.specs.declared.node.Node.{Node}
-use Rattle.stack_model.specs.Listing.{Stacked}
 use Rattle.table_reader.specs.Rows.{Line}
 use Rattle.table_reader.specs.Directories.{HeldDirectories}
 use Rattle.node_table.specs.Walks.{Visit, Walk}
@@ -56,7 +55,7 @@ abbrev pub AgreeWithSomeListing : List (List ℕ) → (TreePlace → ℕ) → (�
     → List ℕ → List ℕ → Type 0
 AgreeWithSomeListing layers tell above first starts paths =
     (entries : List Listed)
-    × AgreeWithListing (record { layers = layers; entries = entries }) tell above first starts paths
+    × AgreeWithListing (stacked layers entries) tell above first starts paths
 
 -- the first branches of all places agree with a listing, and stand where starts say
 abbrev pub StandAndAgree : List (List ℕ) → Walk Entry → List ℕ → List ℕ → List ℕ → Type 0
@@ -70,4 +69,4 @@ StandAndAgree layers walk starts paths numbers =
 abbrev pub AreMade : List (List ℕ) → List Node → HeldDirectories → Type 0
 AreMade layers nodes directories =
     (entries : List Listed) × IsListing layers entries
-    × AreNodes (record { layers = layers; entries = entries }) (map completed nodes) directories
+    × AreNodes (stacked layers entries) (map completed nodes) directories

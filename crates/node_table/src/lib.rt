@@ -1,12 +1,13 @@
 //! Tables made of the trees of stacks.
 //!
-//! [`Table::of`](OfTree::of) gives the table of a stack from its tree. What a table tells, and how
-//! it is read, `table_reader` says. It is made in one walk over the tree, which tells for each
-//! branch where the one above stands and how many are below it. Places that have more paths than
-//! one are found by a sort, and all are numbered by their first path; from then on a branch's
-//! number is found by where it stands: n log n steps in the paths. The crate stands on
-//! `table_reader` for tables, on `whiteout_tree` for the tree of a stack, on `romfs_reader` for its
-//! images, on `name_lookup` for look-ups, and on `rayon`.
+//! [`Table::of`](OfTree::of) gives the table of a stack from its tree, and
+//! [`Table::with_attributes`](OfTree::with_attributes) one whose nodes have rows of attributes, or
+//! another owner. What a table tells, and how it is read, `table_reader` says. It is made in one
+//! walk over the tree, which tells for each branch where the one above stands and how many are
+//! below it. Places that have more paths than one are found by a sort, and all are numbered by
+//! their first path; from then on a branch's number is found by where it stands: n log n steps in
+//! the paths. The crate stands on `table_reader` for tables, on `whiteout_tree` for the tree of a
+//! stack, on `romfs_reader` for its images, on `name_lookup` for look-ups, and on `rayon`.
 #![tactic(auto)]
 
 mod ahead;
@@ -18,4 +19,4 @@ mod numbering;
 mod walk;
 
 pub use making::OfTree;
-pub use table_reader::{Attr, Kind, Node, Place, Row, Table};
+pub use table_reader::{Attr, Attributes, Kind, Node, Owner, Place, Row, Rows, Table};

@@ -5,7 +5,7 @@ ghost use Rattle.std.specs.List.{AllByRecursion};
 ghost use Rattle.stack_model.specs.declared.limits.TheConstants.{MAX_LAYERS};
 ghost use Rattle.romfs_reader.specs.Images.{IsImage};
 ghost use Rattle.whiteout_tree.specs.Trees.{IsTreeOf};
-ghost use Rattle.table_reader.specs.Stacked.{IsTableOf};
+ghost use Rattle.table_reader.specs.Stacked.{IsTableOf, IsTableWith};
 ghost use Rattle.node_table.specs.Agreement.{AreMade};
 
 use crate::building::{TableParts, make};
@@ -15,7 +15,7 @@ use crate::walk::{Walked, count_branches, walk};
 use romfs_reader::Image;
 use std::alloc::{AllocError, Allocator};
 use std::thread::Threads;
-use table_reader::Table;
+use table_reader::{Attributes, Table};
 use whiteout_tree::Tree;
 
 /// What is made of the tree of a stack.
@@ -28,6 +28,9 @@ pub trait OfTree: Sized {
 
     /// The images of the layers, the lowest first.
     type Images;
+
+    /// What is known of their nodes beside them.
+    type Attributes;
 
     ghost use Rattle.std.specs.Thread.{IsSync};
 
@@ -43,6 +46,17 @@ pub trait OfTree: Sized {
     ) -> Result<Self, AllocError>
         requires threads { IsSync R.row }
         requires fits { fits tree images };
+
+    // The same, with what is known of its nodes beside the images.
+    fn with_attributes<R: Threads + Sync>(
+        rt: &R,
+        alloc: Self::Memory,
+        tree: Self::Tree,
+        images: Self::Images,
+        attributes: &Self::Attributes,
+    ) -> Result<Self, AllocError>
+        requires threads { IsSync R.row }
+        requires fits { fits tree images };
 }
 
 impl<A: Allocator + Copy> OfTree for Table<A> {
@@ -52,6 +66,8 @@ impl<A: Allocator + Copy> OfTree for Table<A> {
 
     type Images = Vec<Image<A>, A>;
 
+    type Attributes = Attributes<A>;
+
     ghost use Rattle.std.specs.Prelude.{◌≤◌, length};
     ghost use Rattle.std.specs.Thread.{IsSync};
     ghost use Rattle.whiteout_tree.specs.Trees.{IsTreeOf};
@@ -60,7 +76,8 @@ impl<A: Allocator + Copy> OfTree for Table<A> {
     ghost fits = { λ tree images.
         IsTreeOf 0 images.items tree × (length images.items ≤ MAX_LAYERS) };
 
-    /// The table of a stack of images, from its tree. The images are the layers, the lowest first.
+    /// The table of a stack of images, from its tree. The images are the layers, the lowest first,
+    /// and all belongs to the superuser.
     ///
     /// It takes n log n steps in the paths that the stack shows. Attributes are worked out in
     /// several threads where there are many. An error comes only where memory was refused.
@@ -75,13 +92,32 @@ impl<A: Allocator + Copy> OfTree for Table<A> {
         requires few { length images.items ≤ MAX_LAYERS }
         ensures { IfOk result (λ table. IsTableOf images.items table) }
     {
+        Table::with_attributes(rt, alloc, tree, images, &Attributes::none(alloc))
+    }
+
+    /// The same, where each layer's rows say of their nodes whose they are, when they were changed
+    /// and the bits of their modes, and all that has no row belongs to an owner. A row is sought in
+    /// as many steps as the number of its layer's rows has binary digits.
+    fn with_attributes<R: Threads + Sync>(
+        rt: &R,
+        alloc: A,
+        tree: Tree<A>,
+        images: Vec<Image<A>, A>,
+        attributes: &Attributes<A>,
+    ) -> Result<Table<A>, AllocError>
+        requires threads { IsSync R.row }
+        requires tree { IsTreeOf 0 images.items tree }
+        requires few { length images.items ≤ MAX_LAYERS }
+        ensures { IfOk result (λ table. IsTableWith images.items attributes.now.rows.items
+            attributes.now.owner table) }
+    {
         let blocks = blocks_of(&images);
         let TableParts {
             mut nodes,
             directories,
         } = parts_of(alloc, &tree, &images)?;
         complete_all(rt, &mut nodes);
-        Table::of_parts(alloc, images, nodes, directories, blocks)
+        Table::of_parts(alloc, images, nodes, directories, blocks, attributes)
     }
 }
 

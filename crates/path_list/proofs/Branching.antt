@@ -10,7 +10,7 @@ use Rattle.std.proofs.lemmas.Cmp.{nat_list_cmp_total}
 use Rattle.name_tree.specs.Rows.{name_cmp}
 use Rattle.name_tree.proofs.Names.{same_or_not, not_below_itself}
 use Rattle.stack_model.specs.Stack.{Path}
-use Rattle.stack_model.specs.Listing.{Entry, path_cmp, Rises, IsAmong}
+use Rattle.stack_model.specs.Listing.{Entry, Stacked, path_cmp, Rises, IsAmong}
 use Rattle.stack_model.specs.Numbers.{Child, place, name_below, child_in}
 use Rattle.path_list.specs.Lines.{line_of, line}
 use Rattle.path_list.specs.Below.{after, is_below, below, AreTree}
@@ -33,13 +33,19 @@ between m n r d e = go (name_cmp m n) (name_cmp n m) refl refl d e
     go Equal p f g d e = cc
     go Greater p f g d e = cc
 
-module _ (layers : List (List ℕ)) (entries : List Entry) (top : Path) where
+module _ (stack : Stacked) (top : Path) where
+  abbrev layers : List (List ℕ)
+  layers = stack.layers
+
+  abbrev entries : List Entry
+  entries = stack.entries
+
   abbrev kids : List Entry → List Child
   kids es = filter_map (child_in top) es
 
   -- what is printed of a child: its line, and those of all below it
   abbrev pub piece : Child → List ℕ
-  piece c = line_of layers entries c.place (top ++ c.name ∷ []) ++ flat_map (line layers entries) (below entries (top ++ c.name ∷ []))
+  piece c = line_of stack c.place (top ++ c.name ∷ []) ++ flat_map (line stack) (below entries (top ++ c.name ∷ []))
 
   -- what is left below the child that the walk is in
   abbrev current : Option (List ℕ) → List Entry → List Entry
@@ -85,7 +91,7 @@ module _ (layers : List (List ℕ)) (entries : List Entry) (top : Path) where
   -- all that is left is below the child that the walk is in, or is one of the other children and
   -- what is below it
   abbrev IsSpread : Option (List ℕ) → List Entry → Type 0
-  IsSpread cur es = flat_map (line layers entries) (below es top) ≡ flat_map (line layers entries) (current cur es)
+  IsSpread cur es = flat_map (line stack) (below es top) ≡ flat_map (line stack) (current cur es)
       ++ flat_map piece (kids es)
 
   not_kid : (e d : Entry) (n k x : List ℕ) (r : Path) → after top e.path ≡ Some (n ∷ k ∷ r) → e ≡ d → d.path ≡ top ++ x ∷ [] → ⊥
@@ -141,7 +147,7 @@ module _ (layers : List (List ℕ)) (entries : List Entry) (top : Path) where
       let none : current cur es ≡ [] = empty cur never in
       let same : below entries (top ++ n ∷ []) ≡ below es (top ++ n ∷ []) = l.whole e (inl refl) n p
       ∙ no_more (top ++ n ∷ []) e es (no n) in
-      let text : line layers entries e ≡ line_of layers entries (place e) (top ++ n ∷ []) = ap (line_of layers entries (place e)) p in
+      let text : line stack e ≡ line_of stack (place e) (top ++ n ∷ []) = ap (line_of stack (place e)) p in
       rw (
         one_more top e es (rw f refl),
         same_current cur e es no,
@@ -151,7 +157,7 @@ module _ (layers : List (List ℕ)) (entries : List Entry) (top : Path) where
         text,
         on rest,
       )
-      (sym (append_assoc (line_of layers entries (place e) (top ++ n ∷ [])) (flat_map (line layers entries) (below es (top ++ n ∷ [])))
+      (sym (append_assoc (line_of stack (place e) (top ++ n ∷ [])) (flat_map (line stack) (below es (top ++ n ∷ [])))
       (flat_map piece (kids es))))
     where
       empty : (cur : Option (List ℕ)) → ((m : List ℕ) → cur ≡ Some m → (g : Entry) → IsAmong g es → (r : Path) → g.path ≡ top ++ m ∷ r → ⊥)
@@ -195,18 +201,18 @@ module _ (layers : List (List ℕ)) (entries : List Entry) (top : Path) where
         no_kid e es (name_is top e.path ∙ rw f refl),
         on rest,
       )
-      (sym (append_assoc (line layers entries e) (flat_map (line layers entries) (below es (top ++ m ∷ []))) (flat_map piece (kids es))))
+      (sym (append_assoc (line stack e) (flat_map (line stack) (below es (top ++ m ∷ []))) (flat_map piece (kids es))))
     where
       child_first : (es : List Entry) (e d : Entry) (n k : List ℕ) (r : Path) → e.path ≡ top ++ n ∷ k ∷ r → path_cmp e.path d.path ≡ Less
           → d.path ≡ top ++ n ∷ [] → ⊥
       child_first es e d n k r p c t = not_both (top ++ n ∷ k ∷ r) (top ++ n ∷ []) (rw (p, t) at c) (under_same top (n ∷ []) (n ∷ k ∷ r)
           ∙ comes_later (n ∷ []) r k)
 
-  nothing_left : flat_map (line layers entries) (below [] top) ≡ []
+  nothing_left : flat_map (line stack) (below [] top) ≡ []
   unfolding below
   nothing_left = refl
 
-  none_left : (q : Path) → flat_map (line layers entries) (below [] top) ≡ flat_map (line layers entries) (below [] q) ++ []
+  none_left : (q : Path) → flat_map (line stack) (below [] top) ≡ flat_map (line stack) (below [] q) ++ []
   unfolding below
   none_left q = refl
 
@@ -229,7 +235,7 @@ module _ (layers : List (List ℕ)) (entries : List Entry) (top : Path) where
       ]
 
   -- the lines below a directory are its children's pieces, in order
-  pub all_below : AreTree layers entries → flat_map (line layers entries) (below entries top)
+  pub all_below : AreTree layers entries → flat_map (line stack) (below entries top)
       ≡ flat_map piece (filter_map (child_in top) entries)
   all_below t = spread None entries (record {
     rises = t.rising;

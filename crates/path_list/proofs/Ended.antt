@@ -11,21 +11,21 @@ use Rattle.path_list.proofs.Gaining.{all_put, front_lost, gains_more, gains_same
 
 -- all lines were put, and then nothing is on its way
 pub listed : {X Y E F : Type 0} {x : X} {y : Y} {u v w : Passage} (table : Stacked)
-    → Puts {E = E} (Ok x) u v (lines table.layers table.entries) → Puts {E = F} (Ok y) v w [] → u.waiting ≡ [] → w.waiting ≡ []
+    → Puts {E = E} (Ok x) u v (lines table) → Puts {E = F} (Ok y) v w [] → u.waiting ≡ [] → w.waiting ≡ []
     → Lists table u.sink w.sink
 listed table p q before after =
     let a = p.counted.1 in
     let b = q.counted.1 in
     record {
-      gained = all_put (gains_same (append-nil (lines table.layers table.entries)) (gains_more p.gained q.gained)) before after;
+      gained = all_put (gains_same (append-nil (lines table)) (gains_more p.gained q.gained)) before after;
       flushed = omega (arith, a, b);
     }
 
 -- all lines were put, and what of them was on its way was not handed on
 pub broken : {X Y Z E F : Type 0} {x : X} {f : F} {u v w : Passage} (table : Stacked) (r : Result Z ListFault)
-    → IsErrAnd r (λ fault. fault ≡ Write) → Puts {E = E} (Ok x) u v (lines table.layers table.entries)
+    → IsErrAnd r (λ fault. fault ≡ Write) → Puts {E = E} (Ok x) u v (lines table)
     → Puts {X = Y} (Err f) v w [] → u.waiting ≡ [] → IfErr r (IsBrokenOff table u.sink w.sink)
 broken table (Ok z) is p q before = tt
 broken {u = u} {w = w} table (Err fault) is p q before =
-    let both = puts_same (append-nil (lines table.layers table.entries)) (puts_more p q) in
+    let both = puts_same (append-nil (lines table)) (puts_more p q) in
     subst (IsBrokenOff table u.sink w.sink) (sym is) (both.counted, front_lost both.lost before)

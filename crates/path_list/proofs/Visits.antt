@@ -123,16 +123,16 @@ module _ (stack : Stacked) (n : ℕ) (text : List ℕ) (path : Path) (v : IsVisi
       go (Some m) f (suc i) l on = rw f (on i (let k : suc i < suc (length (rows_in es)) = rw f at l in omega arith))
 
   pieces_in : (es : List Entry) → ((e : Entry) → IsAmong e es → IsAmong e entries) → flat_map (piece_at stack path) (rows_in es)
-      ≡ flat_map (piece layers entries path) (filter_map (child_in path) es)
+      ≡ flat_map (piece stack path) (filter_map (child_in path) es)
   pieces_in [] s = refl
   pieces_in (e ∷ es) s = go (name_below path e.path) refl (pieces_in es (λ f a. s f (inr a)))
     where
       go : (o : Option (List ℕ)) → name_below path e.path ≡ o → flat_map (piece_at stack path) (rows_in es)
-          ≡ flat_map (piece layers entries path) (filter_map (child_in path) es) → flat_map (piece_at stack path) (rows_in (e ∷ es))
-          ≡ flat_map (piece layers entries path) (filter_map (child_in path) (e ∷ es))
+          ≡ flat_map (piece stack path) (filter_map (child_in path) es) → flat_map (piece_at stack path) (rows_in (e ∷ es))
+          ≡ flat_map (piece stack path) (filter_map (child_in path) (e ∷ es))
       go None f on = rw f on
       go (Some m) f on = rw (f, numbered entries e (s e (inl refl)))
-          (ap (λ r. piece layers entries path (record { name = m; place = place e }) ++ r) on)
+          (ap (λ r. piece stack path (record { name = m; place = place e }) ++ r) on)
 
   at_node : node_of entries n ≡ Some (place v.entry)
   at_node = rw v.number_is (numbered entries v.entry v.among)
@@ -179,7 +179,7 @@ module _ (stack : Stacked) (n : ℕ) (text : List ℕ) (path : Path) (v : IsVisi
     where
       go : (b : Bool) → is_directory_at layers (place v.entry) ≡ b → flat_map (piece_at stack path) (rows_at stack n)
           ≡ lines_below stack path
-      go true k = rw (rows_there k) (pieces_in entries (λ e a. a) ∙ sym (all_below layers entries path v.tree))
+      go true k = rw (rows_there k) (pieces_in entries (λ e a. a) ∙ sym (all_below stack path v.tree))
       go false k = rw (none_there k, empty_there k) refl
 
   -- the text of the path has room

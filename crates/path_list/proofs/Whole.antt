@@ -32,34 +32,35 @@ root_out [] p = refl
 root_out (n ∷ q) p = absurd (cc)
 
 -- where there are no nodes, there are no lines
-no_lines : (layers : List (List ℕ)) (entries : List Entry) → length (nodes entries) ≡ 0 → [] ≡ lines layers entries
-no_lines layers [] z = refl
-no_lines layers (e ∷ es) z =
-    let s : IsSome (node_of (e ∷ es) (number (e ∷ es) (place e))) = rw (numbered (e ∷ es) e (inl refl)) refl in
-    let b = (numbers_all (e ∷ es) (number (e ∷ es) (place e))).0 s in
+no_lines : (s : Stacked) (entries : List Entry) → length (nodes entries) ≡ 0 → [] ≡ lines (record s { entries = entries })
+no_lines s [] z = refl
+no_lines s (e ∷ es) z =
+    let some : IsSome (node_of (e ∷ es) (number (e ∷ es) (place e))) = rw (numbered (e ∷ es) e (inl refl)) refl in
+    let b = (numbers_all (e ∷ es) (number (e ∷ es) (place e))).0 some in
     absurd (let l = b.0 in let m = b.1 in omega arith)
 
 -- where there are no nodes, there are no lines
-pub none : (stack : Stacked) (n : ℕ) → n ≡ length (nodes stack.entries) → n ≡ 0 → [] ≡ lines stack.layers stack.entries
-none stack n e z = no_lines stack.layers stack.entries (sym e ∙ z)
+pub none : (stack : Stacked) (n : ℕ) → n ≡ length (nodes stack.entries) → n ≡ 0 → [] ≡ lines stack
+none stack n e z = no_lines stack stack.entries (sym e ∙ z)
 
 -- the walk begins at the root, and that is all
 pub record IsBegun (stack : Stacked) : Type 0 where
   pub visit : IsVisited stack 1 [] []
-  pub all : line_at stack 1 [] ++ lines_below stack [] ≡ lines stack.layers stack.entries
+  pub all : line_at stack 1 [] ++ lines_below stack [] ≡ lines stack
 
-begins : (layers : List (List ℕ)) (entries : List Entry) → AreTree layers entries → AreShort entries → IsListing layers entries
-    → (length (nodes entries) ≡ 0 → ⊥) → IsBegun (record { layers = layers; entries = entries })
+begins : (model : Stacked) (entries : List Entry) → AreTree model.layers entries → AreShort entries → IsListing model.layers entries
+    → (length (nodes entries) ≡ 0 → ⊥) → IsBegun (record model { entries = entries })
 unfolding below nodes
-begins layers [] t s l z = absurd (z refl)
-begins layers (e ∷ es) t s l z =
+begins model [] t s l z = absurd (z refl)
+begins model (e ∷ es) t s l z =
+    let stack : Stacked = record model { entries = e ∷ es } in
     let p = root e.path refl in
-    let one : number_of (e ∷ es) (place e) ≡ Some 1 = root_first layers (e ∷ es) e l (inl refl) p in
+    let one : number_of (e ∷ es) (place e) ≡ Some 1 = root_first model.layers (e ∷ es) e l (inl refl) p in
     let n : 1 ≡ number (e ∷ es) (place e) = sym (ap (λ o. unwrap_or o 0) one) in
     let at : node_of (e ∷ es) 1 ≡ Some (place e) = subst (λ k. node_of (e ∷ es) k ≡ Some (place e)) (sym n)
     (numbered (e ∷ es) e (inl refl)) in
-    let text = line layers (e ∷ es) in
-    let first = ap (λ o. option_map_or (λ q. line_of layers (e ∷ es) q []) o []) at ∙ ap (line_of layers (e ∷ es) (place e)) (sym p) in
+    let text = line stack in
+    let first = ap (λ o. option_map_or (λ q. line_of stack q []) o []) at ∙ ap (line_of stack (place e)) (sym p) in
     let second : below (e ∷ es) [] ≡ es =
     rw (root_out e.path p) (all_after es (subst (λ q. AllByRecursion (λ f. path_cmp q f.path ≡ Less) es) p l.rising.0)) in
     record {
@@ -80,5 +81,5 @@ begins layers (e ∷ es) t s l z =
 -- lines
 pub begun : (stack : Stacked) (n : ℕ) → AreImages stack.layers → IsListing stack.layers stack.entries → n ≡ length (nodes stack.entries)
     → (n ≡ 0 → ⊥) → IsBegun stack
-begun stack n i l e z = begins stack.layers stack.entries (are_tree stack.layers stack.entries i l)
+begun stack n i l e z = begins stack stack.entries (are_tree stack.layers stack.entries i l)
     (are_short stack.layers stack.entries i l) l (λ f. z (e ∙ f))

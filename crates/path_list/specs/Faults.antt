@@ -10,7 +10,7 @@ use Rattle.path_list.specs.Lines.{lines}
 
 -- the sink gained the lines of the table's listing, and none of them waits for a flush
 pub record Lists (table : Stacked) (old new : SinkState) : Type 0 where
-  pub gained : Appends old.held new.held (lines table.layers table.entries)
+  pub gained : Appends old.held new.held (lines table)
   pub flushed : new.counts.unflushed ≤ old.counts.unflushed
 
 -- the list stopped: memory ran out and the sink is as it was; or the sink failed once more, and
@@ -19,4 +19,4 @@ abbrev pub IsBrokenOff : Stacked → SinkState → SinkState → ListFault → T
 IsBrokenOff table old new Memory = new ≡ old
 IsBrokenOff table old new Write =
     (new.counts.failures ≡ old.counts.failures + 1)
-    × GainsFront (lines table.layers table.entries) old.held new.held
+    × GainsFront (lines table) old.held new.held

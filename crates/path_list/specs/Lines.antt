@@ -2,9 +2,9 @@
 use Rattle.std.specs.Prelude.{ℕ, ◌+◌, ◌/◌, ◌%◌, ◌^◌, List, [], ◌∷◌, ◌++◌, Bool, ◌&&◌, ◌==◌, not, nat_lt, nat_le, flat_map, if◌then◌else◌}
 use Rattle.std.specs.Fmt.{decimal}
 use Rattle.stack_model.specs.Stack.{Path}
-use Rattle.stack_model.specs.Listing.{Entry, stacked}
+use Rattle.stack_model.specs.Listing.{Entry, Stacked}
 use Rattle.stack_model.specs.Numbers.{Place, place, number}
-use Rattle.stack_model.specs.Attributes.{mode, size_at, nlink}
+use Rattle.stack_model.specs.Attributes.{mode_at, size_at, nlink}
 
 -- a lower hexadecimal digit: 48 is `0`, and 87 + 10 is `a`
 abbrev pub hex_digit : ℕ → ℕ
@@ -56,12 +56,12 @@ fields_text number mode nlink size layer =
     spaced (decimal number) ++ spaced (mode_text mode) ++ spaced (decimal nlink)
     ++ spaced (decimal size) ++ spaced (decimal layer)
 
-module _ (layers : List (List ℕ)) (entries : List Entry) where
+module _ (stack : Stacked) where
   -- the fields of the place, and the text of a path
   unfoldable pub line_with : Place → List ℕ → List ℕ
   line_with p text =
-      fields_text (number entries p) (mode layers p) (nlink (stacked layers entries) p)
-      (size_at layers p) p.0
+      fields_text (number stack.entries p) (mode_at stack p) (nlink stack p)
+      (size_at stack.layers p) p.0
       ++ text ++ 10 ∷ []
 
   -- the line of a place and a path
@@ -74,4 +74,4 @@ module _ (layers : List (List ℕ)) (entries : List Entry) where
 
   -- a line for each shown path, in order
   abbrev pub lines : List ℕ
-  lines = flat_map line entries
+  lines = flat_map line stack.entries

@@ -41,8 +41,7 @@ pub record Puts {X E : Type 0} (result : Result X E) (old new : Passage) (bytes 
 
 -- the line of a number with this text of a path
 abbrev pub line_as : Stacked → ℕ → List ℕ → List ℕ
-line_as stack n text =
-    option_map_or (λ p. line_with stack.layers stack.entries p text) (node_of stack.entries n) []
+line_as stack n text = option_map_or (λ p. line_with stack p text) (node_of stack.entries n) []
 
 -- the line of a number at a path
 abbrev pub line_at : Stacked → ℕ → Path → List ℕ
@@ -50,7 +49,7 @@ line_at stack n path = line_as stack n (path_text path)
 
 -- the lines of all paths below a path
 abbrev pub lines_below : Stacked → Path → List ℕ
-lines_below stack path = flat_map (line stack.layers stack.entries) (below stack.entries path)
+lines_below stack path = flat_map (line stack) (below stack.entries path)
 
 -- the line of a child of the directory at a path, and those of all below it
 abbrev pub piece_at : Stacked → Path → Line → List ℕ

@@ -1,6 +1,8 @@
 //! Worked texts and lines, by computation.
 
 ghost use Rattle.std.specs.Prelude.{◌≡◌, ◌∷◌, [], codes};
+ghost use Rattle.stack_model.specs.Listing.{stacked};
+ghost use Rattle.path_list.specs.Examples.{sticky_root};
 ghost use Rattle.path_list.specs.Lines.{escaped, name_text, path_text, mode_text, lines};
 
 /// Bytes of a name: a space, a backslash, those just inside and just outside of 0x21 to 0x7e, and
@@ -35,6 +37,11 @@ pub fn paths()
 /// The list of a layer of four bytes, which are the first word of a header: a directory with the
 /// executable bit.
 pub fn root_alone()
-    ensures { lines ((0 ∷ 0 ∷ 0 ∷ 9 ∷ []) ∷ []) (record { path = []; layer = 0; header = 0 } ∷ [])
-        ≡ codes "1 040755 2 0 0 /\n" }
+    ensures { lines (stacked ((0 ∷ 0 ∷ 0 ∷ 9 ∷ []) ∷ [])
+        (record { path = []; layer = 0; header = 0 } ∷ [])) ≡ codes "1 040755 2 0 0 /\n" }
+{}
+
+/// The same where the directory has a row with the sticky bit, and all bits below it.
+pub fn root_with_a_row()
+    ensures { lines sticky_root ≡ codes "1 041777 2 0 0 /\n" }
 {}

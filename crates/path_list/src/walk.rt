@@ -48,9 +48,10 @@ impl From<Failed> for ListFault {
 
 /// Puts a line for each shown path of the table's layers to a sink, in the order of the paths.
 ///
-/// A line is `<number> <mode> <nlink> <size> <layer> <path>`: the mode in six octal digits, the
-/// layer that of the node's place, and the path after `/`, which alone is the root. A byte of a
-/// name outside 0x21 to 0x7e, and that of `\`, is printed as `\` and two lower hexadecimal digits.
+/// A line is `<number> <mode> <nlink> <size> <layer> <path>`: the mode in six octal digits, by the
+/// node's row where it has one, the layer that of the node's place, and the path after `/`, which
+/// alone is the root. A byte of a name outside 0x21 to 0x7e, and that of `\`, is printed as `\` and
+/// two lower hexadecimal digits.
 ///
 /// The lines go out in pieces of about 64 KiB, each of which is flushed. Memory is taken first, 64
 /// KiB for a piece and 383 KiB for the longest path that there can be: at `Memory` the sink is as
@@ -136,7 +137,7 @@ impl<A: Allocator> Room<A> {
         requires counts { (K.state sink.old).counts.failures < 2 ^ 63 }
         ensures { Puts result (passage (K.state sink.old) self.old.waiting.items)
             (passage (K.state sink.new) self.new.waiting.items)
-            (lines table.now.layers table.now.entries) }
+            (lines table.now) }
     {
         are_images(table.images());
         if table.len() == 0 {

@@ -3,16 +3,19 @@
 -- more than the nodes (`numbers_fit`).
 use Rattle.std.proofs.Common.{◌≡◌, sym, subst, ℕ, ◌+◌, ◌*◌, ◌/◌, ◌%◌, ◌^◌, ◌<◌, ◌≤◌, List, length, drop, Bool, true, false, Option, Some, None, refl, arith, lit<}
 use Rattle.std.specs.Prelude.{slice_index, bit_and, bit_or, unwrap_or}
+use Rattle.std.specs.Option.{option_map_or}
 use Rattle.std.proofs.lemmas.List.{get_or-drop}
 use Rattle.std.proofs.lemmas.Nat.{and_le_l, and_le_r, or_lt}
 use Rattle.romfs_format.specs.declared.head.Kind.{Kind}
 use Rattle.romfs_format.specs.declared.head.Kind.TheVariants.{HardLink, Directory, Regular, SymLink, Block, Character, Socket, Fifo}
+use Rattle.romfs_format.specs.declared.attribute_row.AttributeRow.{AttributeRow}
 use Rattle.romfs_format.specs.Fields.{word, exec, size, spec}
+use Rattle.node_attr.specs.declared.owner.Owner.{Owner}
 use Rattle.stack_model.specs.Listing.{Entry, Stacked}
 use Rattle.stack_model.specs.Numbers.{Place, nodes, number_of, number}
-use Rattle.stack_model.specs.Attributes.{mode_of, size_of, device, rdev_of, layer_of, kind_at, attr_of}
+use Rattle.stack_model.specs.Attributes.{mode_of, mode_by, owner_by, size_of, device, rdev_of, layer_of, kind_at, row_of, attr_of}
 use Rattle.stack_model.proofs.Numbering.{number_used, numbers_all}
-use Rattle.reply_model.specs.Laws.{AreLayersOfBytes, FitsFields}
+use Rattle.reply_model.specs.Laws.{AreLayersOfBytes, AreOwned, IsOwner, IsRow, FitsFields}
 
 mode_fits : (k : Kind) (b : Bool) → mode_of k b < 2 ^ 32
 mode_fits HardLink b = lit< tt
@@ -55,18 +58,41 @@ word_fits a p b =
     let b3 = at 3 in
     omega arith
 
--- over layers of bytes, the attributes of a place fit their fields, but for its number
-pub attributes_fit : (stack : Stacked) (p : Place) → AreLayersOfBytes stack.layers
+-- what a row says, or the owner where there is none, fits its fields
+record FitsRow (row : Option AttributeRow) (owner : Owner) (mode : ℕ) : Type 0 where
+  seconds : option_map_or (λ (r : AttributeRow). r.seconds) row 0 < 2 ^ 64
+  nanoseconds : option_map_or (λ (r : AttributeRow). r.nanoseconds) row 0 < 2 ^ 32
+  mode_is : mode_by row mode < 2 ^ 32
+  uid : (owner_by row owner).uid < 2 ^ 32
+  gid : (owner_by row owner).gid < 2 ^ 32
+
+row_fits : (row : Option AttributeRow) (owner : Owner) (mode : ℕ) → mode < 2 ^ 32 → IsOwner owner
+    → ((r : AttributeRow) → row ≡ Some r → IsRow r) → FitsRow row owner mode
+row_fits None owner mode l o f =
+    record { seconds = lit< tt; nanoseconds = lit< tt; mode_is = l; uid = o.uid; gid = o.gid }
+row_fits (Some r) owner mode l o f =
+    let is = f r refl in
+    record { seconds = is.seconds; nanoseconds = is.nanoseconds; mode_is = omega arith; uid = is.uid; gid = is.gid }
+
+-- over layers of bytes, where rows and owner fit, the attributes of a place fit their fields, but
+-- for its number
+pub attributes_fit : (stack : Stacked) (p : Place) → AreLayersOfBytes stack.layers → AreOwned stack
     → FitsFields (attr_of stack p)
-attributes_fit stack p b =
+attributes_fit stack p b o =
     let a = layer_of stack.layers p in
     let s = size_fits (kind_at stack.layers p) (size a p.1) (word_fits a (p.1 + 8) (b.each p.0)) in
     let r = rdev_fits (kind_at stack.layers p) (spec a p.1) (word_fits a (p.1 + 4) (b.each p.0)) in
+    let m = mode_fits (kind_at stack.layers p) (exec a p.1) in
+    let row = row_fits (row_of stack p) stack.owner (mode_of (kind_at stack.layers p) (exec a p.1)) m o.owner (o.rows p) in
     record {
       size = omega arith;
       blocks = omega arith;
-      mode = mode_fits (kind_at stack.layers p) (exec a p.1);
+      seconds = row.seconds;
+      nanoseconds = row.nanoseconds;
+      mode = row.mode_is;
       nlink = omega arith;
+      uid = row.uid;
+      gid = row.gid;
       rdev = r;
     }
 

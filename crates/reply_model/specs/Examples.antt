@@ -335,6 +335,54 @@ pub record LookupExamples : Type 0 where
   pub upper : over_sample (request 1 2 1 (codes ".." ++ zeros 1)) ≡ refused 2 0xfffffffe
   pub in_file : over_sample (request 1 2 2 (replicate 256 0x71 ++ zeros 1)) ≡ refused 2 0xffffffec
 
+-- the sample image, of which x in the directory d has a row: mode 4711, user 33, group 42, and the
+-- second 1,700,000,000 with 5 nanoseconds; all else belongs to user 1 and group 2
+abbrev pub owned_stack : Stacked
+owned_stack = record {
+  layers = sample_image ∷ [];
+  entries = sample_entries;
+  rows = (record {
+    place = 0x1470;
+    mode = 0o4711;
+    uid = 33;
+    gid = 42;
+    seconds = 1700000000;
+    nanoseconds = 5;
+  } ∷ []) ∷ [];
+  owner = record { uid = 1; gid = 2 };
+}
+
+-- the reply to a message over it
+abbrev pub over_owned : List ℕ → List ℕ
+over_owned m = reply owned_stack (Ready false) (asked m)
+
+-- the entry of x in the directory d, with what its row says: three times the seconds, three times
+-- the nanoseconds, mode, nlink, uid and gid
+abbrev pub owned_entry_reply : List ℕ
+owned_entry_reply = dump (
+    0x90000000 ∷ 0x00000000 ∷ 0x0a000000 ∷ 0x00000000
+    ∷ 0x04000000 ∷ 0x00000000 ∷ 0x00000000 ∷ 0x00000000
+    ∷ 0x100e0000 ∷ 0x00000000 ∷ 0x100e0000 ∷ 0x00000000 ∷ 0x00000000 ∷ 0x00000000
+    ∷ 0x04000000 ∷ 0x00000000 ∷ 0x02000000 ∷ 0x00000000 ∷ 0x01000000 ∷ 0x00000000
+    ∷ 0x00f15365 ∷ 0x00000000 ∷ 0x00f15365 ∷ 0x00000000 ∷ 0x00f15365 ∷ 0x00000000
+    ∷ 0x05000000 ∷ 0x05000000 ∷ 0x05000000 ∷ 0xc9890000 ∷ 0x01000000
+    ∷ 0x21000000 ∷ 0x2a000000 ∷ 0x00000000 ∷ 0x00100000 ∷ 0x00000000 ∷ [])
+
+-- a row's attributes in LOOKUP, GETATTR and READDIRPLUS, where the row of x has the type of a file;
+-- the owner of what has no row; and all else as without rows
+pub record OwnedExamples : Type 0 where
+  pub entry : over_owned (request 1 10 3 (codes "x" ++ zeros 1)) ≡ owned_entry_reply
+  pub attributes : drop 32 (over_owned (request 3 2 4 (zeros 16))) ≡ drop 56 owned_entry_reply
+  pub plus : take 128 (drop 336 (over_owned (request 44 2 3 (read_in 0 4096))))
+      ≡ drop 16 owned_entry_reply
+  pub plus_type : take 4 (drop 484 (over_owned (request 44 2 3 (read_in 0 4096)))) ≡ u32 8
+  pub owner : take 8 (drop 100 (over_owned (request 3 2 2 (zeros 16)))) ≡ u32 1 ++ u32 2
+  pub header_mode : take 68 (drop 32 (over_owned (request 3 2 2 (zeros 16))))
+      ≡ take 68 (drop 32 (over_sample (request 3 2 2 (zeros 16))))
+  pub readdir : over_owned (request 28 2 3 (read_in 0 4096))
+      ≡ over_sample (request 28 2 3 (read_in 0 4096))
+  pub read : over_owned (request 15 2 4 (read_in 0 4096)) ≡ headed 2 18 ++ codes "hi"
+
 -- the reply to a message over the sample image, in a session with EXPORT_SUPPORT
 abbrev pub over_exported : List ℕ → List ℕ
 over_exported m = reply sample_stack (Ready true) (asked m)

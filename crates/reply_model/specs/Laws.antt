@@ -3,13 +3,15 @@ use Rattle.std.specs.Prelude.{◌≡◌, ℕ, ◌⊎◌, ◌+◌, ◌<◌, ◌�
 use Rattle.std.specs.List.{flat_map}
 use Rattle.fuse_wire.specs.declared.errno.Errno.{Errno}
 use Rattle.node_attr.specs.declared.attr.Attr.{Attr}
+use Rattle.node_attr.specs.declared.owner.Owner.{Owner}
+use Rattle.romfs_format.specs.declared.attribute_row.AttributeRow.{AttributeRow}
 use Rattle.fuse_wire.specs.Requests.{Op, Asked, at_node, lookup, readdirplus, silent, forget, batch_forget}
 use Rattle.fuse_wire.specs.Structures.{u32, u64, entry_out, negative_entry_out}
 use Rattle.fuse_wire.specs.Replies.{reply_with, error_reply}
 use Rattle.stack_model.specs.Listing.{Stacked}
 use Rattle.stack_model.specs.Numbers.{Place}
 use Rattle.reply_model.specs.declared.session.Session.{Session}
-use Rattle.stack_model.specs.Attributes.{attr_of}
+use Rattle.stack_model.specs.Attributes.{row_of, attr_of}
 use Rattle.reply_model.specs.Rows.{Row, is_child, direntplus_of}
 use Rattle.reply_model.specs.Replies.{reply}
 use Rattle.reply_model.specs.Services.{give}
@@ -76,10 +78,31 @@ is_moving _ = false
 pub record AreLayersOfBytes (layers : List (List ℕ)) : Type 0 where
   pub each : (i k : ℕ) → slice_index (slice_index_or layers i []) k < 256
 
+-- an owner's numbers have 32 bits
+pub record IsOwner (owner : Owner) : Type 0 where
+  pub uid : owner.uid < 2 ^ 32
+  pub gid : owner.gid < 2 ^ 32
+
+-- a row's numbers have the bits of their fields
+pub record IsRow (row : AttributeRow) : Type 0 where
+  pub uid : row.uid < 2 ^ 32
+  pub gid : row.gid < 2 ^ 32
+  pub seconds : row.seconds < 2 ^ 64
+  pub nanoseconds : row.nanoseconds < 2 ^ 32
+
+-- the numbers of each row of each layer do, and those of the owner of all that has none
+pub record AreOwned (stack : Stacked) : Type 0 where
+  pub owner : IsOwner stack.owner
+  pub rows : (p : Place) (row : AttributeRow) → row_of stack p ≡ Some row → IsRow row
+
 -- the attributes fit the fields of an attr, where the number does
 pub record FitsFields (a : Attr) : Type 0 where
   pub size : a.size < 2 ^ 64
   pub blocks : a.blocks < 2 ^ 64
+  pub seconds : a.seconds < 2 ^ 64
+  pub nanoseconds : a.nanoseconds < 2 ^ 32
   pub mode : a.mode < 2 ^ 32
   pub nlink : a.nlink < 2 ^ 32
+  pub uid : a.uid < 2 ^ 32
+  pub gid : a.gid < 2 ^ 32
   pub rdev : a.rdev < 2 ^ 32

@@ -4,7 +4,7 @@ use Rattle.std.specs.List.{enumerate_from}
 use Rattle.fuse_wire.specs.Structures.{dirent, direntplus}
 use Rattle.stack_model.specs.Listing.{Entry, Stacked}
 use Rattle.stack_model.specs.Numbers.{Place, Child, number, parent, children}
-use Rattle.stack_model.specs.Attributes.{mode, attr_of}
+use Rattle.stack_model.specs.Attributes.{mode_at, attr_of}
 
 -- a row: its place in its directory, counted from 1, and its name with the place of its node
 abbrev pub Row : Type 0
@@ -44,10 +44,10 @@ module _ (stack : Stacked) where
   -- a row as READDIR gives it: off is its place, and its type the upper bits of the node's mode
   unfoldable pub dirent_of : Row → List ℕ
   dirent_of r =
-      dirent (number stack.entries r.1.place) r.0 (mode stack.layers r.1.place / 2 ^ 12) r.1.name
+      dirent (number stack.entries r.1.place) r.0 (mode_at stack r.1.place / 2 ^ 12) r.1.name
 
   -- the same as READDIRPLUS gives it, with the node's entry; . and .. have none
   unfoldable pub direntplus_of : Row → List ℕ
   direntplus_of r =
       direntplus (if is_child r then Some (attr_of stack r.1.place) else None)
-      (number stack.entries r.1.place) r.0 (mode stack.layers r.1.place / 2 ^ 12) r.1.name
+      (number stack.entries r.1.place) r.0 (mode_at stack r.1.place / 2 ^ 12) r.1.name

@@ -2,7 +2,7 @@
 //! computation.
 #![tactic(auto, unfolding(crate::proofs::Computing::replies_on_literals))]
 
-ghost use Rattle.reply_model.specs.Examples.{StreamExamples, FaultOrder, FaultExamples, EmptyImageFields, InitExamples, GetattrExamples, ReaddirExamples, ReaddirplusExamples, ReadExamples, LookupExamples, NodeExamples, OpenExamples, SessionExamples, ExportExamples, SilentExamples, RefusalOrder, TwelveRequests, BalanceExamples};
+ghost use Rattle.reply_model.specs.Examples.{StreamExamples, FaultOrder, FaultExamples, EmptyImageFields, InitExamples, GetattrExamples, ReaddirExamples, ReaddirplusExamples, ReadExamples, LookupExamples, OwnedExamples, NodeExamples, OpenExamples, SessionExamples, ExportExamples, SilentExamples, RefusalOrder, TwelveRequests, BalanceExamples};
 ghost use Rattle.reply_model.specs.LastingExamples.{LastingInitExamples, LastingSessionExamples, LastingLookupExamples, LastingOpenExamples, LastingFlushExamples, LastingStayExamples, LastingStreamExamples};
 
 /// The fields of the empty image.
@@ -38,6 +38,11 @@ pub fn read_example()
 /// LOOKUP over the sample image.
 pub fn lookup_example()
     ensures { LookupExamples }
+{}
+
+/// Attributes over the sample image with a row and an owner.
+pub fn owned_example()
+    ensures { OwnedExamples }
 {}
 
 /// Attributes, STATFS, OPEN and the other requests over the sample image.

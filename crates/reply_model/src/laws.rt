@@ -16,7 +16,7 @@ ghost use Rattle.reply_model.specs.Lasting.{usual_of, LastsAs};
 ghost use Rattle.reply_model.specs.declared.moves.Move.{Move};
 ghost use Rattle.reply_model.specs.Moves.{moves, balance};
 ghost use Rattle.reply_model.specs.Streams.{session_at, replies_by, moves_by, balance_after};
-ghost use Rattle.reply_model.specs.Laws.{IsReplyTo, AreFirstThatFit, GivesEntry, GivesRows, is_moving, AreLayersOfBytes, FitsFields};
+ghost use Rattle.reply_model.specs.Laws.{IsReplyTo, AreFirstThatFit, GivesEntry, GivesRows, is_moving, AreLayersOfBytes, AreOwned, FitsFields};
 ghost use Rattle.stack_model.specs.Numbers.{Place, nodes, number};
 ghost use Rattle.stack_model.specs.Attributes.{attr_of};
 ghost use Rattle.reply_model.specs.Rows.{Row, fitting};
@@ -111,11 +111,12 @@ pub fn lasting_replies_differ_in_four_ways()
         ≡ balance_after stack Fresh messages node }
 {}
 
-/// Attributes fit their fields, and numbers are no more than the nodes.
+/// Attributes fit their fields, where those of the rows and of the owner do, and numbers are no
+/// more than the nodes.
 #[tactic(auto, using(crate::proofs::Widths::attributes_fit, crate::proofs::Widths::numbers_fit))]
 pub fn attributes_fit_their_fields()
     ensures fields { (stack : Stacked) (p : Place) →
-        AreLayersOfBytes stack.layers → FitsFields (attr_of stack p) }
+        AreLayersOfBytes stack.layers → AreOwned stack → FitsFields (attr_of stack p) }
     ensures numbers { (entries : List Entry) (p : Place) →
         number entries p ≤ length (nodes entries) }
 {}

@@ -16,7 +16,7 @@ use Rattle.fuse_wire.specs.Stream.{IsMessage, field}
 use Rattle.fuse_wire.proofs.Sizes.{length-direntplus}
 use Rattle.stack_model.specs.Listing.{Stacked}
 use Rattle.stack_model.specs.Numbers.{Place, number, node_of}
-use Rattle.stack_model.specs.Attributes.{mode, attr_of}
+use Rattle.stack_model.specs.Attributes.{mode_at, attr_of}
 use Rattle.reply_model.specs.declared.moves.Move.{Move}
 use Rattle.reply_model.specs.declared.session.Agreement.{Agreement}
 use Rattle.reply_model.specs.declared.session.Session.{Session}
@@ -199,7 +199,7 @@ module _ (stack : Stacked) where
   unfolding direntplus_of
   row_some r =
       let entry = if is_child r then Some (attr_of stack r.1.place) else None in
-      let l = length-direntplus entry (number stack.entries r.1.place) r.0 (mode stack.layers r.1.place / 2 ^ 12) r.1.name in
+      let l = length-direntplus entry (number stack.entries r.1.place) r.0 (mode_at stack r.1.place / 2 ^ 12) r.1.name in
       omega arith
 
   weight_taken : (f : Forget) (rest : List Move) → f.nlookup < 2 ^ 64 → weight (cons_option (take_back stack f) rest) ≤ 2 ^ 64

@@ -173,5 +173,6 @@ fn end_of<A: Allocator>(row: &Row<A>) -> u8 {
 fn read_node<A: Allocator>(table: &Table<A>, number: u64, balances: &[i128]) -> Option<u64> {
     let attr = table.attr(number)?;
     let balance = balances.get(number.wrapping_sub(1) as usize)?;
-    Some(attr.size ^ u64::from(attr.mode ^ attr.nlink) ^ u64::from(*balance == 0))
+    let told = attr.size ^ attr.seconds ^ u64::from(attr.mode ^ attr.nlink);
+    Some(told ^ u64::from(*balance == 0))
 }

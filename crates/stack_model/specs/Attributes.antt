@@ -1,10 +1,14 @@
--- Attributes of a place, as Linux's stat has them, and its data. Owners and times are all 0.
-use Rattle.std.specs.Prelude.{ℕ, ◌+◌, ◌-◌, ◌*◌, ◌/◌, ◌%◌, ◌^◌, List, [], min, Bool, take, drop, sum_by, count_by, slice_index_or, bit_and, bit_or, if◌then◌else◌, true, false}
+-- Attributes of a place, as Linux's stat has them, and its data: what its header says, and what a
+-- row of its layer's trailer does.
+use Rattle.std.specs.Prelude.{ℕ, ◌+◌, ◌-◌, ◌*◌, ◌/◌, ◌%◌, ◌^◌, List, [], min, Bool, Option, None, Some, take, drop, sum_by, count_by, slice_index_or, bit_and, bit_or, if◌then◌else◌, true, false}
 use Rattle.std.specs.Option.{option_map_or}
 use Rattle.romfs_format.specs.declared.head.Kind.{Kind}
 use Rattle.romfs_format.specs.declared.head.Kind.TheVariants.{HardLink, Directory, Regular, SymLink, Block, Character, Socket, Fifo}
+use Rattle.romfs_format.specs.declared.attribute_row.AttributeRow.{AttributeRow}
 use Rattle.romfs_format.specs.Fields.{kind, exec, size, spec, name, data_at}
+use Rattle.romfs_format.specs.Trailer.{row_at}
 use Rattle.node_attr.specs.declared.attr.Attr.{Attr}
+use Rattle.node_attr.specs.declared.owner.Owner.{Owner}
 use Rattle.stack_model.specs.Listing.{Stacked}
 use Rattle.stack_model.specs.Numbers.{Place, place, same_place, number, children}
 use Rattle.std.specs.Prelude.{length}
@@ -46,6 +50,20 @@ rdev_of _ s = 0
 abbrev pub blocks_of : ℕ → ℕ
 blocks_of n = (n + 511) / 512
 
+-- a mode of which a row says the low 12 bits; the type stays the header's
+abbrev pub mode_by : Option AttributeRow → ℕ → ℕ
+mode_by None mode = mode
+mode_by (Some row) mode = mode / 2 ^ 12 * 2 ^ 12 + row.mode % 2 ^ 12
+
+-- whom the row says, or else this owner
+abbrev pub owner_by : Option AttributeRow → Owner → Owner
+owner_by None owner = owner
+owner_by (Some row) owner = record { uid = row.uid; gid = row.gid }
+
+-- the row of a place among those of its layer, if there is one
+abbrev pub row_in : List (List AttributeRow) → Place → Option AttributeRow
+row_in rows p = row_at (slice_index_or rows p.0 []) p.1
+
 -- the blocks of all layers
 abbrev pub blocks_all : List (List ℕ) → ℕ
 blocks_all layers = sum_by (λ a. blocks_of (length a)) layers
@@ -63,7 +81,7 @@ module _ (layers : List (List ℕ)) where
   abbrev pub is_directory_at : Place → Bool
   is_directory_at p = is_directory (kind_at p)
 
-  -- the mode of a place, by its kind and whether it is executable
+  -- the mode that the header at a place says, by its kind and whether it is executable
   abbrev pub mode : Place → ℕ
   mode p = mode_of (kind_at p) (exec (layer_of p) p.1)
 
@@ -93,13 +111,25 @@ module _ (stack : Stacked) where
   abbrev pub nlink : Place → ℕ
   nlink p = min (links p) (2 ^ 32 - 1)
 
-  -- all attributes of a place, with its number
+  -- the row of a place
+  abbrev pub row_of : Place → Option AttributeRow
+  row_of p = row_in stack.rows p
+
+  -- the mode of a place: the header's type, and the row's permissions
+  abbrev pub mode_at : Place → ℕ
+  mode_at p = mode_by (row_of p) (mode stack.layers p)
+
+  -- all attributes of a place, with its number; without a row the time is 0
   abbrev pub attr_of : Place → Attr
   attr_of p = record {
     ino = number stack.entries p;
     size = size_at stack.layers p;
     blocks = blocks_of (size_at stack.layers p);
-    mode = mode stack.layers p;
+    seconds = option_map_or (λ row. row.seconds) (row_of p) 0;
+    nanoseconds = option_map_or (λ row. row.nanoseconds) (row_of p) 0;
+    mode = mode_at p;
     nlink = nlink p;
+    uid = (owner_by (row_of p) stack.owner).uid;
+    gid = (owner_by (row_of p) stack.owner).gid;
     rdev = rdev stack.layers p;
   }

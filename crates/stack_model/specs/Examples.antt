@@ -1,11 +1,13 @@
--- Worked examples: modes of each kind, the numbers of devices, sizes, the paths of two layers, and
--- nested directories.
+-- Worked examples: modes of each kind, the numbers of devices, sizes, the paths of two layers,
+-- nested directories, and what rows say.
 use Rattle.std.specs.Prelude.{◌≡◌, ℕ, false, true, List, [], ◌∷◌, ◌++◌, map, Some, None, codes}
 use Rattle.std.specs.declared.cmp.Ordering.TheVariants.{Less}
 use Rattle.stack_model.specs.Listing.{Entry, Stacked, stacked, path_cmp}
 use Rattle.stack_model.specs.Numbers.{place, path_of, number, parent, children, child}
 use Rattle.romfs_format.specs.declared.head.Kind.TheVariants.{Directory, Regular, SymLink, Block, Character, Socket, Fifo}
-use Rattle.stack_model.specs.Attributes.{mode_of, size_of, device, rdev_of, blocks_of, blocks_all, links, data_of}
+use Rattle.romfs_format.specs.declared.attribute_row.AttributeRow.{AttributeRow}
+use Rattle.node_attr.specs.declared.owner.TheConstants.Owner.{ROOT}
+use Rattle.stack_model.specs.Attributes.{mode_of, mode_by, size_of, device, rdev_of, blocks_of, blocks_all, links, data_of, mode_at, attr_of}
 use Rattle.stack_model.specs.declared.limits.TheConstants.{MAX_LAYERS}
 
 -- without and with the bit that says executable
@@ -121,6 +123,78 @@ pub record NestedExamples : Type 0 where
   pub names_of_c : links nested_stack (0, 12) ≡ 2
   pub names_of_f : links nested_stack (0, 16) ≡ 1
   pub no_data : data_of (six_headers ∷ []) (0, 0) ≡ []
+
+-- a row of a header, with this mode; uid, gid and time are told apart
+abbrev pub row : ℕ → ℕ → AttributeRow
+row place mode = record {
+  place = place;
+  mode = mode;
+  uid = 1000;
+  gid = 42;
+  seconds = 0xffffffffffffffff;
+  nanoseconds = 999999999;
+}
+
+-- the same layer with a row of the directory c, one of the file g, and one of no header; other
+-- nodes belong to user 7 and group 8
+abbrev pub owned_stack : Stacked
+owned_stack = record {
+  layers = six_headers ∷ [];
+  entries = nested;
+  rows = (row 12 0o1777 ∷ row 13 0o777 ∷ row 20 0o4640 ∷ []) ∷ [];
+  owner = record { uid = 7; gid = 8 };
+}
+
+-- the same rows, but of another layer
+abbrev pub elsewhere : Stacked
+elsewhere = record {
+  layers = six_headers ∷ [];
+  entries = nested;
+  rows = [] ∷ (row 12 0o1777 ∷ row 20 0o4640 ∷ []) ∷ [];
+  owner = ROOT;
+}
+
+-- twelve bits are the row's, and the type is the header's, whatever the row has above them
+pub record RowModeExamples : Type 0 where
+  pub no_row : mode_by None 0x41ed ≡ 0x41ed
+  pub sticky : mode_by (Some (row 0 0o1777)) 0x41a4 ≡ 0x43ff
+  pub no_bits : mode_by (Some (row 0 0)) 0x81ed ≡ 0x8000
+  pub setuid : mode_by (Some (row 0 0o4755)) 0x81a4 ≡ 0x89ed
+  pub link : mode_by (Some (row 0 0o777)) 0xa1ff ≡ 0xa1ff
+  pub all_bits : mode_by (Some (row 0 0o7777)) 0x11a4 ≡ 0x1fff
+  pub above : mode_by (Some (row 0 0o100640)) 0x41ed ≡ 0x41a0
+
+-- a node with a row has its mode, ids and time; one without has its header's mode, the owner of
+-- those without, and the time 0
+pub record RowExamples : Type 0 where
+  pub file : attr_of owned_stack (0, 20) ≡ record {
+    ino = 4;
+    size = 0;
+    blocks = 0;
+    seconds = 0xffffffffffffffff;
+    nanoseconds = 999999999;
+    mode = 0x89a0;
+    nlink = 1;
+    uid = 1000;
+    gid = 42;
+    rdev = 0;
+  }
+  pub directory : mode_at owned_stack (0, 12) ≡ 0x43ff
+  pub without : attr_of owned_stack (0, 16) ≡ record {
+    ino = 6;
+    size = 0;
+    blocks = 0;
+    seconds = 0;
+    nanoseconds = 0;
+    mode = 0x81a4;
+    nlink = 1;
+    uid = 7;
+    gid = 8;
+    rdev = 0;
+  }
+  pub root_without : mode_at owned_stack (0, 0) ≡ 0x41ed
+  pub of_other_layer : attr_of elsewhere (0, 20) ≡ attr_of nested_stack (0, 20)
+  pub of_no_layer : mode_at nested_stack (0, 20) ≡ 0x81a4
 
 -- the limit of a stack
 pub record LimitExamples : Type 0 where

@@ -6,6 +6,9 @@ use Rattle.std.specs.declared.cmp.Ordering.TheVariants.{Less}
 use Rattle.std.specs.List.{AllByRecursion}
 use Rattle.std.specs.Cmp.Lexicographic.{slice_cmp}
 use Rattle.std.specs.Ordering.{nat_cmp}
+use Rattle.node_attr.specs.declared.owner.Owner.{Owner}
+use Rattle.node_attr.specs.declared.owner.TheConstants.Owner.{ROOT}
+use Rattle.romfs_format.specs.declared.attribute_row.AttributeRow.{AttributeRow}
 use Rattle.romfs_format.specs.Links.{IsFinal}
 use Rattle.stack_model.specs.Stack.{Path, Shows}
 
@@ -15,14 +18,17 @@ pub record Entry : Type 0 where
   pub layer : ℕ
   pub header : ℕ
 
--- layers, the lowest first, and entries that they show
+-- layers, the lowest first, and entries that they show; the rows of attributes of each layer, and
+-- whom the nodes belong to that have none
 pub record Stacked : Type 0 where
   pub layers : List (List ℕ)
   pub entries : List Entry
+  pub rows : List (List AttributeRow)
+  pub owner : Owner
 
--- the same, of its parts
+-- layers that have no rows, where all belongs to the superuser
 abbrev pub stacked : List (List ℕ) → List Entry → Stacked
-stacked layers entries = record { layers = layers; entries = entries }
+stacked layers entries = record { layers = layers; entries = entries; rows = []; owner = ROOT }
 
 -- by names, these by bytes; a list comes before its extensions
 abbrev pub path_cmp : Path → Path → Ordering

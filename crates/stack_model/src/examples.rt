@@ -1,7 +1,7 @@
 //! Worked examples of attributes and of listed paths, by computation.
 #![tactic(auto, unfolding(crate::proofs::Computing::stacks_on_literals))]
 
-ghost use Rattle.stack_model.specs.Examples.{ModeExamples, DeviceExamples, SizeExamples, LayerExamples, LimitExamples, NestedExamples};
+ghost use Rattle.stack_model.specs.Examples.{ModeExamples, DeviceExamples, SizeExamples, LayerExamples, LimitExamples, NestedExamples, RowModeExamples, RowExamples};
 
 /// The mode of each kind.
 pub fn modes_example()
@@ -26,6 +26,16 @@ pub fn layers_example()
 /// Nested directories: what lies in which, and how many names they have.
 pub fn nested_example()
     ensures { NestedExamples }
+{}
+
+/// Which bits of a mode a row says.
+pub fn row_modes_example()
+    ensures { RowModeExamples }
+{}
+
+/// Attributes of nodes with and without a row.
+pub fn rows_example()
+    ensures { RowExamples }
 {}
 
 /// The number of the limit.

@@ -1,12 +1,15 @@
 //! Laws of stacking and numbering.
 
-ghost use Rattle.std.specs.Prelude.{◌≡◌, ◌≢◌, ◌↔◌, ◌⊎◌, ◌+◌, ◌<◌, ◌≤◌, ◌++◌, [], ◌∷◌, ℕ, List, Some, IsSome, length, codes};
+ghost use Rattle.std.specs.Prelude.{◌≡◌, ◌≢◌, ◌↔◌, ◌⊎◌, ◌+◌, ◌/◌, ◌%◌, ◌^◌, ◌<◌, ◌≤◌, ◌++◌, [], ◌∷◌, ℕ, List, None, Some, IsSome, length, codes};
 ghost use Rattle.std.specs.List.{AllByRecursion};
+ghost use Rattle.node_attr.specs.declared.owner.TheConstants.Owner.{ROOT};
+ghost use Rattle.romfs_format.specs.declared.attribute_row.AttributeRow.{AttributeRow};
 ghost use Rattle.romfs_format.specs.declared.head.Kind.TheVariants.{Directory};
 ghost use Rattle.romfs_format.specs.Fields.{kind};
 ghost use Rattle.romfs_format.specs.Chains.{Has};
 ghost use Rattle.stack_model.specs.Stack.{Path, IsPlain, IsIn, HasDirectory, HasOther, Cuts, Shows, IsFree, IsCut};
-ghost use Rattle.stack_model.specs.Listing.{Entry, IsAmong, IsListing};
+ghost use Rattle.stack_model.specs.Attributes.{mode, mode_at, row_of, attr_of};
+ghost use Rattle.stack_model.specs.Listing.{Entry, Stacked, stacked, IsAmong, IsListing};
 ghost use Rattle.stack_model.specs.Numbers.{Place, place, nodes, number_of, node_of};
 
 /// A list of layers has at most one listing.
@@ -80,4 +83,17 @@ pub fn numbers_are_places()
     ensures entries { (entries : List Entry) (e f : Entry) → IsAmong e entries → IsAmong f entries →
         IsSome (number_of entries (place e))
         × ((number_of entries (place e) ≡ number_of entries (place f)) ↔ (place e ≡ place f)) }
+{}
+
+/// Modes: the type is always the header's; a row says all of the other bits. Where a place has no
+/// row, and all without one belongs to the superuser, its attributes are those without any rows.
+#[tactic(auto, using(crate::proofs::Modes::modes))]
+pub fn types_are_the_headers()
+    ensures types { (stack : Stacked) (p : Place) →
+        mode_at stack p / 2 ^ 12 ≡ mode stack.layers p / 2 ^ 12 }
+    ensures bits { (stack : Stacked) (p : Place) (row : AttributeRow) →
+        row_of stack p ≡ Some row → mode_at stack p % 2 ^ 12 ≡ row.mode % 2 ^ 12 }
+    ensures without { (stack : Stacked) (p : Place) →
+        row_of stack p ≡ None → stack.owner ≡ ROOT →
+        attr_of stack p ≡ attr_of (stacked stack.layers stack.entries) p }
 {}

@@ -1,24 +1,27 @@
 -- What a table's parts say of the node with a number. A number is held exactly where it is in use
 -- (`here`, `nowhere`), and a directory where the place is one (`found`, `not_found`); the others
 -- say of each reader that what it reads is what the stack says.
-use Rattle.std.proofs.Common.{◌≡◌, ◌∙◌, sym, ap, subst, ℕ, zero, suc, ◌<◌, ◌≤◌, inl, inr, List, [], ◌∷◌, length, map, Bool, true, false, Option, Some, None, Bor, MatchOption, cond, refl, arith}
-use Rattle.std.specs.Prelude.{slice_get, slice_range, find, unwrap_or}
-use Rattle.std.specs.List.{slice_index_or}
+use Rattle.std.proofs.Common.{◌≡◌, ◌∙◌, sym, ap, subst, ℕ, zero, suc, ◌<◌, ◌≤◌, inl, inr, List, [], ◌∷◌, length, map, Bool, true, false, ◌||◌, Option, Some, None, Bor, MatchOption, cond, refl, arith}
+use Rattle.std.specs.Prelude.{slice_get, slice_range, find, is_some, unwrap_or}
+use Rattle.std.specs.List.{list_any, slice_index_or}
 use Rattle.std.specs.Option.{option_map, option_map_or, option_and_then}
 use Rattle.std.proofs.lemmas.Option.{slice_get_within, slice_get-get_or, slice_get_past, slice_get_cases, get_or_from_slice_get}
 use Rattle.romfs_reader.specs.Readers.{bytes_at, IsPart}
-use Rattle.stack_model.specs.Listing.{Entry}
+use Rattle.romfs_format.specs.declared.attribute_row.AttributeRow.{AttributeRow}
+use Rattle.stack_model.specs.Listing.{Entry, Stacked, stacked}
 use Rattle.stack_model.specs.Numbers.{Place, Child, nodes, node_of, number_of, number, same_name, children, child}
-use Rattle.stack_model.specs.Attributes.{is_directory, is_directory_at, kind_at, attr_of}
+use Rattle.stack_model.specs.Attributes.{is_directory, is_directory_at, kind_at, blocks_of, mode_by, owner_by, row_in, attr_of}
 use Rattle.stack_model.proofs.Numbering.{number_used}
+use Rattle.node_attr.specs.declared.attr.Attr.{Attr}
+use Rattle.node_attr.specs.declared.owner.Owner.{Owner}
 use Rattle.table_reader.specs.declared.node.Node.{Node}
 use Rattle.table_reader.specs.declared.node.Brief.{Brief}
+use Rattle.table_reader.specs.declared.node.Stamp.{Stamp}
 use Rattle.table_reader.specs.declared.directory.Directory.{Directory}
-use Rattle.stack_model.specs.Listing.{Stacked}
 use Rattle.table_reader.specs.Rows.{Line, number_named}
 use Rattle.table_reader.specs.Directories.{HeldDirectories}
 use Rattle.table_reader.specs.Readers.{TellsNode, attr_at, parent_of, parent_at, child_of, child_at, rows_of, rows_at, data_of_number}
-use Rattle.table_reader.specs.Held.{held_at, kept_of, directory_held, brief_of, attr_held, HaveKeys, IsHeldDirectory, IsNode, IsTable}
+use Rattle.table_reader.specs.Held.{held_at, kept_of, directory_held, row_held, brief_by, stamp_by, briefs_of, stamps_of, stamp_held, attr_held, HaveKeys, IsHeldDirectory, IsNode, IsTable}
 
 -- the number of a place that has one
 number_is : (entries : List Entry) (n : ℕ) (p : Place) → node_of entries n ≡ Some p → number entries p ≡ n
@@ -49,6 +52,70 @@ held_map f [] (suc k) = refl
 held_map f (x ∷ all) (suc zero) = refl
 held_map f (x ∷ all) (suc (suc k)) = held_map f all (suc k)
 
+-- attributes of the same numbers, row and owner are the same
+abbrev attr_by : Owner → ℕ → ℕ → ℕ → ℕ → ℕ → Option AttributeRow → Attr
+attr_by owner n size mode nlink rdev row = record {
+  ino = n;
+  size = size;
+  blocks = blocks_of size;
+  seconds = option_map_or (λ (r : AttributeRow). r.seconds) row 0;
+  nanoseconds = option_map_or (λ (r : AttributeRow). r.nanoseconds) row 0;
+  mode = mode_by row mode;
+  nlink = nlink;
+  uid = (owner_by row owner).uid;
+  gid = (owner_by row owner).gid;
+  rdev = rdev;
+}
+
+same_attr : (owner : Owner) {n n' size size' mode mode' nlink nlink' rdev rdev' : ℕ} {row row' : Option AttributeRow} → n ≡ n'
+    → size ≡ size' → mode ≡ mode' → nlink ≡ nlink' → rdev ≡ rdev' → row ≡ row'
+    → attr_by owner n size mode nlink rdev row ≡ attr_by owner n' size' mode' nlink' rdev' row'
+same_attr owner e f g h i j = rw (e, f, g, h, i, j) refl
+
+held_nowhere : {A : Type 0} (n : ℕ) → held_at {A = A} [] n ≡ None
+held_nowhere zero = refl
+held_nowhere (suc k) = refl
+
+-- where none passes a test, none that is held does
+none_passes : {A : Type 0} (test : A → Bool) (all : List A) (n : ℕ) (x : A) → list_any test all ≡ false → held_at all n ≡ Some x
+    → test x ≡ false
+none_passes test all zero x e f = absurd (cc)
+none_passes test [] (suc k) x e f = absurd (cc)
+none_passes test (y ∷ all) (suc zero) x e f =
+    let same : Some y ≡ Some x = f in
+    let is : y ≡ x = cc in
+    rw (sym is) (first (test y) (list_any test all) e)
+  where
+    first : (a b : Bool) → (a || b) ≡ false → a ≡ false
+    first true b g = g
+    first false b g = refl
+none_passes test (y ∷ all) (suc (suc k)) x e f = none_passes test all (suc k) x (rest (test y) (list_any test all) e) f
+  where
+    rest : (a b : Bool) → (a || b) ≡ false → b ≡ false
+    rest true b g = absurd (cc)
+    rest false b g = g
+
+no_row : (row : Option AttributeRow) → is_some row ≡ false → row ≡ None
+no_row None e = refl
+no_row (Some row) e = absurd (cc)
+
+-- what is held, or not, of whose the nodes are says whose a node is that is held
+stamp_is : (rows : List (List AttributeRow)) (owner : Owner) (held : List Node) (n : ℕ) (node : Node) → held_at held n ≡ Some node
+    → stamp_held (stamps_of rows owner held) owner n ≡ stamp_by (row_held rows node) owner
+stamp_is rows owner held n node e = go (list_any has_row held) refl
+  where
+    has_row : Node → Bool
+    has_row x = is_some (row_held rows x)
+
+    of_node : Node → Stamp
+    of_node x = stamp_by (row_held rows x) owner
+
+    go : (b : Bool) → list_any has_row held ≡ b
+        → stamp_held (cond b (map of_node held) []) owner n ≡ stamp_by (row_held rows node) owner
+    go true f = ap (λ o. unwrap_or o (stamp_by None owner)) (held_map of_node held n ∙ ap (option_map of_node) e)
+    go false f = ap (λ o. unwrap_or o (stamp_by None owner)) (held_nowhere {A = Stamp} n)
+        ∙ ap (λ r. stamp_by r owner) (sym (no_row (row_held rows node) (none_passes has_row held n node f e)))
+
 module _ (stack : Stacked) (held : List Node) (directories : HeldDirectories) (blocks : ℕ) (t : IsTable stack held directories blocks) where
   abbrev layers : List (List ℕ)
   layers = stack.layers
@@ -56,11 +123,17 @@ module _ (stack : Stacked) (held : List Node) (directories : HeldDirectories) (b
   abbrev entries : List Entry
   entries = stack.entries
 
+  abbrev rows : List (List AttributeRow)
+  rows = stack.rows
+
+  abbrev owner : Owner
+  owner = stack.owner
+
   -- a number that is held is in use, and the node says what it should
   pub record IsHere (n : ℕ) (node : Node) : Type 0 where
     pub at : Place
     pub is : node_of entries n ≡ Some at
-    pub holds : IsNode stack directories node at
+    pub holds : IsNode (stacked layers entries) directories node at
 
   -- where a node is held of a number, it is the node of the number's place
   pub here : (n : ℕ) (node : Node) → held_at held n ≡ Some node → IsHere n node
@@ -87,45 +160,48 @@ module _ (stack : Stacked) (held : List Node) (directories : HeldDirectories) (b
       let h = here n node.now e in
       record { place_is = h.is ∙ ap Some (sym h.holds.place); kind_is = h.holds.kind ∙ ap (kind_at layers) (sym h.holds.place) }
 
-  attr_same : (n : ℕ) (node : Node) (p : Place) → IsNode stack directories node p → number entries p ≡ n
-      → attr_held n (brief_of node) ≡ attr_of stack p
-  attr_same n node p h i =
-      let size = h.size in
-      let mode_is = h.mode_is in
-      let nlink_is = h.nlink_is in
-      let rdev_is = h.rdev_is in
-      cc
+  attr_same : (n : ℕ) (node : Node) (p : Place) → IsNode (stacked layers entries) directories node p → number entries p ≡ n
+      → attr_held n (brief_by (row_held rows node) node) (stamp_by (row_held rows node) owner) ≡ attr_of stack p
+  attr_same n node p h i = same_attr owner (sym i) h.size h.mode_is h.nlink_is h.rdev_is (ap (row_in rows) h.place)
 
-  attr_here : (n : ℕ) (node : Node) → held_at held n ≡ Some node → Some (attr_held n (brief_of node)) ≡ attr_at stack n
+  attr_here : (n : ℕ) (node : Node) → held_at held n ≡ Some node
+      → Some (attr_held n (brief_by (row_held rows node) node) (stamp_by (row_held rows node) owner)) ≡ attr_at stack n
   attr_here n node e =
       let h = here n node e in
       rw h.is (ap Some (attr_same n node h.at h.holds (number_is entries n h.at h.is)))
 
-  -- the attributes made of what is held in brief are those of its number
-  pub attr_is : (n : ℕ) (brief : Brief) → held_at (map brief_of held) n ≡ Some brief → Some (attr_held n brief) ≡ attr_at stack n
-  attr_is n brief e = go (held_at held n) refl
+  -- the attributes made of what is held in brief, and of whose the node is, are those of its number
+  pub attr_is : (n : ℕ) (brief : Brief) (stamp : Stamp) → held_at (briefs_of rows held) n ≡ Some brief
+      → stamp ≡ stamp_held (stamps_of rows owner held) owner n → Some (attr_held n brief stamp) ≡ attr_at stack n
+  attr_is n brief stamp e s = go (held_at held n) refl
     where
-      go : (o : Option Node) → held_at held n ≡ o → Some (attr_held n brief) ≡ attr_at stack n
-      go None f = absurd (let z = sym e ∙ held_map brief_of held n ∙ ap (option_map brief_of) f in cc)
+      of_node : Node → Brief
+      of_node node = brief_by (row_held rows node) node
+
+      go : (o : Option Node) → held_at held n ≡ o → Some (attr_held n brief stamp) ≡ attr_at stack n
+      go None f = absurd (let z = sym e ∙ held_map of_node held n ∙ ap (option_map of_node) f in cc)
       go (Some node) f =
-          let same : Some brief ≡ Some (brief_of node) = sym e ∙ held_map brief_of held n ∙ ap (option_map brief_of) f in
-          let is : brief ≡ brief_of node = cc in
-          rw is (attr_here n node f)
+          let same : Some brief ≡ Some (of_node node) = sym e ∙ held_map of_node held n ∙ ap (option_map of_node) f in
+          let is : brief ≡ of_node node = cc in
+          rw (is, s ∙ stamp_is rows owner held n node f) (attr_here n node f)
 
   -- what is not held in brief has no attributes
-  pub attr_none : (n : ℕ) → held_at (map brief_of held) n ≡ None → None ≡ attr_at stack n
+  pub attr_none : (n : ℕ) → held_at (briefs_of rows held) n ≡ None → None ≡ attr_at stack n
   attr_none n e = go (held_at held n) refl
     where
+      of_node : Node → Brief
+      of_node node = brief_by (row_held rows node) node
+
       go : (o : Option Node) → held_at held n ≡ o → None ≡ attr_at stack n
       go None f = rw (nowhere n f) refl
-      go (Some node) f = absurd (let z = sym e ∙ held_map brief_of held n ∙ ap (option_map brief_of) f in cc)
+      go (Some node) f = absurd (let z = sym e ∙ held_map of_node held n ∙ ap (option_map of_node) f in cc)
 
   -- a directory that is held is of a number in use, whose place is a directory
   pub record IsFound (n : ℕ) (directory : Directory) : Type 0 where
     pub at : Place
     pub is : node_of entries n ≡ Some at
     pub kind : is_directory_at layers at ≡ true
-    pub holds : IsHeldDirectory stack directories directory at
+    pub holds : IsHeldDirectory (stacked layers entries) directories directory at
 
   found_at : (n : ℕ) (node : Node) (directory : Directory) (h : IsHere n node) (b : Bool) → is_directory node.kind ≡ b
       → cond b (slice_get directories.all node.directory) None ≡ Some directory → IsFound n directory
@@ -138,7 +214,7 @@ module _ (stack : Stacked) (held : List Node) (directories : HeldDirectories) (b
         at = h.at;
         is = h.is;
         kind = ap is_directory (sym h.holds.kind) ∙ e;
-        holds = subst (λ (x : Directory). IsHeldDirectory stack directories x h.at) is d.holds;
+        holds = subst (λ (x : Directory). IsHeldDirectory (stacked layers entries) directories x h.at) is d.holds;
       }
 
   -- a directory that is held is of a number in use, whose place is a directory

@@ -1,17 +1,20 @@
 -- What a table holds, and what of it agrees with the listing of its layers.
-use Rattle.std.specs.Prelude.{◌≡◌, ℕ, zero, suc, ◌≤◌, List, length, map, slice_get, slice_range, All, Bool, Option, Some, None, true, if◌then◌else◌}
-use Rattle.std.specs.Option.{option_and_then}
+use Rattle.std.specs.Prelude.{◌≡◌, ℕ, zero, suc, ◌≤◌, List, [], length, map, slice_get, slice_range, All, Bool, Option, Some, None, is_some, unwrap_or, true, if◌then◌else◌}
+use Rattle.std.specs.List.{list_any}
+use Rattle.std.specs.Option.{option_map_or, option_and_then}
+use Rattle.romfs_format.specs.declared.attribute_row.AttributeRow.{AttributeRow}
 use Rattle.romfs_reader.specs.Readers.{bytes_at, IsPart}
-use Rattle.stack_model.specs.Listing.{Entry, IsListing}
+use Rattle.stack_model.specs.Listing.{Entry, IsListing, Stacked, stacked}
 use Rattle.stack_model.specs.Numbers.{Place, nodes, number, parent}
-use Rattle.stack_model.specs.Attributes.{is_directory, kind_at, mode, size_at, rdev, nlink, blocks_of, blocks_all, data_of}
+use Rattle.stack_model.specs.Attributes.{is_directory, kind_at, mode, mode_by, owner_by, row_in, size_at, rdev, nlink, blocks_of, blocks_all, data_of}
 use Rattle.node_attr.specs.declared.attr.Attr.{Attr}
+use Rattle.node_attr.specs.declared.owner.Owner.{Owner}
 use Rattle.table_reader.specs.declared.node.Node.{Node}
 use Rattle.table_reader.specs.declared.node.Brief.{Brief}
+use Rattle.table_reader.specs.declared.node.Stamp.{Stamp}
 use Rattle.table_reader.specs.declared.directory.Directory.{Directory}
 use Rattle.name_lookup.specs.Keyed.{AreKeyed}
 use Rattle.name_lookup.specs.Noted.{IsNoted}
-use Rattle.stack_model.specs.Listing.{Stacked}
 use Rattle.table_reader.specs.Rows.{names}
 use Rattle.table_reader.specs.Directories.{HeldDirectories}
 use Rattle.table_reader.specs.Readers.{placed, rows_of}
@@ -30,23 +33,55 @@ kept_of directories node =
 abbrev pub directory_held : List Node → HeldDirectories → ℕ → Option Directory
 directory_held held directories n = option_and_then (kept_of directories) (held_at held n)
 
--- the attributes of a node but for its number
-abbrev pub brief_of : Node → Brief
-brief_of node = record {
+-- the row of a node's place
+abbrev pub row_held : List (List AttributeRow) → Node → Option AttributeRow
+row_held rows node = row_in rows (placed node.place)
+
+-- in brief the attributes of a node that has this row or none
+abbrev pub brief_by : Option AttributeRow → Node → Brief
+brief_by row node = record {
   size = node.part.len;
-  mode = node.mode;
+  mode = mode_by row node.mode;
   nlink = node.nlink;
   rdev = node.rdev;
 }
 
+-- whose the node of a row is, and when it was changed; without a row it is this owner's
+abbrev pub stamp_by : Option AttributeRow → Owner → Stamp
+stamp_by row owner = record {
+  seconds = option_map_or (λ r. r.seconds) row 0;
+  nanoseconds = option_map_or (λ r. r.nanoseconds) row 0;
+  uid = (owner_by row owner).uid;
+  gid = (owner_by row owner).gid;
+}
+
+-- in brief the attributes of nodes
+abbrev pub briefs_of : List (List AttributeRow) → List Node → List Brief
+briefs_of rows held = map (λ node. brief_by (row_held rows node) node) held
+
+-- whose nodes are, and when they were changed, where any of them has a row; else nothing
+abbrev pub stamps_of : List (List AttributeRow) → Owner → List Node → List Stamp
+stamps_of rows owner held =
+    if list_any (λ node. is_some (row_held rows node)) held
+    then map (λ node. stamp_by (row_held rows node) owner) held
+    else []
+
+-- what is held of the node with a number, or else the same without a row
+abbrev pub stamp_held : List Stamp → Owner → ℕ → Stamp
+stamp_held stamps owner n = unwrap_or (held_at stamps n) (stamp_by None owner)
+
 -- the attributes of the node with a number
-abbrev pub attr_held : ℕ → Brief → Attr
-attr_held n brief = record {
+abbrev pub attr_held : ℕ → Brief → Stamp → Attr
+attr_held n brief stamp = record {
   ino = n;
   size = brief.size;
   blocks = blocks_of brief.size;
+  seconds = stamp.seconds;
+  nanoseconds = stamp.nanoseconds;
   mode = brief.mode;
   nlink = brief.nlink;
+  uid = stamp.uid;
+  gid = stamp.gid;
   rdev = brief.rdev;
 }
 
@@ -97,11 +132,12 @@ pub record AreNodes (stack : Stacked) (held : List Node) (directories : HeldDire
   pub each : (k : ℕ) (node : Node) (p : Place) → slice_get held k ≡ Some node
       → slice_get (nodes stack.entries) k ≡ Some p → IsNode stack directories node p
 
--- a table of the stack's layers and their listing
+-- a table of the stack's layers and their listing. The nodes say what headers do, whatever rows
+-- there are
 pub record IsTable (stack : Stacked) (held : List Node) (directories : HeldDirectories)
     (blocks : ℕ) : Type 0 where
   pub listing : IsListing stack.layers stack.entries
-  pub are : AreNodes stack held directories
+  pub are : AreNodes (stacked stack.layers stack.entries) held directories
   pub blocks_are : blocks ≡ blocks_all stack.layers
 
 -- the keys of each directory's rows are there
@@ -115,15 +151,16 @@ pub record AreNotedUpTo (held : List Node) (directories : HeldDirectories) (filt
   pub each : (n : ℕ) (d : Directory) → n ≤ last → directory_held held directories n ≡ Some d
       → All (IsNoted filter n) (slice_range directories.keys d.rows_start d.rows_end)
 
--- what a table holds: the attributes of its nodes are held once more, and all keys are noted
-pub record IsHeld (stack : Stacked) (held : List Node) (briefs : List Brief)
+-- what a table holds: the attributes of its nodes are held once more, with what rows say, and all
+-- keys are noted
+pub record IsHeld (stack : Stacked) (held : List Node) (briefs : List Brief) (stamps : List Stamp)
     (directories : HeldDirectories) (filter : List Bool) (blocks : ℕ) : Type 0 where
   pub table : IsTable stack held directories blocks
-  pub briefs_are : briefs ≡ map brief_of held
+  pub briefs_are : briefs ≡ briefs_of stack.rows held
+  pub stamps_are : stamps ≡ stamps_of stack.rows stack.owner held
   pub noted : AreNotedUpTo held directories filter (length held)
 
 -- some listing of the layers makes it a table
 abbrev pub IsSomeTable : List (List ℕ) → List Node → HeldDirectories → ℕ → Type 0
 IsSomeTable layers held directories blocks =
-    (entries : List Entry)
-    × IsTable (record { layers = layers; entries = entries }) held directories blocks
+    (entries : List Entry) × IsTable (stacked layers entries) held directories blocks

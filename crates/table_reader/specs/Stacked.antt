@@ -1,15 +1,25 @@
 -- What a table stands for: a stack of layers, and the paths that it shows.
-use Rattle.std.specs.Prelude.{◌≡◌, ℕ, List, refl}
+use Rattle.std.specs.Prelude.{◌≡◌, ℕ, List, [], refl}
 use Rattle.std.specs.Coded.{Coded, Coded-set, code_by, coded×, coded_ℕ, coded_list}
 use mathlib.Core.HLevel.{Σ_prop_path}
 use mathlib.Core.Logic.{∥∥₁_elim, ∥∥₁_prop}
+use Rattle.romfs_format.specs.declared.attribute_row.AttributeRow.{AttributeRow}
+use Rattle.node_attr.specs.declared.owner.Owner.{Owner}
+use Rattle.node_attr.specs.declared.owner.TheConstants.Owner.{ROOT}
 use Rattle.stack_model.specs.Listing.{Entry, Stacked, IsListing}
 use Rattle.stack_model.proofs.Listings.{one_listing}
 
--- the stack of these layers
-pub record IsTableOf (layers : List (List ℕ)) (stack : Stacked) : Type 0 where
+-- the stack of these layers with these rows, where all that has none belongs to this owner
+pub record IsTableWith (layers : List (List ℕ)) (rows : List (List AttributeRow)) (owner : Owner)
+    (stack : Stacked) : Type 0 where
   pub layers_are : stack.layers ≡ layers
+  pub rows_are : stack.rows ≡ rows
+  pub owner_is : stack.owner ≡ owner
   pub listing : IsListing stack.layers stack.entries
+
+-- the stack of these layers without rows, where all belongs to the superuser
+abbrev pub IsTableOf : List (List ℕ) → Stacked → Type 0
+IsTableOf layers stack = IsTableWith layers [] ROOT stack
 
 -- a listing of the layers
 abbrev pub Listed : List (List ℕ) → Type 0

@@ -6,9 +6,11 @@
 //! for every number up to 2^64 - 1, and takes no memory. What the table's parts have to say of the
 //! listing is its invariant (`specs/Held.antt`). `node_table` makes them: the crates are two, so
 //! that what answers from a table is proved beside its making, and not after it. The crate stands
-//! on `whiteout_tree` for places, on `romfs_reader` for images and on `name_lookup` for look-ups.
+//! on `whiteout_tree` for places, on `romfs_reader` for images, on `attribute_rows` for rows of
+//! attributes and on `name_lookup` for look-ups.
 #![tactic(auto)]
 
+mod attributes;
 mod directory;
 mod guess;
 mod lookup;
@@ -16,11 +18,13 @@ mod node;
 mod row;
 mod table;
 
+pub use attribute_rows::Rows;
+pub use attributes::Attributes;
 pub use directory::{Directories, Directory};
 pub use guess::Guess;
 pub use name_lookup::hashed;
 pub use node::Node;
-pub use node_attr::Attr;
+pub use node_attr::{Attr, Owner};
 pub use romfs_reader::Kind;
 pub use row::Row;
 pub use table::Table;

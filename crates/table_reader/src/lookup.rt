@@ -1,19 +1,20 @@
 //! Look-ups in the parts of a table.
 
-ghost use Rattle.std.specs.Prelude.{◌≡◌, ◌≤◌, ◌+◌, ◌*◌, ⊤, None, Some, MatchOption, IfOk, All, length, map};
+ghost use Rattle.std.specs.Prelude.{◌≡◌, ◌≤◌, ◌+◌, ◌*◌, ⊤, None, Some, MatchOption, IfOk, All, length};
 ghost use Rattle.name_lookup.specs.Names.{Rise, place_of};
 ghost use Rattle.name_lookup.specs.Keyed.{AreKeyed};
 ghost use Rattle.name_lookup.specs.Noted.{IsNoted};
-ghost use Rattle.table_reader.specs.Held.{attr_held, brief_of, held_at, directory_held};
+ghost use Rattle.table_reader.specs.Held.{attr_held, stamp_held, held_at, directory_held};
 ghost use Rattle.table_reader.specs.Held.{HaveKeys, AreNotedUpTo};
 ghost use Rattle.table_reader.specs.Rows.{names};
 
+use crate::attributes::stamp_by;
 use crate::directory::{Directories, Directory};
 use crate::guess::Guess;
-use crate::node::{Brief, Node};
+use crate::node::{Brief, Node, Stamp};
 use crate::row::Row;
 use name_lookup::{Guesses, KeyFilter, find};
-use node_attr::Attr;
+use node_attr::{Attr, Owner};
 use romfs_reader::Kind;
 use std::alloc::{AllocError, Allocator};
 
@@ -36,28 +37,31 @@ pub(crate) fn numbered<T>(all: &[T], number: u64) -> Option<&T>
     all.get((number - 1) as usize)
 }
 
-// The attributes of nodes in brief, in the same order.
-pub(crate) fn briefs_of<A: Allocator>(alloc: A, nodes: &[Node]) -> Result<Vec<Brief, A>, AllocError>
-    ensures { IfOk result (λ briefs. briefs.items ≡ map brief_of nodes.now) }
+// Whose the node with this number is, and when it was changed.
+pub(crate) fn stamp_at(stamps: &[Stamp], owner: Owner, number: u64) -> Stamp
+    ensures { result ≡ stamp_held stamps.now owner number }
 {
-    let mut briefs = Vec::with_capacity(alloc, nodes.len())?;
-    for node in nodes {
-        briefs.push(brief_of(node))?;
+    match numbered(stamps, number) {
+        Some(stamp) => *stamp,
+        None => stamp_by(None, owner),
     }
-    Ok(briefs)
 }
 
-// The attributes of a node with this number, which has these in brief.
-pub(crate) fn attr_of(number: u64, brief: &Brief) -> Attr
-    ensures { result ≡ attr_held number brief.now }
+// The attributes of a node with this number, which has these in brief, and this stamp.
+pub(crate) fn attr_of(number: u64, brief: &Brief, stamp: Stamp) -> Attr
+    ensures { result ≡ attr_held number brief.now stamp }
 {
     let size = u64::from(brief.size);
     Attr {
         ino: number,
         size,
         blocks: (size + 511) / 512,
+        seconds: stamp.seconds,
+        nanoseconds: stamp.nanoseconds,
         mode: brief.mode,
         nlink: brief.nlink,
+        uid: stamp.uid,
+        gid: stamp.gid,
         rdev: brief.rdev,
     }
 }
@@ -141,18 +145,6 @@ pub(crate) fn hints_of<A: Allocator + Copy>(
         }
     }
     Ok(Hints { guesses, filter })
-}
-
-// The attributes of a node in brief.
-fn brief_of(node: &Node) -> Brief
-    ensures { result ≡ brief_of node.now }
-{
-    Brief {
-        size: node.part.len,
-        mode: node.mode,
-        nlink: node.nlink,
-        rdev: node.rdev,
-    }
 }
 
 // The place of this name, where it is the one that was guessed among all rows. None says nothing.

@@ -13,7 +13,7 @@ pub struct Node {
     pub place: Place,
     /// Where its data lie in the image of its layer.
     pub part: Part,
-    /// Type and permissions; 0 until the node is completed.
+    /// Type and permissions, as the header says them; 0 until the node is completed.
     pub mode: u32,
     pub nlink: u32,
     /// The numbers of a device; until the node is completed, its header's spec.info.
@@ -22,12 +22,22 @@ pub struct Node {
     pub directory: usize,
 }
 
-/// The attributes of a node but for its number, in 16 bytes: four nodes' lie in a line of the
-/// processor's cache, where requests for attributes in any order find more of them than of nodes.
+/// The attributes of a node but for its number and its [`Stamp`], in 16 bytes: four nodes' lie in a
+/// line of the processor's cache, where requests for attributes in any order find more of them than
+/// of nodes. The mode is the row's, where there is one.
 #[derive(Clone, Copy, Debug)]
 pub(crate) struct Brief {
     pub(crate) size: u32,
     pub(crate) mode: u32,
     pub(crate) nlink: u32,
     pub(crate) rdev: u32,
+}
+
+/// Whose a node is, and when it was changed last.
+#[derive(Clone, Copy, Debug)]
+pub(crate) struct Stamp {
+    pub(crate) seconds: u64,
+    pub(crate) nanoseconds: u32,
+    pub(crate) uid: u32,
+    pub(crate) gid: u32,
 }

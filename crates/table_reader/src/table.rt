@@ -4,28 +4,32 @@ ghost use Rattle.std.specs.Prelude.{◌≡◌, ◌<◌, ◌+◌, ◌^◌, length
 ghost use Rattle.stack_model.specs.Listing.{IsListing};
 ghost use Rattle.stack_model.specs.Numbers.{nodes};
 ghost use Rattle.stack_model.specs.Attributes.{blocks_all};
-ghost use Rattle.table_reader.specs.Stacked.{Listed, listed_once, IsTableOf};
+ghost use Rattle.table_reader.specs.Stacked.{Listed, listed_once, IsTableWith};
 ghost use Rattle.table_reader.specs.Held.{IsSomeTable};
 ghost use Rattle.table_reader.specs.Readers.{TellsNode, attr_at, parent_at, child_at, rows_at, data_of_number};
 
+use crate::attributes::{Attributes, briefs_of, stamps_of};
 use crate::directory::{Directories, Directory};
 use crate::guess::Guess;
 use crate::lookup::{
-    Hints, attr_of, briefs_of, directory_at, hints_of, node_at, numbered, place_of,
+    Hints, attr_of, directory_at, hints_of, node_at, numbered, place_of, stamp_at,
 };
-use crate::node::{Brief, Node};
+use crate::node::{Brief, Node, Stamp};
 use crate::row::Row;
-use node_attr::Attr;
+use attribute_rows::Rows;
+use node_attr::{Attr, Owner};
 use romfs_reader::Image;
 use std::alloc::{AllocError, Allocator, Global};
 use std::marker::Model;
+use std::snapshot::Snapshot;
 
 /// The nodes of a stack of layers, by number: attributes, rows and data.
 ///
-/// A clause sees the layers and their listing. Each node and row takes at most 113 bytes beside
-/// a name of more than 22 (16 of them for guesses of where names stand), and a directory 32 more.
-/// No reader takes memory, and each answers for every number: 1 is the root, and a number that is
-/// not in use has nothing.
+/// A clause sees the layers, their listing, the layers' rows of attributes, and whom nodes without
+/// a row belong to. Each node and row takes at most 113 bytes beside a name of more than 22 (16 of
+/// them for guesses of where names stand), a directory 32 more, and each node 24 more where any has
+/// a row of attributes. No reader takes memory, and each answers for every number: 1 is the root,
+/// and a number that is not in use has nothing.
 ///
 /// ```text
 /// if let Some(number) = table.child(1, b"etc") {
@@ -39,13 +43,19 @@ use std::marker::Model;
 /// together; beside each row lies the key by which its name is found (`name_lookup`), where a guess
 /// does not tell the row. A node keeps where its data lie, so no answer parses a header, and only a
 /// directory keeps more: where its rows lie, and which directory is above. Attributes lie once more
-/// in a list of their own, since most requests ask for nothing else of a node.
+/// in lists of their own, since most requests ask for nothing else of a node. Rows of attributes
+/// are sought once, when these lists are made, and then let go.
 #[derive(Drop)]
 pub struct Table<A: Allocator> {
     images: Vec<Image<A>, A>,
     nodes: Vec<Node, A>,
     // The attributes of the nodes, in the same order.
     briefs: Vec<Brief, A>,
+    // Whose the nodes are, in the same order; none where no node has a row of attributes.
+    stamps: Vec<Stamp, A>,
+    // What clauses see of the rows of attributes, of which none is kept.
+    rows: Snapshot<Vec<Rows<A>, A>>,
+    owner: Owner,
     directories: Directories<A>,
     hints: Hints<A>,
     blocks: u64,
@@ -55,6 +65,8 @@ pub struct Table<A: Allocator> {
 const _: () = prove!(size_of::<Node>() <= 40);
 
 const _: () = prove!(size_of::<Brief>() <= 16);
+
+const _: () = prove!(size_of::<Stamp>() <= 24);
 
 const _: () = prove!(size_of::<Node>() + size_of::<Row<Global>>() + size_of::<u64>() <= 80);
 
@@ -66,32 +78,52 @@ impl<A: Allocator> Model for Table<A> {
 
     ghost Value = { Stacked };
 
-    ghost view = { λ held. record { layers = held.images.items; entries = held.listing.0 } };
+    ghost view = { λ held. record {
+      layers = held.images.items;
+      entries = held.listing.0;
+      rows = held.rows.value.items;
+      owner = held.owner;
+    } };
 
     ghost invariant = { λ held.
-        IsHeld (record { layers = held.images.items; entries = held.listing.0 })
-        held.nodes.items held.briefs.items held.directories held.hints.filter held.blocks };
+        IsHeld
+        (record {
+          layers = held.images.items;
+          entries = held.listing.0;
+          rows = held.rows.value.items;
+          owner = held.owner;
+        })
+        held.nodes.items held.briefs.items held.stamps.items held.directories held.hints.filter
+        held.blocks };
 }
 
 impl<A: Allocator + Copy> Table<A> {
     /// The table of images, the lowest layer first, from what it holds of their nodes and
-    /// directories. An error comes only where memory was refused.
+    /// directories, and from what is known beside their headers. An error comes only where memory
+    /// was refused.
     pub fn of_parts(
         alloc: A,
         images: Vec<Image<A>, A>,
         nodes: Vec<Node, A>,
         directories: Directories<A>,
         blocks: u64,
+        attributes: &Attributes<A>,
     ) -> Result<Self, AllocError>
         requires { IsSomeTable images.items nodes.items directories blocks }
-        ensures { IfOk result (λ table. IsTableOf images.items table) }
+        ensures { IfOk result (λ table. IsTableWith images.items attributes.now.rows.items
+            attributes.now.owner table) }
     {
         let hints = hints_of(alloc, &nodes, &directories)?;
-        let briefs = briefs_of(alloc, &nodes)?;
+        let rows = &attributes.rows;
+        let briefs = briefs_of(alloc, &nodes, rows)?;
+        let stamps = stamps_of(alloc, &nodes, rows, attributes.owner)?;
         Ok(Table {
             images,
             nodes,
             briefs,
+            stamps,
+            rows: Snapshot::of(rows),
+            owner: attributes.owner,
             directories,
             hints,
             blocks,
@@ -194,7 +226,8 @@ impl<A: Allocator> Table<A> {
         ensures { result ≡ attr_at self.now number }
     {
         let brief = numbered(&self.briefs, number)?;
-        Some(attr_of(number, brief))
+        let stamp = stamp_at(&self.stamps, self.owner, number);
+        Some(attr_of(number, brief, stamp))
     }
 
     /// The data of a regular file, or the target of a symbolic link; empty where the number is

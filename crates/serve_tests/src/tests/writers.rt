@@ -13,8 +13,12 @@ const NODE: Attr = Attr {
     ino: 2,
     size: 2,
     blocks: 1,
+    seconds: 0,
+    nanoseconds: 0,
     mode: 0x81a4,
     nlink: 1,
+    uid: 0,
+    gid: 0,
     rdev: 0,
 };
 

@@ -1,7 +1,7 @@
 use Rattle.std.proofs.Common.{◌≡◌, ◌∙◌, length, ap, arith}
 use Rattle.std.specs.Prelude.{slice_index}
 use Rattle.std.proofs.lemmas.List.{get_or_default}
-use Rattle.stack_model.specs.Listing.{Stacked}
+use Rattle.stack_model.specs.Listing.{Stacked, stacked}
 use Rattle.node_table.specs.Walks.{walk_of}
 use Rattle.node_table.specs.Numbering.{number_among}
 use Rattle.node_table.proofs.Made.{FirstBranches, IsMadeOf, nodes_begun, has_start, start_within, above_within, next_first, node_made, nodes_ended}
@@ -11,7 +11,7 @@ use Rattle.node_table.proofs.building.make.Goals as goal
 
 -- the stack whose listing the first branches agree with
 abbrev stack : (g : Over) (c : In-loop-at g) → Stacked
-stack g c = record { layers = c.args.images.now; entries = c.loop-at.invariant.1 }
+stack g c = stacked c.args.images.now c.loop-at.invariant.1
 
 -- the first branches of all places, as each turn finds them
 abbrev branches : (g : Over) (c : In-loop-at g) → FirstBranches (stack g c)

@@ -1,5 +1,5 @@
 use Rattle.std.proofs.Common.{List}
-use Rattle.stack_model.specs.Listing.{Entry as Listed}
+use Rattle.stack_model.specs.Listing.{Entry as Listed, stacked}
 use Rattle.whiteout_tree.specs.declared.place.Entry.{Entry}
 use Rattle.node_table.specs.Walks.{Visit, walk_of}
 use Rattle.node_table.specs.Numbering.{number_among}
@@ -11,7 +11,7 @@ use Rattle.node_table.proofs.building.make.Given as goal
 -- first branches stand at their places, and agree with a listing; those so far have nodes
 abbrev pub invariant-loop-at : goal.invariant-loop-at
 invariant-loop-at g l = (first : List (Visit Entry)) × (entries : List Listed)
-    × AgreeWithListing (record { layers = l.images; entries = entries }) (number_among l.walk.visits.items)
+    × AgreeWithListing (stacked l.images entries) (number_among l.walk.visits.items)
     (number_above l.numbered.numbers.items l.walk.above.items) first l.numbered.starts.items l.numbered.paths.items
     × StandAtStarts (walk_of l.walk) l.numbered.numbers.items first l.numbered.starts.items
-    × Making (record { layers = l.images; entries = entries }) l.nodes.items l.directories l.at
+    × Making (stacked l.images entries) l.nodes.items l.directories l.at

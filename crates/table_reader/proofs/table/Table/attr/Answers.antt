@@ -8,5 +8,6 @@ returns-in_err-brief g c = c.from_residual.ensures
     (rw (c.deref.ensures.value, c.self.invariant.briefs_are) at c.in_err-brief.ensures))
 
 pub returns : goal.returns
-returns g c = rw (c.attr_of.ensures, ← c.self.view_is) (attr_is _ _ _ _ c.self.invariant.table c.args.number _
-    (rw (c.deref.ensures.value, c.self.invariant.briefs_are) at c.in_ok-brief.ensures))
+returns g c = rw (c.attr_of.ensures, ← c.self.view_is) (attr_is _ _ _ _ c.self.invariant.table c.args.number _ _
+    (rw (c.deref.ensures.value, c.self.invariant.briefs_are) at c.in_ok-brief.ensures)
+    (rw (c.deref-2.ensures.value, c.self.invariant.stamps_are) at c.stamp_at-stamp.ensures))

@@ -2,7 +2,7 @@ use Rattle.std.proofs.Common.{◌≡◌, length, map, drop, ap, ◌∙◌, arith
 use Rattle.stack_model.specs.Attributes.{blocks_all}
 use Rattle.node_table.specs.Building.{completed}
 use Rattle.node_table.proofs.Made.{table_made}
-use Rattle.node_table.proofs.making.TableOfTree.of.Goals as goal
+use Rattle.node_table.proofs.making.TableOfTree.with_attributes.Goals as goal
 
 pub of_parts-requires : goal.of_parts-requires
 of_parts-requires g c =
