@@ -64,7 +64,6 @@ pub fn structures_have_their_sizes()
 
 /// A reply whose data are read from bytes that are held is the one that is defined, where these
 /// are the data that it should have: no read gives others, and none fails.
-#[tactic(auto, using(crate::proofs::Telling::held_told))]
 pub fn held_data_are_told()
     ensures { (xs : List ℕ) (place unique : ℕ) (defined bytes : List ℕ) →
         drop OUT_HEADER_SIZE defined
