@@ -8,3 +8,4 @@ pub mod Heads
 pub mod Items
 pub mod Bodies
 pub mod Computing
+pub mod Telling

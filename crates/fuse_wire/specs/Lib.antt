@@ -4,6 +4,7 @@ pub mod Requests
 pub mod Reads
 pub mod Structures
 pub mod Replies
+pub mod Told
 pub mod Appends
 pub mod Laws
 pub mod Examples

@@ -1,12 +1,14 @@
 //! What holds of every stream, by the definitions alone.
 
-ghost use Rattle.std.specs.Prelude.{◌≡◌, ◌+◌, ◌*◌, ◌≤◌, length, ◌++◌, ◌∷◌, [], ℕ, List, take, drop};
+ghost use Rattle.std.specs.Prelude.{◌≡◌, ◌+◌, ◌*◌, ◌≤◌, length, ◌++◌, ◌∷◌, [], ℕ, List, take, drop, Some};
 ghost use Rattle.fuse_wire.specs.declared.framing.Framed.{Framed};
 ghost use Rattle.fuse_wire.specs.Frames.{Frames};
 ghost use Rattle.fuse_wire.specs.Stream.{BeginsMessage, IsBad, IsRest, IsSplit};
-ghost use Rattle.fuse_wire.specs.declared.limits.TheConstants.{HEADER_SIZE, MAX_MESSAGE_SIZE, MAX_FORGETS};
+ghost use Rattle.fuse_wire.specs.declared.limits.TheConstants.{HEADER_SIZE, OUT_HEADER_SIZE, MAX_MESSAGE_SIZE, MAX_FORGETS};
 ghost use Rattle.fuse_wire.specs.Requests.{forgets_of};
 ghost use Rattle.fuse_wire.specs.Laws.{BodySizes, ReplySizes, RowSizes};
+ghost use Rattle.fuse_wire.specs.Told.{Reading, IsTold};
+ghost use Rattle.image_bytes.specs.Sources.{held};
 
 /// Every stream is cut into messages and a rest, in one way.
 #[tactic(auto, using(crate::proofs::Splits::one_split, crate::proofs::Splits::some_split))]
@@ -58,4 +60,14 @@ pub fn forgets_are_few()
 pub fn structures_have_their_sizes()
     ensures replies { ReplySizes }
     ensures rows { RowSizes }
+{}
+
+/// A reply whose data are read from bytes that are held is the one that is defined, where these
+/// are the data that it should have: no read gives others, and none fails.
+pub fn held_data_are_told()
+    ensures { (xs : List ℕ) (place unique : ℕ) (defined bytes : List ℕ) →
+        drop OUT_HEADER_SIZE defined
+        ≡ take (length (drop OUT_HEADER_SIZE defined)) (drop place xs) →
+        IsTold (Some (record { source = held xs; place = place })) unique defined bytes →
+        bytes ≡ defined }
 {}

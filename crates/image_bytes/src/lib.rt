@@ -15,6 +15,7 @@ mod contents;
 mod filling;
 mod in_file;
 mod in_memory;
+pub mod laws;
 #[cfg(test)]
 mod tests;
 

@@ -8,3 +8,4 @@ pub mod Given
 pub mod Lasting
 pub mod Balances
 pub mod Widths
+pub mod Following

@@ -1,5 +1,5 @@
 -- Requests one after another: their replies and their moves, the session carried along.
-use Rattle.std.specs.Prelude.{ℕ, List, [], ◌∷◌, ◌++◌, map, fold, ℤ}
+use Rattle.std.specs.Prelude.{◌≡◌, ℕ, List, [], ◌∷◌, ◌++◌, map, fold, ℤ}
 use Rattle.fuse_wire.specs.Requests.{Asked, asked}
 use Rattle.stack_model.specs.Listing.{Stacked}
 use Rattle.reply_model.specs.declared.session.Session.{Session}
@@ -16,6 +16,14 @@ session_at s qs = fold (λ t q. session_after t q.op) s qs
 abbrev pub replies_by : (Session → Asked → List ℕ) → Session → List Asked → List ℕ
 replies_by answered s [] = []
 replies_by answered s (q ∷ qs) = answered s q ++ replies_by answered (session_after s q.op) qs
+
+-- these bytes are replies to requests one after another, whatever may be a reply to one of them
+abbrev pub AreReplies : (Session → Asked → List ℕ → Type 0) → Session → List Asked → List ℕ
+    → Type 0
+AreReplies IsReply s [] bytes = bytes ≡ []
+AreReplies IsReply s (q ∷ qs) bytes =
+    (one : List ℕ) × (rest : List ℕ) × (bytes ≡ one ++ rest) × IsReply s q one
+    × AreReplies IsReply (session_after s q.op) qs rest
 
 -- the moves of requests one after another, whatever one of them moves
 abbrev pub moves_by : (Session → Asked → List Move) → Session → List Asked → List Move

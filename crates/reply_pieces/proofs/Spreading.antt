@@ -15,10 +15,11 @@ use Rattle.reply_model.specs.Moves.{balance, moves}
 use Rattle.reply_model.specs.Replies.{reply}
 use Rattle.reply_model.specs.Sessions.{session_after}
 use Rattle.reply_model.specs.Streams.{moves_by, replies_by, session_at}
+use Rattle.reply_model.proofs.Following.{some_replies}
 use Rattle.lookup_balances.specs.Balances.{balance_at, IsLight, IsMoved}
 use Rattle.lookup_balances.proofs.Sums.{light_on}
 use Rattle.serve_loop.specs.declared.one_round.RoundEnd.{RoundEnd}
-use Rattle.serve_loop.specs.Rounds.{AppendsRound, AreFirst, Output, joined}
+use Rattle.serve_loop.specs.Rounds.{AppendsRound, AreFirst, IsReply, Output, joined}
 use Rattle.serve_loop.proofs.Walking.{first_on, none_first, one_first, session_append}
 use Rattle.reply_pieces.specs.declared.pieces.Piece.{Piece}
 use Rattle.reply_pieces.specs.declared.gathered.RoundPieces.{RoundPieces}
@@ -124,7 +125,7 @@ by_jobs first stack s stream round jobs size pieces old new some bytes f o a p =
     count = f.count;
     answered = record {
       session = f.session;
-      told = refl;
+      told = some_replies (IsReply (answering first stack)) (reply stack) (λ t q. refl) s (map asked f.messages);
       moves = moved_same (flat_map (λ piece. piece.moves.items) p.ordered) (moves_by (moves stack) s
           (map asked f.messages)) old.balances new.balances
           (λ node. (all_move stack jobs size pieces p.ordered node some a.answered a.once p.order

@@ -1,7 +1,7 @@
 -- What serving over images comes to, in the words of the headline: served over good images, or
 -- refused, for a wrong number or a broken layer. Each is what `serve` promises, with its other
 -- cases ruled out.
-use Rattle.std.proofs.Common.{◌≡◌, ◌∙◌, ap, subst, length, ℕ, inl, inr, Result, Ok, Err, IsErrAnd, refl}
+use Rattle.std.proofs.Common.{◌≡◌, ◌∙◌, ap, subst, length, ℕ, List, map, inl, inr, Result, Ok, Err, IsErrAnd, refl}
 use Rattle.devices.specs.States.{Devices}
 use Rattle.romfs_format.specs.declared.rule.ImageFault.{ImageFault}
 use Rattle.stack_model.specs.Numbers.{nodes}
@@ -10,16 +10,22 @@ use Rattle.stack_prepare.specs.declared.refusal.Refusal.{Refusal}
 use Rattle.stack_prepare.specs.declared.refusal.Refusal.TheVariants as refusals
 use Rattle.stack_prepare.specs.Layers.{AreRefused}
 use Rattle.reply_model.specs.declared.session.Session.{Session}
+use Rattle.reply_model.specs.Replies.{reply}
+use Rattle.reply_model.specs.Streams.{replies}
+use Rattle.reply_model.proofs.Following.{as_defined}
+use Rattle.fuse_wire.specs.Requests.{asked}
+use Rattle.serve_loop.specs.Rounds.{IsReply}
+use Rattle.serve_loop.specs.Laws.{HasServed}
 use Rattle.reply_pool.specs.Answers.{answering}
 use Rattle.serve_loop.specs.declared.done.Done.{Done}
 use Rattle.serve_loop.specs.declared.stream_fault.StreamFault.{StreamFault}
 use Rattle.serve_loop.specs.declared.stream_fault.StreamFault.TheVariants.{Turns}
-use Rattle.serve_loop.specs.Serving.{Does, IsRun}
+use Rattle.serve_loop.specs.Serving.{AreRepliesTo, Does, IsRun, Trace}
 use Rattle.serve_loop.proofs.Ends.{served}
 use Rattle.serve_core.specs.declared.stop.Stop.{Stop}
 use Rattle.serve_core.specs.declared.stop.Stop.TheVariants.{Layer, Layers}
 use Rattle.serve_core.specs.Stops.{IsRefusal, stop_of_fault, stop_of_refusal}
-use Rattle.serve_core.specs.Headline.{Call, HasServedAll, IsAtOnce, IsNotBegun, IsRefusedFor, RunsBetween, ServesBetween}
+use Rattle.serve_core.specs.Headline.{Call, HasServedAll, HasServedOver, IsAtOnce, IsNotBegun, IsRefusedFor, RunsBetween, ServesBetween}
 use Rattle.serve_core.proofs.Stops.{broken_told, ended_well, many_told, never_broken, never_many, same_stop}
 
 -- two results that are faults of a stream are so of one
@@ -44,6 +50,16 @@ pub not_begun : {A : Type 0} (call : Call) (result : Result (Done A) Stop) (stop
 not_begun call (Ok done) stop old e r = absurd e
 not_begun call (Err said) stop old e r = record { stop = stop; result_is = ap Err e; refused = r; kept = refl }
 
+-- what may be told over layers that are held are the replies that are defined
+pub as_replied : (first : Session) (stack : Stacked) (messages : List (List ℕ)) (bytes : List ℕ)
+    → AreRepliesTo (answering first stack) messages bytes → bytes ≡ replies stack first messages
+as_replied first stack messages bytes are =
+    as_defined (IsReply (answering first stack)) (reply stack) (λ s q put told. told) first (map asked messages) bytes are
+
+all_served : {A : Type 0} (first : Session) (stack : Stacked) (done : Done A) (t : Trace)
+    → HasServed (answering first stack) (length (nodes stack.entries)) t done → HasServedOver first stack done t
+all_served first stack done t s = record { served = s; told = as_replied first stack s.messages t.put s.answered.put }
+
 module _ {A : Type 0} (call : Call) where
   -- where serving went to its end, all was served over good images
   pub served_over : (done : Done A) (old new : Devices) → ServesBetween call (Ok done) old new → HasServedAll call done old new
@@ -57,9 +73,9 @@ module _ {A : Type 0} (call : Call) where
           put,
           took,
           held,
-          served (answering call.first s.stack) (length (nodes s.stack.entries)) call.turns _ done
+          all_served call.first s.stack done _ (served (answering call.first s.stack) (length (nodes s.stack.entries)) call.turns _ done
               (subst (IsRun (answering call.first s.stack) (length (nodes s.stack.entries)) call.turns _)
-              (ended_well done r.ended r.result_is) r.run),
+              (ended_well done r.ended r.result_is) r.run)),
         );
       }
   served_over done old new (inr n) = (let e = n.result_is in absurd (cc))

@@ -9,6 +9,7 @@ use Rattle.stack_prepare.specs.declared.refusal.Refusal.{Refusal}
 use Rattle.stack_prepare.specs.Layers.{AreRefused}
 use Rattle.stack_prepare.specs.Preparing.{AreStacked}
 use Rattle.reply_model.specs.declared.session.Session.{Session}
+use Rattle.reply_model.specs.Streams.{replies}
 use Rattle.reply_pool.specs.Answers.{answering}
 use Rattle.serve_loop.specs.declared.done.Done.{Done}
 use Rattle.serve_loop.specs.declared.stream_fault.StreamFault.{StreamFault}
@@ -73,14 +74,19 @@ ServesBetween call result old new =
 
 -- ---- what it means
 
+-- a stream was served to its end, and what was put are the replies that are defined over a stack of
+-- layers to all of its messages, one after another
+pub record HasServedOver {A : Type 0} (first : Session) (stack : Stacked) (done : Done A)
+    (t : Trace) : Type 0 where
+  pub served : HasServed (answering first stack) (length (nodes stack.entries)) t done
+  pub told : t.put ≡ replies stack first served.messages
+
 -- the images are good, and all messages of the stream were answered over their stack, to its end
 pub record HasServedAll {A : Type 0} (call : Call) (done : Done A) (old new : Devices)
     : Type 0 where
   pub stack : Stacked
   pub stacked : AreStacked call.profile call.images stack
-  pub served :
-      Does (λ t. HasServed (answering call.first stack) (length (nodes stack.entries)) t done)
-      old new
+  pub served : Does (HasServedOver call.first stack done) old new
 
 -- the images are refused for this, and no device was called
 pub record IsRefusedFor (call : Call) (refusal : Refusal) (old new : Devices) : Type 0 where

@@ -8,7 +8,7 @@ use Rattle.serve_loop.specs.Rounds.{Answering}
 use Rattle.serve_loop.specs.declared.stream_fault.StreamFault.{StreamFault}
 use Rattle.serve_loop.specs.declared.stream_fault.StreamFault.TheVariants.{BadLength, CutOff, Read, Write, Turns}
 use Rattle.serve_loop.specs.declared.done.Done.{Done}
-use Rattle.serve_loop.specs.Serving.{Trace, IsAllTold, IsPrompt, IsRun, Begins, replies_to, flushed_bytes, before, read_failures, write_failures}
+use Rattle.serve_loop.specs.Serving.{Trace, IsAllTold, IsPrompt, IsRun, HaveReplies, flushed_bytes, before, read_failures, write_failures}
 use Rattle.serve_loop.specs.Laws.{HasAnsweredAll, HasServed, HasBadLength, IsCutOff, HasFailed, HasUsedTurns, IsFront}
 
 answered : (by : Answering) (t : Trace) (messages : List (List ℕ)) (rest : List ℕ) → IsSplit t.got messages rest → IsAllTold by t messages
@@ -78,8 +78,8 @@ module _ {A : Type 0} (by : Answering) (nodes turns : ℕ) (t : Trace) where
   -- and that is all replies to the messages into which it is cut, in the one way there is
   pub all_flushed : (result : Result (Done A) StreamFault) (messages : List (List ℕ)) (rest : List ℕ)
       → IsRun by nodes turns t result → IsSplit (before t) messages rest
-      → Begins (replies_to by messages) (flushed_bytes t)
-  all_flushed result messages rest r s = subst (λ m. Begins (replies_to by m) (flushed_bytes t))
+      → HaveReplies by messages (flushed_bytes t)
+  all_flushed result messages rest r s = subst (λ m. HaveReplies by m (flushed_bytes t))
       (one_split (before t) r.prompt.messages messages r.prompt.rest rest r.prompt.split s).0 r.prompt.told
 
 -- a count rose by one where the result says so, and nowhere else

@@ -4,11 +4,9 @@
 use Rattle.std.proofs.Common.{◌≡◌, ◌∙◌, sym, ap, subst, ℕ, ◌+◌, ◌*◌, ◌<◌, ◌≤◌, ◌^◌, inl, inr, ℤ, List, [], ◌∷◌, ◌++◌, length, drop, map, refl, arith, append_assoc, length-append, Result, Ok, Err, IsErrAnd, IfErr}
 use Rattle.std.specs.List.{AllByRecursion}
 use Rattle.std.proofs.KnownBytes.{Appends-nil, Appends-trans}
-use Rattle.std.proofs.lemmas.List.{map-append}
 use Rattle.fuse_wire.specs.Stream.{IsMessage, IsRest}
 use Rattle.fuse_wire.specs.Requests.{asked}
 use Rattle.reply_model.specs.declared.session.Session.{Session}
-use Rattle.reply_model.specs.Streams.{replies_by}
 use Rattle.devices.specs.declared.counts.Pushes.{Pushes}
 use Rattle.devices.specs.Pushing.{HasFlushed}
 use Rattle.devices.specs.States.{SinkState}
@@ -16,7 +14,7 @@ use Rattle.serve_loop.specs.declared.one_round.RoundEnd.{RoundEnd}
 use Rattle.reply_model.specs.Streams.{moves_by}
 use Rattle.serve_loop.specs.Rounds.{Answering, joined, AreAnswered, IsRound}
 use Rattle.lookup_balances.proofs.Sums.{within_moved, within_less}
-use Rattle.serve_loop.proofs.Walking.{replies_append, joined_append, both, none_answered, answered_on, first_within}
+use Rattle.serve_loop.proofs.Walking.{messages_on, joined_append, both, none_answered, answered_on, first_within}
 use Rattle.serve_loop.specs.declared.stream_fault.StreamFault.{StreamFault}
 use Rattle.serve_loop.specs.declared.stream_fault.StreamFault.TheVariants.{Write, Memory}
 use Rattle.serve_loop.specs.Steps.{ServingState, IsSmall, Goes, Proceeds, sink_failures, Halts}
@@ -207,6 +205,8 @@ module _ (by : Answering) where
     halt = tt;
     taken = refl;
     each = tt;
+    replies = [];
+    are = refl;
     told = record { more = []; is = refl };
     failures = omega arith;
     late = omega arith;
@@ -223,7 +223,9 @@ module _ (by : Answering) where
     halt = tt;
     taken = r.first.whole;
     each = r.first.each;
-    told = record { more = rest; is = sym r.answered.told ∙ e };
+    replies = all;
+    are = r.answered.told;
+    told = record { more = rest; is = e };
     failures = f;
     late = l;
   }
@@ -241,16 +243,9 @@ module _ (by : Answering) where
         ∙ sym (append_assoc (joined ms) (joined k.messages) k.rest)
         ∙ ap (λ v. v ++ k.rest) (sym (joined_append ms k.messages));
     each = both ms k.messages g.each k.each;
-    told = record {
-      more = k.told.more;
-      is =
-          ap (replies_by by.reply a.session) (map-append asked ms k.messages)
-          ∙ replies_append by.reply a.session (map asked ms) (map asked k.messages)
-          ∙ ap (λ s. replies_by by.reply a.session (map asked ms) ++ replies_by by.reply s (map asked k.messages)) (sym g.answered.session)
-          ∙ ap (λ v. v ++ replies_by by.reply b.session (map asked k.messages)) (sym g.answered.told)
-          ∙ ap (λ v. put ++ v) k.told.is
-          ∙ sym (append_assoc put more k.told.more);
-    };
+    replies = put ++ k.replies;
+    are = messages_on by a.session b.session ms k.messages put k.replies g.answered.session g.answered.told k.are;
+    told = record { more = k.told.more; is = ap (λ v. put ++ v) k.told.is ∙ sym (append_assoc put more k.told.more) };
     failures = k.failures ∙ ap (λ n. n + sink_failures fault) h.failures;
     late = (let l = not_late p q put h in let m = k.late in let w = length-append put more in omega arith);
   }

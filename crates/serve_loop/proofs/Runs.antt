@@ -2,12 +2,9 @@
 -- pull gives bytes (`fed`), and what is whole is answered (`went_round`). Each other lemma is an
 -- end of the run, and says that it keeps the one promise (`IsRun`).
 use Rattle.std.proofs.Common.{◌≡◌, ◌∙◌, sym, ap, subst, ℕ, ◌+◌, ◌^◌, ◌<◌, ◌≤◌, inl, inr, ℤ, List, [], ◌++◌, length, map, refl, arith, length-append, append_assoc, append-nil, Result, Ok, Err, Some, IsErrAnd}
-use Rattle.std.proofs.lemmas.List.{map-append}
 use Rattle.devices.specs.declared.limits.TheConstants.{PULL_SIZE}
 use Rattle.fuse_wire.specs.Stream.{IsBad, IsOpen, IsRest, IsSplit}
-use Rattle.fuse_wire.specs.Requests.{asked}
 use Rattle.fuse_wire.proofs.Splits.{some_split}
-use Rattle.reply_model.specs.Streams.{replies_by, session_at}
 use Rattle.devices.specs.declared.failed.Failed.{Failed}
 use Rattle.devices.specs.declared.counts.LastPull.TheVariants.{End}
 use Rattle.devices.specs.declared.counts.Pulls.{Pulls}
@@ -15,18 +12,29 @@ use Rattle.devices.specs.declared.counts.Pushes.{Pushes}
 use Rattle.devices.specs.Counting.{pulled}
 use Rattle.devices.specs.Pushing.{HasFlushed}
 use Rattle.serve_loop.specs.Rounds.{Answering, joined}
-use Rattle.serve_loop.proofs.Walking.{replies_append, joined_append, both}
+use Rattle.serve_loop.proofs.Walking.{messages_on, joined_append, both}
 use Rattle.serve_loop.specs.declared.stream_fault.StreamFault.{StreamFault}
 use Rattle.serve_loop.specs.declared.stream_fault.StreamFault.TheVariants.{BadLength, CutOff, Read, Write, Turns, Memory}
 use Rattle.serve_loop.specs.declared.done.Done.{Done}
-use Rattle.serve_loop.specs.Serving.{Trace, all_but, last_size, before, flushed_bytes, replies_to, moves_of, IsAllTold, AreBalances, IsStopped, ends_met, read_failures, write_failures, IsCounted, IsPrompt, IsRun}
+use Rattle.serve_loop.specs.Serving.{Trace, all_but, last_size, before, flushed_bytes, AreRepliesTo, BeginReplies, moves_of, IsAllTold, AreBalances, IsStopped, ends_met, read_failures, write_failures, IsCounted, IsPrompt, IsRun}
 use Rattle.serve_loop.specs.Steps.{ServingState, IsSmall, Goes, Halts, sink_failures}
 use Rattle.serve_loop.proofs.Rounding.{goes_further, goes_nowhere, not_late}
 use Rattle.serve_loop.proofs.Traces.{start, untouched, pulled_on, pushed_on, IsLow, IsRunning, IsFed, some_counted, end_counted, failure_counted, take_none, take_whole, all_but_last, flushed_late, flushed_more, all_begun, no_bytes, unfinished, zero_more, from_nothing}
 
+-- replies to all messages that were put whole are begun
+all_put : (by : Answering) (ms : List (List ℕ)) (put : List ℕ) → AreRepliesTo by ms put → BeginReplies by ms put
+all_put by ms put are = record {
+  answered = ms;
+  later = [];
+  messages_are = sym (append-nil ms);
+  replies = put;
+  are = are;
+  begun = all_begun put put refl;
+}
+
 module _ (by : Answering) (nodes : ℕ) where
   replies_of : (t : Trace) (v : ServingState) (ms : List (List ℕ)) → Goes by (start by.first nodes t.got) v ms t.put
-      → t.put ≡ replies_to by ms
+      → AreRepliesTo by ms t.put
   replies_of t v ms g = g.answered.told
 
   all_told : (t : Trace) (v : ServingState) (ms : List (List ℕ)) → Goes by (start by.first nodes t.got) v ms t.put → flushed_bytes t ≡ t.put
@@ -43,7 +51,7 @@ module _ (by : Answering) (nodes : ℕ) where
     rest = [];
     split = record { whole = take_none _ [] refl; each = tt; tail = inl (inl refl) };
     good = inl refl;
-    told = record { more = all_but q.unflushed []; is = refl };
+    told = record { replies = []; are = refl; begin = record { more = all_but q.unflushed []; is = refl } };
   }
 
   -- before its first turn a run is under way with nothing done
@@ -68,7 +76,7 @@ module _ (by : Answering) (nodes : ℕ) where
     messages = [];
     rest = [];
     split = record { whole = refl; each = tt; tail = inl (inl refl) };
-    begun = record { more = []; is = refl };
+    begun = all_put by [] [] refl;
     served = tt;
     stopped = s;
     prompt = prompt_first p q;
@@ -99,7 +107,7 @@ module _ (by : Answering) (nodes : ℕ) where
       messages = ms;
       rest = v.rest;
       split = split_of t v ms r.goes (inl r.good);
-      begun = all_begun t.put (replies_to by ms) r.goes.answered.told;
+      begun = all_put by ms t.put r.goes.answered.told;
       served = tt;
       stopped = s;
       prompt = r.prompt;
@@ -140,7 +148,7 @@ module _ (by : Answering) (nodes : ℕ) where
           tail = inl r.good;
         };
         good = r.good;
-        told = all_begun _ _ (sym r.goes.answered.told ∙ sym r.flushed_all);
+        told = record { replies = t.put; are = r.goes.answered.told; begin = all_begun _ _ (sym r.flushed_all) };
       }
 
     -- a pull that met the end
@@ -177,7 +185,7 @@ module _ (by : Answering) (nodes : ℕ) where
         messages = ms;
         rest = v.rest;
         split = split_quiet new x none quiet;
-        begun = all_begun t.put (replies_to by ms) r.goes.answered.told;
+        begun = all_put by ms t.put r.goes.answered.told;
         served = record {
           ended = counts.3;
           all_read = e;
@@ -198,7 +206,7 @@ module _ (by : Answering) (nodes : ℕ) where
         messages = ms;
         rest = v.rest;
         split = split_quiet new x none quiet;
-        begun = all_begun t.put (replies_to by ms) r.goes.answered.told;
+        begun = all_put by ms t.put r.goes.answered.told;
         served = tt;
         stopped = (
           counts.3,
@@ -222,7 +230,7 @@ module _ (by : Answering) (nodes : ℕ) where
           messages = ms;
           rest = v.rest;
           split = split_quiet new x e q;
-          begun = all_begun t.put (replies_to by ms) r.goes.answered.told;
+          begun = all_put by ms t.put r.goes.answered.told;
           served = tt;
           stopped = (k.3, record { put = r.goes.answered.told; flushed_all = r.flushed_all });
           prompt = prompt_quiet new x e q;
@@ -273,7 +281,7 @@ module _ (by : Answering) (nodes : ℕ) where
           rest = f.earlier;
           split = f.split;
           good = f.good;
-          told = record { more = b.more; is = b.is ∙ ap (λ x. x ++ b.more) f.goes.answered.told };
+          told = record { replies = t.put; are = f.goes.answered.told; begin = b };
         }
 
     -- all that is whole is answered
@@ -307,7 +315,7 @@ module _ (by : Answering) (nodes : ℕ) where
         messages = ms ++ ns;
         rest = w.rest;
         split = record { whole = on.taken; each = on.each; tail = inr (len, b) };
-        begun = all_begun _ _ on.answered.told;
+        begun = all_put by (ms ++ ns) (t.put ++ more) on.answered.told;
         served = tt;
         stopped = (b, (let q = on.place in omega arith), record { put = on.answered.told; flushed_all = all_flushed });
         prompt = prompt_late new more (not_late t.sink new more p);
@@ -333,12 +341,6 @@ module _ (by : Answering) (nodes : ℕ) where
           let all : List (List ℕ) = ns ++ ks in
           let later : v.rest ≡ joined all ++ end = h.taken ∙ ap (λ l. joined ns ++ l) q.whole
           ∙ sym (append_assoc (joined ns) (joined ks) end) ∙ ap (λ l. l ++ end) (sym (joined_append ns ks)) in
-          let told : replies_by by.reply v.session (map asked all) ≡ more
-          ++ (h.told.more ++ replies_by by.reply (session_at v.session (map asked ns)) (map asked ks)) = (
-          ap (replies_by by.reply v.session) (map-append asked ns ks)
-          ∙ replies_append by.reply v.session (map asked ns) (map asked ks)
-          ∙ ap (λ l. l ++ replies_by by.reply (session_at v.session (map asked ns)) (map asked ks)) h.told.is
-          ∙ append_assoc more h.told.more (replies_by by.reply (session_at v.session (map asked ns)) (map asked ks))) in
           record {
             messages = ms ++ all;
             rest = end;
@@ -349,14 +351,15 @@ module _ (by : Answering) (nodes : ℕ) where
               tail = q.tail;
             };
             begun = record {
-              more = h.told.more ++ replies_by by.reply (session_at v.session (map asked ns)) (map asked ks);
-              is =
-                  ap (replies_by by.reply by.first) (map-append asked ms all)
-                  ∙ replies_append by.reply by.first (map asked ms) (map asked all)
-                  ∙ ap (λ l. l ++ replies_by by.reply (session_at by.first (map asked ms)) (map asked all)) (sym f.goes.answered.told)
-                  ∙ ap (λ z. t.put ++ replies_by by.reply z (map asked all)) (sym f.goes.answered.session)
-                  ∙ ap (λ l. t.put ++ l) told
-                  ∙ sym (append_assoc t.put more _);
+              answered = ms ++ ns;
+              later = ks;
+              messages_are = sym (append_assoc ms ns ks);
+              replies = t.put ++ h.replies;
+              are = messages_on by by.first v.session ms ns t.put h.replies f.goes.answered.session f.goes.answered.told h.are;
+              begun = record {
+                more = h.told.more;
+                is = ap (λ l. t.put ++ l) h.told.is ∙ sym (append_assoc t.put more h.told.more);
+              };
             };
             served = tt;
             stopped = s (ms ++ all) end;

@@ -9,23 +9,14 @@ use Rattle.fuse_wire.specs.Stream.{IsMessage, IsRest, BeginsMessage}
 use Rattle.fuse_wire.specs.Requests.{Asked, asked}
 use Rattle.reply_model.specs.declared.session.Session.{Session}
 use Rattle.reply_model.specs.Sessions.{session_after}
-use Rattle.reply_model.specs.Streams.{replies_by, session_at}
+use Rattle.reply_model.specs.Streams.{AreReplies, session_at}
+use Rattle.reply_model.proofs.Following.{one_reply, replies_on}
 use Rattle.serve_loop.specs.declared.one_round.RoundEnd.{RoundEnd}
 use Rattle.lookup_balances.specs.Balances.{IsLight, IsMoved, AreWithin}
 use Rattle.reply_model.specs.declared.moves.Move.{Move}
 use Rattle.reply_model.specs.Streams.{moves_by}
-use Rattle.serve_loop.specs.Rounds.{Answering, Balances, joined, IsAnswered, AreFirst, AreAnswered, IsRound}
+use Rattle.serve_loop.specs.Rounds.{Answering, IsReply, Balances, joined, IsAnswered, AreFirst, AreAnswered, IsRound}
 use Rattle.lookup_balances.proofs.Sums.{none_moved, moved_on, within_moved, within_less, light_on}
-
--- the replies to two lists of requests are those to the first, and then those to the second in the
--- session that the first leaves
-pub replies_append : (reply : Session → Asked → List ℕ) (s : Session) (xs ys : List Asked)
-    → replies_by reply s (xs ++ ys) ≡ replies_by reply s xs ++ replies_by reply (session_at s xs) ys
-replies_append reply s [] ys = refl
-replies_append reply s (x ∷ xs) ys =
-    ap (λ r. reply s x ++ r) (replies_append reply (session_after s x.op) xs ys)
-    ∙ sym (append_assoc (reply s x) (replies_by reply (session_after s x.op) xs)
-    (replies_by reply (session_at (session_after s x.op) xs) ys))
 
 -- the moves of two lists of requests are those of the first, and then those of the second in the
 -- session that the first leaves
@@ -89,6 +80,15 @@ one_first stream n b =
 pub as_long : (stream : List ℕ) (n : ℕ) → BeginsMessage stream n → n ≡ length (take n stream)
 as_long stream n b = sym (ap length (ap (take n) b.is ∙ take_at b.message b.after n b.sized) ∙ b.sized)
 
+-- replies to messages, and then to others in the session that they leave, are replies to all
+pub messages_on : (by : Answering) (s t : Session) (ms ns : List (List ℕ)) (put more : List ℕ)
+    → t ≡ session_at s (map asked ms) → AreReplies (IsReply by) s (map asked ms) put
+    → AreReplies (IsReply by) t (map asked ns) more → AreReplies (IsReply by) s (map asked (ms ++ ns)) (put ++ more)
+messages_on by s t ms ns put more e a b =
+    subst (λ (qs : List Asked). AreReplies (IsReply by) s qs (put ++ more)) (sym (map-append asked ms ns))
+    (replies_on (IsReply by) s (map asked ms) (map asked ns) put more a
+    (subst (λ (v : Session). AreReplies (IsReply by) v (map asked ns) more) e b))
+
 module _ (by : Answering) (s : Session) where
   -- no messages are answered with no bytes, and leave the session and the balances
   pub none_answered : (b : List ℤ) → AreAnswered by s [] s [] (record { old = b; new = b })
@@ -102,11 +102,7 @@ module _ (by : Answering) (s : Session) where
     session = y.session ∙ ap (λ v. session_at v (map asked ns)) x.session
         ∙ sym (session_append s (map asked ms) (map asked ns))
         ∙ ap (session_at s) (sym (map-append asked ms ns));
-    told =
-        ap (λ v. v ++ more) x.told
-        ∙ ap (λ v. replies_by by.reply s (map asked ms) ++ v) (y.told ∙ ap (λ v. replies_by by.reply v (map asked ns)) x.session)
-        ∙ sym (replies_append by.reply s (map asked ms) (map asked ns))
-        ∙ ap (replies_by by.reply s) (sym (map-append asked ms ns));
+    told = messages_on by s t ms ns put more x.session x.told y.told;
     moves = subst (λ v. IsMoved v a c) said (moved_on (moves_by by.moved s (map asked ms)) (moves_by by.moved t (map asked ns)) a b c
         x.moves y.moves);
     light =
@@ -126,7 +122,7 @@ module _ (by : Answering) (s : Session) where
       → AreAnswered by s (m ∷ []) t put b
   one_answered m t put b a = record {
     session = a.session;
-    told = a.told ∙ sym (append-nil (by.reply s (asked m)));
+    told = one_reply (IsReply by) s (asked m) put a.told;
     moves = subst (λ v. IsMoved v b.old b.new) (sym (append-nil (by.moved s (asked m)))) a.moves;
     light =
         subst (λ v. IsLight v (length (joined (m ∷ [])))) (sym (append-nil (by.moved s (asked m))))

@@ -4,13 +4,13 @@ use Rattle.devices.specs.declared.counts.LastPull.TheVariants.{End, Failure}
 use Rattle.fuse_wire.specs.Stream.{IsUnfinished, IsBad, IsOpen, IsSplit}
 use Rattle.serve_loop.specs.Rounds.{Answering, joined}
 use Rattle.serve_loop.specs.declared.done.Done.{Done}
-use Rattle.serve_loop.specs.Serving.{Trace, Begins, replies_to, moves_of, flushed_bytes, AreBalances}
+use Rattle.serve_loop.specs.Serving.{Trace, AreRepliesTo, BeginReplies, moves_of, flushed_bytes, AreBalances}
 
 -- all replies to the whole messages that were got are put and flushed; this rest is left
 pub record HasAnsweredAll (by : Answering) (t : Trace) (messages : List (List ℕ))
     (rest : List ℕ) : Type 0 where
   pub split : IsSplit t.got messages rest
-  pub put : t.put ≡ replies_to by messages
+  pub put : AreRepliesTo by messages t.put
   pub flushed_all : flushed_bytes t ≡ t.put
 
 -- the last pull met the end; the stream is messages alone, all are answered, and the balances are
@@ -61,4 +61,4 @@ pub record IsFront (by : Answering) (t : Trace) : Type 0 where
   pub messages : List (List ℕ)
   pub rest : List ℕ
   pub split : IsSplit t.got messages rest
-  pub begun : Begins t.put (replies_to by messages)
+  pub begun : BeginReplies by messages t.put

@@ -1,11 +1,12 @@
 -- A round: some of the first messages of a stream, answered one after another.
-use Rattle.std.specs.Prelude.{◌≡◌, ℕ, ◌<◌, ◌⊎◌, ℤ, List, ◌++◌, length, map, drop}
+use Rattle.std.specs.Prelude.{◌≡◌, ℕ, ◌<◌, ◌⊎◌, ℤ, List, ◌++◌, length, map, drop, Option}
 use Rattle.std.specs.List.{AllByRecursion, flat_map}
 use Rattle.fuse_wire.specs.Stream.{IsMessage, IsRest}
 use Rattle.fuse_wire.specs.Requests.{Asked, asked}
+use Rattle.fuse_wire.specs.Told.{Reading, IsTold}
 use Rattle.reply_model.specs.declared.session.Session.{Session}
 use Rattle.reply_model.specs.Sessions.{session_after}
-use Rattle.reply_model.specs.Streams.{replies_by, session_at}
+use Rattle.reply_model.specs.Streams.{AreReplies, session_at}
 use Rattle.serve_loop.specs.declared.one_round.RoundEnd.{RoundEnd}
 use Rattle.lookup_balances.specs.Balances.{IsLight, IsMoved}
 use Rattle.reply_model.specs.declared.moves.Move.{Move}
@@ -16,11 +17,16 @@ abbrev pub joined : List (List ℕ) → List ℕ
 joined messages = flat_map (λ m. m) messages
 
 -- what answers requests: the session that a stream begins in, and in a session the reply to a
--- request, and its moves
+-- request, and its moves; and what the data of its reply are read from, if they are
 pub record Answering : Type 0 where
   pub first : Session
   pub reply : Session → Asked → List ℕ
   pub moved : Session → Asked → List Move
+  pub reading : Asked → Option Reading
+
+-- these bytes may be told as the reply to a request
+abbrev pub IsReply : Answering → Session → Asked → List ℕ → Type 0
+IsReply by s q bytes = IsTold (by.reading q) q.unique (by.reply s q) bytes
 
 -- the balances as they were and are
 pub record Balances : Type 0 where
@@ -35,7 +41,7 @@ change old new = record { old = old; new = new }
 pub record IsAnswered (by : Answering) (s : Session) (m : List ℕ) (after : Session) (put : List ℕ)
     (b : Balances) : Type 0 where
   pub session : after ≡ session_after s (asked m).op
-  pub told : put ≡ by.reply s (asked m)
+  pub told : IsReply by s (asked m) put
   pub moves : IsMoved (by.moved s (asked m)) b.old b.new
   pub light : IsLight (by.moved s (asked m)) (length m)
 
@@ -49,7 +55,7 @@ pub record AreFirst (stream : List ℕ) (messages : List (List ℕ)) (used : ℕ
 pub record AreAnswered (by : Answering) (s : Session) (messages : List (List ℕ)) (after : Session)
     (put : List ℕ) (b : Balances) : Type 0 where
   pub session : after ≡ session_at s (map asked messages)
-  pub told : put ≡ replies_by by.reply s (map asked messages)
+  pub told : AreReplies (IsReply by) s (map asked messages) put
   pub moves : IsMoved (moves_by by.moved s (map asked messages)) b.old b.new
   pub light : IsLight (moves_by by.moved s (map asked messages)) (length (joined messages))
 

@@ -4,7 +4,7 @@ use Rattle.std.specs.Io.KnownBytes.{Appends, Consumes}
 use Rattle.devices.specs.declared.limits.TheConstants.{MAX_TURNS, PULL_SIZE}
 use Rattle.fuse_wire.specs.Stream.{IsUnfinished, IsBad, IsOpen, IsSplit}
 use Rattle.fuse_wire.specs.Requests.{asked}
-use Rattle.reply_model.specs.Streams.{replies_by}
+use Rattle.reply_model.specs.Streams.{AreReplies}
 use Rattle.devices.specs.declared.counts.LastPull.{LastPull}
 use Rattle.devices.specs.declared.counts.LastPull.TheVariants.{Bytes, End, Failure}
 use Rattle.devices.specs.declared.counts.Pulls.{Pulls}
@@ -14,7 +14,7 @@ use Rattle.lookup_balances.specs.Balances.{balance_at}
 use Rattle.reply_model.specs.declared.moves.Move.{Move}
 use Rattle.reply_model.specs.Moves.{balance}
 use Rattle.reply_model.specs.Streams.{moves_by}
-use Rattle.serve_loop.specs.Rounds.{Answering, joined}
+use Rattle.serve_loop.specs.Rounds.{Answering, IsReply, joined}
 use Rattle.serve_loop.specs.declared.stream_fault.StreamFault.{StreamFault}
 use Rattle.serve_loop.specs.declared.stream_fault.StreamFault.TheVariants.{BadLength, CutOff, Read, Write, Turns, Memory}
 use Rattle.serve_loop.specs.declared.done.Done.{Done}
@@ -78,9 +78,24 @@ pub record Begins (part whole : List ℕ) : Type 0 where
   pub more : List ℕ
   pub is : whole ≡ part ++ more
 
--- the replies to the messages of a stream
-abbrev pub replies_to : Answering → List (List ℕ) → List ℕ
-replies_to by messages = replies_by by.reply by.first (map asked messages)
+-- these bytes are replies to the messages of a stream
+abbrev pub AreRepliesTo : Answering → List (List ℕ) → List ℕ → Type 0
+AreRepliesTo by messages bytes = AreReplies (IsReply by) by.first (map asked messages) bytes
+
+-- these bytes are the beginning of replies to the first of the messages
+pub record BeginReplies (by : Answering) (messages : List (List ℕ)) (bytes : List ℕ) : Type 0 where
+  pub answered : List (List ℕ)
+  pub later : List (List ℕ)
+  pub messages_are : messages ≡ answered ++ later
+  pub replies : List ℕ
+  pub are : AreRepliesTo by answered replies
+  pub begun : Begins bytes replies
+
+-- these bytes begin with replies to all of the messages
+pub record HaveReplies (by : Answering) (messages : List (List ℕ)) (bytes : List ℕ) : Type 0 where
+  pub replies : List ℕ
+  pub are : AreRepliesTo by messages replies
+  pub begin : Begins replies bytes
 
 -- what the messages of a stream move
 abbrev pub moves_of : Answering → List (List ℕ) → List Move
@@ -88,7 +103,7 @@ moves_of by messages = moves_by by.moved by.first (map asked messages)
 
 -- all replies were put, and flushed
 pub record IsAllTold (by : Answering) (t : Trace) (messages : List (List ℕ)) : Type 0 where
-  pub put : t.put ≡ replies_to by messages
+  pub put : AreRepliesTo by messages t.put
   pub flushed_all : flushed_bytes t ≡ t.put
 
 -- each node has what the moves give it, less what they take; node n has the place n - 1
@@ -151,7 +166,7 @@ pub record IsPrompt (by : Answering) (t : Trace) : Type 0 where
   pub rest : List ℕ
   pub split : IsSplit (before t) messages rest
   pub good : IsOpen rest
-  pub told : Begins (replies_to by messages) (flushed_bytes t)
+  pub told : HaveReplies by messages (flushed_bytes t)
 
 -- a stream was served: what was put is the beginning of the replies, at every end, and all of them
 -- where nothing stood in the way
@@ -160,7 +175,7 @@ pub record IsRun {A : Type 0} (by : Answering) (nodes turns : ℕ) (t : Trace)
   pub messages : List (List ℕ)
   pub rest : List ℕ
   pub split : IsSplit t.got messages rest
-  pub begun : Begins t.put (replies_to by messages)
+  pub begun : BeginReplies by messages t.put
   pub served : IfOk result (IsServed by nodes t messages rest)
   pub stopped : IfErr result (IsStopped by turns t messages rest)
   pub prompt : IsPrompt by t

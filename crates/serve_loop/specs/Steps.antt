@@ -4,13 +4,13 @@ use Rattle.std.specs.List.{AllByRecursion}
 use Rattle.fuse_wire.specs.Stream.{IsMessage, IsRest}
 use Rattle.fuse_wire.specs.Requests.{asked}
 use Rattle.reply_model.specs.declared.session.Session.{Session}
-use Rattle.reply_model.specs.Streams.{replies_by}
+use Rattle.reply_model.specs.Streams.{AreReplies}
 use Rattle.std.specs.Io.KnownBytes.{Appends}
 use Rattle.devices.specs.declared.counts.Pushes.{Pushes}
 use Rattle.devices.specs.Pushing.{HasFlushed}
 use Rattle.devices.specs.States.{SinkState}
 use Rattle.lookup_balances.specs.Balances.{AreWithin}
-use Rattle.serve_loop.specs.Rounds.{Answering, joined, AreAnswered}
+use Rattle.serve_loop.specs.Rounds.{Answering, IsReply, joined, AreAnswered}
 use Rattle.serve_loop.specs.declared.stream_fault.StreamFault.{StreamFault}
 use Rattle.serve_loop.specs.declared.stream_fault.StreamFault.TheVariants.{Write, Memory}
 use Rattle.serve_loop.specs.declared.progress.Progress.{Progress}
@@ -97,7 +97,9 @@ pub record Halts (by : Answering) (from : ServingState) (before after : Pushes)
   pub halt : IsHalt fault
   pub taken : from.rest ≡ joined messages ++ rest
   pub each : AllByRecursion IsMessage messages
-  pub told : Begins put (replies_by by.reply from.session (map asked messages))
+  pub replies : List ℕ
+  pub are : AreReplies (IsReply by) from.session (map asked messages) replies
+  pub told : Begins put replies
   pub failures : after.failures ≡ before.failures + sink_failures fault
   pub late : after.unflushed ≤ before.unflushed + length put
 

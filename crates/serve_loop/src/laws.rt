@@ -7,7 +7,7 @@ ghost use Rattle.serve_loop.specs.Rounds.{Answering};
 ghost use Rattle.serve_loop.specs.declared.done.Done.{Done};
 ghost use Rattle.serve_loop.specs.declared.stream_fault.StreamFault.{StreamFault};
 ghost use Rattle.serve_loop.specs.declared.stream_fault.StreamFault.TheVariants.{BadLength, CutOff, Read, Write, Turns};
-ghost use Rattle.serve_loop.specs.Serving.{Trace, AreBalances, IsRun, IsPrompt, Begins, replies_to, flushed_bytes, before};
+ghost use Rattle.serve_loop.specs.Serving.{Trace, AreBalances, IsRun, IsPrompt, HaveReplies, flushed_bytes, before};
 ghost use Rattle.serve_loop.specs.Laws.{HasServed, HasBadLength, IsCutOff, HasFailed, HasUsedTurns, IsFront};
 
 use std::alloc::Allocator;
@@ -50,7 +50,7 @@ pub fn replies_come_in_order<A: Allocator>()
         IsRun by n turns t r → IsPrompt by t }
     ensures flushed { (by : Answering) (n turns : ℕ) (t : Trace) (r : Result (Done A) StreamFault)
         (messages : List (List ℕ)) (rest : List ℕ) → IsRun by n turns t r →
-        IsSplit (before t) messages rest → Begins (replies_to by messages) (flushed_bytes t) }
+        IsSplit (before t) messages rest → HaveReplies by messages (flushed_bytes t) }
 {}
 
 /// Moves come to one list of balances.
