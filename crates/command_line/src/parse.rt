@@ -200,7 +200,8 @@ fn number(
 
 // The owner that is given, or user and group 0 where none is.
 fn owner(alloc: Global, found: &ArgMatches<'_>) -> Result<Owner, LineFault>
-    ensures ok { IfOk result (λ owner. IsOwnerOf (first_of (codes "owner") (rows_in found.now)) owner) }
+    ensures ok { IfOk result (λ owner.
+        IsOwnerOf (first_of (codes "owner") (rows_in found.now)) owner) }
     ensures err { IfErr result (λ fault. (fault ≡ Memory)
         ⊎ ¬ HaveNumbersInRange (rows_in found.now)) }
 {

@@ -79,9 +79,9 @@ fn fault_with_attributes(
     }
 }
 
-// The fault of an image that keeps the rules of the volume header, by its accessible bytes, whatever
-// its attributes; none where it breaks no other rule. Most images are plainly sound, and then no set
-// is made.
+// The fault of an image that keeps the rules of the volume header, by its accessible bytes,
+// whatever its attributes; none where it breaks no other rule. Most images are plainly sound, and
+// then no set is made.
 fn fault_in<A: Allocator + Copy>(
     alloc: A,
     volume: &Volume,

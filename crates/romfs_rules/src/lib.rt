@@ -6,9 +6,9 @@
 //! collects sets of headers (`chains`, `same_names`, `twice`, `targets`, `ends`), as a bit for
 //! every 16 bytes of the image or as a rising list (`slot_sets`); then it goes upward once over the
 //! headers that are reached (`judge`) and asks each for the first rule that it breaks (`header`);
-//! then the depth is looked at (`depth`), and at last the attribute trailer (`attribute_rows`). Each
-//! walk is a loop, and each visits a header a constant number of times. Its promise is `IsFaultOf`,
-//! of `romfs_format`.
+//! then the depth is looked at (`depth`), and at last the attribute trailer (`attribute_rows`).
+//! Each walk is a loop, and each visits a header a constant number of times. Its promise is
+//! `IsFaultOf`, of `romfs_format`.
 #![tactic(auto)]
 
 mod chains;
