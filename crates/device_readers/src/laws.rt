@@ -1,0 +1,1 @@
+//! What readers come to, by what [`crate::serve_by_readers`] promises.
