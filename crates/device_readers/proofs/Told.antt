@@ -12,10 +12,10 @@ use Rattle.device_readers.specs.Ends.{AreBoth, IsBehind, done_of, end_of, first_
 use Rattle.device_readers.specs.Readers.{Reader, TellsOf, done_of_all, end_of_all}
 
 -- the former is told where it stands first, and the latter where that does
-low_told : (a b : End) → nat_le (place_of_end a) (place_of_end b) ≡ true → first_told a b ≡ a
+pub low_told : (a b : End) → nat_le (place_of_end a) (place_of_end b) ≡ true → first_told a b ≡ a
 low_told a b e = rw e refl
 
-high_told : (a b : End) → nat_le (place_of_end a) (place_of_end b) ≡ false → first_told a b ≡ b
+pub high_told : (a b : End) → nat_le (place_of_end a) (place_of_end b) ≡ false → first_told a b ≡ b
 high_told a b e = rw e refl
 
 -- of three ends it is one and the same whichever two are told of first

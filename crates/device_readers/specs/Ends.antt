@@ -18,23 +18,23 @@ abbrev pub end_of : {A : Type 0} → Result (Done A) Stop → Bool → Bool → 
 end_of (Ok done) input output = AtEnd
 end_of (Err stop) input output = end_of_stop stop input output
 
--- where a fault stands in the order of exit statuses: streams, images, requests, memory
+-- where a fault stands in the table of faults and their exit statuses
 abbrev pub place_of : Stop → ℕ
-place_of stops.Read = 1
-place_of stops.Write = 1
-place_of (stops.Layer layer fault) = 3
-place_of (stops.Layers count) = 3
-place_of (stops.BadLength at len) = 4
-place_of (stops.CutOff at) = 4
-place_of stops.Turns = 4
-place_of stops.Memory = 5
+place_of (stops.Layer layer fault) = 1
+place_of (stops.Layers count) = 2
+place_of stops.Read = 3
+place_of stops.Write = 4
+place_of (stops.BadLength at len) = 5
+place_of (stops.CutOff at) = 6
+place_of stops.Turns = 7
+place_of stops.Memory = 8
 
 -- where an end stands in the order in which ends are told: faults, then that the mount was taken
 -- away, and at last none of both
 abbrev pub place_of_end : End → ℕ
 place_of_end (Stopped stop) = place_of stop
-place_of_end TakenAway = 6
-place_of_end AtEnd = 7
+place_of_end TakenAway = 9
+place_of_end AtEnd = 10
 
 -- of two ends the one that is told, and the former where they stand alike
 abbrev pub first_told : End → End → End

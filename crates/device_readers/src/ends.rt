@@ -21,8 +21,8 @@ pub enum End {
 #[derive(Drop)]
 pub struct Ended<A: Allocator> {
     /// The end that is told of all of them: a fault, if one of them has one; of several the first
-    /// in the order of exit statuses, and of these that of the first reader. Else that the mount
-    /// was taken away, if one of them has met that.
+    /// in the table of faults and exit statuses, and of these that of the first reader. Else that
+    /// the mount was taken away, if one of them has met that.
     pub end: End,
     /// What each stream came to that was served to its end, in the order of the readers. Memory may
     /// be refused for this list.
@@ -129,19 +129,23 @@ fn place_of_end(end: End) -> u8
 {
     match end {
         End::Stopped(stop) => place_of(stop),
-        End::TakenAway => 6,
-        End::AtEnd => 7,
+        End::TakenAway => 9,
+        End::AtEnd => 10,
     }
 }
 
-// Where a fault stands in the order of exit statuses: streams, images, requests, memory.
+// Where a fault stands in the table of faults and their exit statuses.
 fn place_of(stop: Stop) -> u8
     ensures { result ≡ place_of stop }
 {
     match stop {
-        Stop::Read | Stop::Write => 1,
-        Stop::Layers { .. } | Stop::Layer { .. } => 3,
-        Stop::BadLength { .. } | Stop::CutOff { .. } | Stop::Turns => 4,
-        Stop::Memory => 5,
+        Stop::Layer { .. } => 1,
+        Stop::Layers { .. } => 2,
+        Stop::Read => 3,
+        Stop::Write => 4,
+        Stop::BadLength { .. } => 5,
+        Stop::CutOff { .. } => 6,
+        Stop::Turns => 7,
+        Stop::Memory => 8,
     }
 }

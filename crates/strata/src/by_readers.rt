@@ -20,7 +20,7 @@ use std::thread::Threads;
 /// use this reader and this writer, and gives the exit status.
 ///
 /// It is 0 where each of them came to its stream's end or found the mount taken away. Else it is
-/// that of the first fault, in the order of exit statuses, whose line goes to `faults` once all
+/// that of the first of their faults in the table of faults, whose line goes to `faults` once all
 /// have ended.
 pub fn mount_by_readers<
     R: Files + Threads + Sync,
