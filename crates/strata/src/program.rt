@@ -102,12 +102,11 @@ where
         IsRunBy A words result (I.remaining reader) (O.contents writer) line.now }
 {
     if line.device {
-        return if line.readers == 1 {
-            mount(rt, alloc, line, reader, writer, faults)
-        } else {
-            let (reader, writer) = shared;
-            mount_by_readers(rt, alloc, line, reader, writer, faults)
-        };
+        if line.readers == 1 {
+            return mount(rt, alloc, line, reader, writer, faults);
+        }
+        let (reader, writer) = shared;
+        return mount_by_readers(rt, alloc, line, reader, writer, faults);
     }
     let mut output = Spout::new(writer);
     command_on_streams(rt, alloc, line, &mut Tap::new(reader), &mut output, faults)
