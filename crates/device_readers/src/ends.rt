@@ -30,7 +30,7 @@ pub struct Ended<A: Allocator> {
 }
 
 // What one reader came to, of which either side may be gone.
-pub(crate) fn ended<A: Allocator>(
+pub(crate) fn ended_alone<A: Allocator>(
     alloc: A,
     served: Result<Done<A>, Stop>,
     input_gone: bool,

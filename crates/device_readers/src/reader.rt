@@ -6,7 +6,7 @@ ghost use Rattle.fuse_device.specs.Ends.{ends};
 ghost use Rattle.serve_loop.specs.Serving.{AreReady};
 ghost use Rattle.device_readers.specs.Readers.{IsAlone, counts_of, unused};
 
-use crate::ends::{Ended, ended};
+use crate::ends::{Ended, ended_alone};
 use fuse_device::{MessageTap, ReplySpout};
 use serve_core::{Gate, SharedAllocator, Stop, Terms, run};
 use std::io::{Read, Write};
@@ -33,7 +33,7 @@ pub(crate) fn serve_on<
         (counts_of (ends I.remaining input output).devices) result }
 {
     let served = run(rt, alloc, table, &mut input, &mut output, terms);
-    ended(alloc, served, input.is_gone(), output.is_gone())
+    ended_alone(alloc, served, input.is_gone(), output.is_gone())
 }
 
 /// The same over a new room for messages, which memory may be refused for.
@@ -56,6 +56,6 @@ pub(crate) fn serve_alone<
 {
     match MessageTap::new(alloc, reader) {
         Ok(input) => serve_on(rt, alloc, table, input, ReplySpout::new(writer), terms),
-        Err(_) => ended(alloc, Err(Stop::Memory), false, false),
+        Err(_) => ended_alone(alloc, Err(Stop::Memory), false, false),
     }
 }

@@ -8,7 +8,7 @@ ghost use Rattle.fuse_device.specs.Ends.{ends};
 ghost use Rattle.serve_loop.specs.Serving.{AreReady};
 ghost use Rattle.device_readers.specs.Readers.{AreServed, AreServedNew, IsAlone, IsServedBy, counts_of};
 
-use crate::ends::{Ended, both, ended};
+use crate::ends::{Ended, both, ended_alone};
 use crate::opening::open;
 use crate::reader::{serve_alone, serve_on};
 use fuse_device::{MessageTap, ReplySpout};
@@ -47,15 +47,15 @@ pub fn serve_by_readers<
 {
     let mut input = match MessageTap::new(alloc, reader) {
         Ok(input) => input,
-        Err(_) => return ended(alloc, Err(Stop::Memory), false, false),
+        Err(_) => return ended_alone(alloc, Err(Stop::Memory), false, false),
     };
     let mut output = ReplySpout::new(writer);
     let begun = match open(rt, alloc, table, &mut input, &mut output, terms) {
         Ok(Opening::Begun(begun)) => begun,
         Ok(Opening::Ended(done)) => {
-            return ended(alloc, Ok(done), input.is_gone(), output.is_gone());
+            return ended_alone(alloc, Ok(done), input.is_gone(), output.is_gone());
         }
-        Err(stop) => return ended(alloc, Err(stop), input.is_gone(), output.is_gone()),
+        Err(stop) => return ended_alone(alloc, Err(stop), input.is_gone(), output.is_gone()),
     };
     let Begun { session, done } = begun;
     let terms = Terms {

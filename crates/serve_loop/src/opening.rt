@@ -79,7 +79,7 @@ pub fn open_by<T: AnswersRounds, S: Source, K: Sink, A: Allocator + Copy>(
             });
         }
         if has_begun(&progress) {
-            return Ok(Opening::Begun(begun(progress)));
+            return Ok(Opening::Begun(as_begun(progress)));
         }
     }
     Err(StreamFault::Turns)
@@ -105,7 +105,7 @@ fn is_fresh(session: Session) -> bool
 }
 
 // The stream, whose session has begun.
-fn begun<A: Allocator>(progress: Progress<A>) -> Begun<A>
+fn as_begun<A: Allocator>(progress: Progress<A>) -> Begun<A>
     ensures session { result.session ≡ progress.session }
     ensures messages { result.done.messages ≡ progress.messages }
     ensures written { result.done.written ≡ progress.written }
