@@ -33,7 +33,9 @@ pub(crate) fn serve_on<
         (counts_of (ends I.remaining input output).devices) result }
 {
     let served = run(rt, alloc, table, &mut input, &mut output, terms);
-    ended_alone(alloc, served, input.is_gone(), output.is_gone())
+    let input_gone = input.is_gone();
+    let output_gone = output.is_gone();
+    ended_alone(alloc, served, input_gone, output_gone)
 }
 
 /// The same over a new room for messages, which memory may be refused for.

@@ -8,7 +8,7 @@ ghost use Rattle.fuse_device.specs.Ends.{ends};
 ghost use Rattle.serve_loop.specs.Serving.{AreReady};
 ghost use Rattle.device_readers.specs.Readers.{AreServed, AreServedNew, IsAlone, IsServedBy, counts_of};
 
-use crate::ends::{Ended, both, ended_alone};
+use crate::ends::{Ended, behind, both, ended_alone};
 use crate::opening::open;
 use crate::reader::{serve_alone, serve_on};
 use fuse_device::{MessageTap, ReplySpout};
@@ -94,7 +94,7 @@ fn serve_with<
     if others == 0 {
         return serve_on(rt, alloc, table, input, output, terms);
     }
-    let (others, leader) = join(
+    let (rest, leader) = join(
         rt,
         move || -> Ended<A>
             requires { IsSync R.row × IsSync G.row × IsSync A.row × IsSend A.row
@@ -111,7 +111,7 @@ fn serve_with<
                 (counts_of (ends I.remaining input output).devices) result }
         { serve_on(rt, alloc, table, input, output, terms) },
     );
-    both(leader, others)
+    both(leader, rest)
 }
 
 // Serves by so many new readers at the same time.
