@@ -1,10 +1,12 @@
 -- What readers come to: one by itself, that had served before or had not, several at the same time,
 -- and all of them behind the opening of their session.
-use Rattle.std.proofs.Common.{◌≡◌, ◌∙◌, sym, ap, subst, refl, ℕ, ◌+◌, ◌<◌, ◌≤◌, inl, inr, Bool, false, IsTrue, List, [], ◌∷◌, ◌++◌, length, length-append, Result, Ok, Err, IfOk, arith}
+use Rattle.std.proofs.Common.{◌≡◌, ◌∙◌, sym, ap, ap₂, subst, refl, ℕ, ◌+◌, ◌<◌, ◌≤◌, inl, inr, Bool, false, IsTrue, List, [], ◌∷◌, ◌++◌, length, length-append, Result, Ok, Err, IfOk, arith}
 use Rattle.std.specs.List.{AllByRecursion}
 use Rattle.std.proofs.KnownBytes.{Appends-nil, Consumes-nil}
 use Rattle.devices.specs.Counting.{no_pulls, no_pushes}
 use Rattle.devices.specs.States.{Devices}
+use Rattle.devices.specs.declared.counts.Pulls.{Pulls}
+use Rattle.devices.specs.declared.counts.Pushes.{Pushes}
 use Rattle.devices.specs.declared.limits.TheConstants.{MAX_TURNS}
 use Rattle.stack_model.specs.Numbers.{nodes}
 use Rattle.stack_model.specs.Listing.{Stacked}
@@ -50,6 +52,19 @@ module _ {A : Type 0} (first : Session) (stack : Stacked) (turns : ℕ) where
         told = one_told r ended end done;
       }
 
+  new_counts : (old : Devices) → old.source.counts ≡ no_pulls → old.sink.counts ≡ no_pushes → counts_of old ≡ unused
+  new_counts old p q = ap₂ (λ (x : Pulls) (y : Pushes). (let c : Counts = record { pulls = x; pushes = y } in c)) p q
+
+  -- a reader whose devices were new
+  pub alone_new : (result : Result (Done A) Stop) (old new : Devices) (input output : Bool) (ended : Ended A)
+      → old.source.counts ≡ no_pulls → old.sink.counts ≡ no_pushes
+      → Does (λ t. IsRunOver first stack turns t result) old new → (IsTrue input → 0 < new.source.counts.failures)
+      → (IsTrue output → 0 < new.sink.counts.failures) → ended.end ≡ end_of result input output
+      → IfOk ended.done (λ v. v.items ≡ done_of result)
+      → IsAlone first stack turns unused ended
+  alone_new result old new input output ended p q does i o end done =
+      subst (λ from. IsAlone first stack turns from ended) (new_counts old p q) (alone result old new input output ended does i o end done)
+
   -- a reader that had no memory for its room
   pub roomless : (ended : Ended A) → ended.end ≡ end_of {A = A} (Err Memory) false false → IfOk ended.done (λ v. v.items ≡ [])
       → IsAlone first stack turns unused ended
@@ -66,8 +81,8 @@ module _ {A : Type 0} (first : Session) (stack : Stacked) (turns : ℕ) where
           run = record { ended = Err faults.Memory; result_is = refl; run = no_memory (answering first stack) (length (nodes stack.entries)) turns no_pulls no_pushes };
           first_pull = refl;
           first_push = refl;
-          input = λ no. absurd no;
-          output = λ no. absurd no;
+          input = λ no. absurd (cc);
+          output = λ no. absurd (cc);
         };
         told = one_told r ended end done;
       }

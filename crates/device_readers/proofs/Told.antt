@@ -50,6 +50,19 @@ at_end_last (Stopped stops.Write) = refl
 at_end_last (Stopped stops.Turns) = refl
 at_end_last (Stopped stops.Memory) = refl
 
+-- and none of both behind it
+last_told : (end : End) → first_told end AtEnd ≡ end
+last_told AtEnd = refl
+last_told TakenAway = refl
+last_told (Stopped (stops.Layer layer fault)) = refl
+last_told (Stopped (stops.Layers count)) = refl
+last_told (Stopped (stops.BadLength at len)) = refl
+last_told (Stopped (stops.CutOff at)) = refl
+last_told (Stopped stops.Read) = refl
+last_told (Stopped stops.Write) = refl
+last_told (Stopped stops.Turns) = refl
+last_told (Stopped stops.Memory) = refl
+
 module _ {A : Type 0} where
   -- the end told of two lists of readers
   ends_append : (xs ys : List (Reader A)) → end_of_all (xs ++ ys) ≡ first_told (end_of_all xs) (end_of_all ys)
@@ -98,18 +111,6 @@ module _ {A : Type 0} where
       → IfOk all (λ v. v.items ≡ done_of served ++ [])
   one_done served (Err e) d = tt
   one_done served (Ok all) d = d ∙ sym (append-nil (done_of served))
-
-  last_told : (end : End) → first_told end AtEnd ≡ end
-  last_told AtEnd = refl
-  last_told TakenAway = refl
-  last_told (Stopped (stops.Layer layer fault)) = refl
-  last_told (Stopped (stops.Layers count)) = refl
-  last_told (Stopped (stops.BadLength at len)) = refl
-  last_told (Stopped (stops.CutOff at)) = refl
-  last_told (Stopped stops.Read) = refl
-  last_told (Stopped stops.Write) = refl
-  last_told (Stopped stops.Turns) = refl
-  last_told (Stopped stops.Memory) = refl
 
   -- what is told of one reader
   pub one_told : (r : Reader A) (ended : Ended A) → ended.end ≡ end_of r.result r.input_gone r.output_gone
