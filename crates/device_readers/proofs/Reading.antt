@@ -32,6 +32,10 @@ all_both : {X : Type 0} (P : X → Type 0) (xs ys : List X) → AllByRecursion P
 all_both P [] ys a b = b
 all_both P (x ∷ xs) ys a b = (a.0, all_both P xs ys a.1 b)
 
+-- the counts of devices that were new
+new_counts : (old : Devices) → old.source.counts ≡ no_pulls → old.sink.counts ≡ no_pushes → counts_of old ≡ unused
+new_counts old p q = ap₂ (λ (x : Pulls) (y : Pushes). (let c : Counts = record { pulls = x; pushes = y } in c)) p q
+
 module _ {A : Type 0} (first : Session) (stack : Stacked) (turns : ℕ) where
   -- a reader by what its devices were before and are
   pub alone : (result : Result (Done A) Stop) (old new : Devices) (input output : Bool) (ended : Ended A)
@@ -51,9 +55,6 @@ module _ {A : Type 0} (first : Session) (stack : Stacked) (turns : ℕ) where
         is = record { run = run; first_pull = refl; first_push = refl; input = i; output = o };
         told = one_told r ended end done;
       }
-
-  new_counts : (old : Devices) → old.source.counts ≡ no_pulls → old.sink.counts ≡ no_pushes → counts_of old ≡ unused
-  new_counts old p q = ap₂ (λ (x : Pulls) (y : Pushes). (let c : Counts = record { pulls = x; pushes = y } in c)) p q
 
   -- a reader whose devices were new
   pub alone_new : (result : Result (Done A) Stop) (old new : Devices) (input output : Bool) (ended : Ended A)

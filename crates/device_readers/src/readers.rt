@@ -105,7 +105,7 @@ fn serve_with<
         { serve_each(rt, alloc, table, reader, writer, others, terms) },
         move || -> Ended<A>
             requires { IsSync R.row × IsSync G.row × IsSync A.row × IsSend A.row
-                × Frees A.Allocator A.dealloc_token
+                × Frees A.Allocator A.dealloc_token × IsSend I.row × IsSend O.row
                 × AreReady terms.now.turns (ends I.remaining input output).devices }
             ensures { IsAlone terms.entry.now.first table.entry.now terms.entry.now.turns
                 (counts_of (ends I.remaining input output).devices) result }
