@@ -1,7 +1,6 @@
 -- Which end is told of readers: none of theirs stands before it, and it is one of theirs.
 use Rattle.std.proofs.Common.{◌≡◌, ◌∙◌, ◌≤◌, ◌⊎◌, sym, ap, subst, refl, Bool, true, false, inl, inr, List, [], ◌∷◌, nat_le, arith}
 use Rattle.std.proofs.lemmas.Bool.{leb-false, leb-true}
-use Rattle.std.specs.List.{AllByRecursion}
 use Rattle.serve_loop.specs.declared.done.Done.{Done}
 use Rattle.device_readers.specs.declared.ends.End.{End}
 use Rattle.device_readers.specs.declared.ends.End.TheVariants.{AtEnd}

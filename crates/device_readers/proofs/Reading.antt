@@ -1,8 +1,7 @@
 -- What readers come to: one by itself, that had served before or had not, several at the same time,
 -- and all of them behind the opening of their session.
-use Rattle.std.proofs.Common.{◌≡◌, ◌∙◌, sym, ap, ap₂, subst, refl, ℕ, ◌+◌, ◌<◌, ◌≤◌, inl, inr, Bool, false, IsTrue, List, [], ◌∷◌, ◌++◌, length, length-append, Result, Ok, Err, IfOk, arith}
+use Rattle.std.proofs.Common.{◌≡◌, sym, ap, ap₂, subst, refl, ℕ, ◌+◌, ◌<◌, ◌≤◌, inl, Bool, false, IsTrue, List, [], ◌∷◌, ◌++◌, length, length-append, Result, Ok, Err, IfOk, arith}
 use Rattle.std.specs.List.{AllByRecursion}
-use Rattle.std.proofs.KnownBytes.{Appends-nil, Consumes-nil}
 use Rattle.devices.specs.Counting.{no_pulls, no_pushes}
 use Rattle.devices.specs.States.{Devices}
 use Rattle.devices.specs.declared.counts.Pulls.{Pulls}
@@ -15,17 +14,15 @@ use Rattle.reply_pool.specs.Answers.{answering}
 use Rattle.serve_loop.specs.declared.done.Done.{Done}
 use Rattle.serve_loop.specs.declared.opening.Begun.{Begun}
 use Rattle.serve_loop.specs.declared.opening.Opening.TheVariants as openings
-use Rattle.serve_loop.specs.Serving.{AreReady, Does, Trace, trace}
-use Rattle.serve_loop.specs.Opening.{HasBegun}
+use Rattle.serve_loop.specs.Serving.{AreReady, Does, trace}
 use Rattle.serve_loop.proofs.Runs.{no_memory}
 use Rattle.serve_core.specs.declared.stop.Stop.{Stop}
 use Rattle.serve_core.specs.declared.stop.Stop.TheVariants.{Memory}
 use Rattle.serve_loop.specs.declared.stream_fault.StreamFault.TheVariants as faults
 use Rattle.serve_core.specs.Headline.{IsRunOver}
-use Rattle.device_readers.specs.declared.ends.End.{End}
 use Rattle.device_readers.specs.declared.ends.Ended.{Ended}
 use Rattle.device_readers.specs.Ends.{AreBoth, IsBehind, done_of, end_of, first_told}
-use Rattle.device_readers.specs.Readers.{AreNew, AreReaders, AreServed, AreServedNew, Counts, IsAlone, IsOpenedOver, IsReader, IsServedBy, IsServedByAll, Reader, counts_of, left_by, unused}
+use Rattle.device_readers.specs.Readers.{AreReaders, AreServed, AreServedNew, Counts, IsAlone, IsOpenedOver, IsServedBy, Reader, counts_of, unused}
 use Rattle.device_readers.proofs.Told.{behind_told, both_told, one_told}
 
 all_both : {X : Type 0} (P : X → Type 0) (xs ys : List X) → AllByRecursion P xs → AllByRecursion P ys → AllByRecursion P (xs ++ ys)

@@ -9,7 +9,6 @@ use Rattle.serve_loop.specs.declared.done.Done.{Done}
 use Rattle.serve_loop.specs.Rounds.{Answering}
 use Rattle.serve_loop.specs.Serving.{AreBalances, moves_of}
 use Rattle.device_readers.specs.declared.ends.End.{End}
-use Rattle.device_readers.specs.declared.ends.End.TheVariants.{AtEnd}
 use Rattle.device_readers.specs.Ends.{end_of, place_of_end}
 use Rattle.device_readers.specs.Readers.{Reader}
 

@@ -1,4 +1,4 @@
-use Rattle.std.proofs.Common.{◌+◌, ◌-◌, ap, subst, inr, Ok, Err, arith}
+use Rattle.std.proofs.Common.{◌-◌, ap, subst, inr, Ok, Err, arith}
 use Rattle.fuse_device.specs.Ends.{ends}
 use Rattle.serve_loop.specs.declared.opening.Opening.{Opening}
 use Rattle.serve_loop.specs.Serving.{Does}
