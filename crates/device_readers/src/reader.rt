@@ -45,14 +45,7 @@ pub(crate) fn serve_alone<
     I: Read + Drop,
     O: Write + Drop,
     G: Gate + Sync,
->(
-    rt: &R,
-    alloc: A,
-    table: &Table<A>,
-    reader: I,
-    writer: O,
-    terms: &Terms<'_, G>,
-) -> Ended<A>
+>(rt: &R, alloc: A, table: &Table<A>, reader: I, writer: O, terms: &Terms<'_, G>) -> Ended<A>
     requires { terms.now.turns ≤ MAX_TURNS }
     ensures { IsAlone terms.now.first table.now terms.now.turns unused result }
 {

@@ -65,7 +65,9 @@ pub fn serve_by_readers<
         gate: terms.gate,
     };
     let others = readers - 1;
-    let all = serve_with(rt, alloc, table, input, output, reader, writer, others, &terms);
+    let all = serve_with(
+        rt, alloc, table, input, output, reader, writer, others, &terms,
+    );
     behind(alloc, done, all)
 }
 

@@ -84,15 +84,7 @@ fn command_of_line<
     X: Read + Copy + Send + Drop,
     Y: Write + Copy + Send + Drop,
     E: Write,
->(
-    rt: &R,
-    alloc: A,
-    line: &Line<'_>,
-    reader: I,
-    writer: O,
-    shared: (X, Y),
-    faults: &mut E,
-) -> u8
+>(rt: &R, alloc: A, line: &Line<'_>, reader: I, writer: O, shared: (X, Y), faults: &mut E) -> u8
 where
     R::File: Send,
     R::Dir: Send,
