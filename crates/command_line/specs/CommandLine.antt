@@ -8,7 +8,7 @@ use Rattle.std.specs.Option.{option_map_or}
 use Rattle.std.specs.Str.{bytes_eq}
 use Rattle.std.specs.Str.Parse.{IsNumeral, digits_value}
 use Rattle.work_gate.specs.declared.limits.TheConstants.{MAX_BATCH, MAX_WORKERS}
-use Rattle.command_line.specs.declared.options.TheConstants.{MAX_SESSIONS}
+use Rattle.command_line.specs.declared.options.TheConstants.{MAX_READERS, MAX_SESSIONS}
 use Rattle.clap.specs.Lexer.{usize_max}
 use Rattle.clap.specs.Values.{bool_text}
 use Rattle.clap.specs.Walk.{Row, Rule, Text, all_of, first_of, one_of, texts}
@@ -86,7 +86,8 @@ served_images = flag (codes "lasting") ∷ value_option (codes "owner") ∷ imag
 abbrev pub serve_command : App
 serve_command = command_with (codes "serve") (plan_options ++ (
     value_option (codes "requests") ∷ value_option (codes "replies")
-    ∷ value_option (codes "balances") ∷ flag (codes "device") ∷ served_images))
+    ∷ value_option (codes "balances") ∷ flag (codes "device")
+    ∷ value_option (codes "readers") ∷ served_images))
 
 -- the command `socket`
 abbrev pub socket_command : App
@@ -164,6 +165,7 @@ pub record Number : Type 0 where
 abbrev pub numbers : List Number
 numbers = record { name = codes "workers"; most = MAX_WORKERS; default = 4 }
     ∷ record { name = codes "batch"; most = MAX_BATCH; default = 16 }
+    ∷ record { name = codes "readers"; most = MAX_READERS; default = 1 }
     ∷ record { name = codes "sessions"; most = MAX_SESSIONS; default = 1 } ∷ []
 
 -- the one of this name
@@ -199,6 +201,7 @@ pub record LineParts : Type 0 where
   pub strict : Bool
   pub attributes : Bool
   pub device : Bool
+  pub readers : ℕ
   pub lasting : Bool
   pub workers : ℕ
   pub batch : ℕ
@@ -223,6 +226,7 @@ parts_of verb rows = record {
   strict = is_given (codes "strict") rows;
   attributes = is_given (codes "attributes") rows;
   device = is_given (codes "device") rows;
+  readers = number_in (codes "readers") rows;
   lasting = is_given (codes "lasting") rows;
   workers = number_in (codes "workers") rows;
   batch = number_in (codes "batch") rows;
@@ -242,6 +246,7 @@ parts_in line = record {
   strict = line.strict;
   attributes = line.attributes;
   device = line.device;
+  readers = line.readers;
   lasting = line.lasting;
   workers = line.workers;
   batch = line.batch;
@@ -291,6 +296,7 @@ pub record IsLineOf (words : List Text) (line : Line) : Type 0 where
 pub record IsInLimits (line : Line) : Type 0 where
   pub workers : IsInRange 1 MAX_WORKERS line.workers
   pub batch : IsInRange 1 MAX_BATCH line.batch
+  pub readers : IsInRange 1 MAX_READERS line.readers
   pub sessions : IsInRange 1 MAX_SESSIONS line.sessions
 
 -- a line of the command `socket` has the path of the socket

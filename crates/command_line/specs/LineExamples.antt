@@ -25,6 +25,7 @@ plain verb images = record {
   strict = false;
   attributes = false;
   device = false;
+  readers = 1;
   lasting = false;
   workers = 4;
   batch = 16;
@@ -52,7 +53,7 @@ pub record ReadsAs (text : Text) (parts : LineParts) : Type 0 where
 -- each option of `serve` but the device
 abbrev pub every_option : Text
 every_option =
-    codes "serve --workers 2 --batch 3 --requests q --replies r --balances b"
+    codes "serve --workers 2 --batch 3 --requests q --replies r --balances b --readers 6"
     ++ codes " --owner 7:8 --attributes --strict --lasting f"
 
 -- words that are a command, and what they say
@@ -71,6 +72,8 @@ pub record TakenLines : Type 0 where
   pub serve_one : ReadsAs (codes "serve f.img") (plain verbs.Serve (codes "f.img"))
   pub serve_device : ReadsAs (codes "serve --device --workers 2 f")
       (record (plain verbs.Serve (codes "f")) { device = true; workers = 2 })
+  pub most_readers : ReadsAs (codes "serve --device --readers 64 f")
+      (record (plain verbs.Serve (codes "f")) { device = true; readers = 64 })
   pub serve_layers : ReadsAs (codes "serve --replies r f g e")
       (record (plain verbs.Serve (codes "f g e")) { replies = Some (codes "r") })
   pub all_options : ReadsAs every_option
@@ -79,6 +82,7 @@ pub record TakenLines : Type 0 where
         strict = true;
         attributes = true;
         device = false;
+        readers = 6;
         lasting = true;
         workers = 2;
         batch = 3;
@@ -161,6 +165,8 @@ pub record RefusedLines : Type 0 where
   pub requests_of_socket :
       HasOneFault (codes "socket --requests q --listen s a") kind.UnknownArgument
   pub device_of_socket : HasOneFault (codes "socket --device --listen s a") kind.UnknownArgument
+  pub readers_of_socket :
+      HasOneFault (codes "socket --readers 2 --listen s a") kind.UnknownArgument
   pub sessions_of_serve : HasOneFault (codes "serve --sessions 2 a") kind.UnknownArgument
   pub listen_of_list : HasOneFault (codes "list --listen s a") kind.UnknownArgument
   pub owner_of_check : HasOneFault (codes "check --owner 1:1 a") kind.UnknownArgument
@@ -173,6 +179,8 @@ pub record MisnumberedLines : Type 0 where
   pub many_workers : IsMisnumbered (words_of (codes "serve --workers 65 a"))
   pub no_batch : IsMisnumbered (words_of (codes "serve --batch 0 a"))
   pub large_batch : IsMisnumbered (words_of (codes "serve --batch 257 a"))
+  pub no_readers : IsMisnumbered (words_of (codes "serve --device --readers 0 a"))
+  pub many_readers : IsMisnumbered (words_of (codes "serve --device --readers 65 a"))
   pub no_sessions : IsMisnumbered (words_of (codes "socket --listen s --sessions 0 a"))
   pub many_sessions : IsMisnumbered (words_of (codes "socket --listen s --sessions 65536 a"))
   pub plus : IsMisnumbered (words_of (codes "serve --workers +4 a"))

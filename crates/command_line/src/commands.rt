@@ -73,6 +73,12 @@ const DEVICE: Argument = Argument {
     help: "Standard input and output are one open /dev/fuse",
 };
 
+const READERS: Argument = Argument {
+    name: "readers",
+    form: Form::Value("N"),
+    help: "How many readers serve the device, from 1 to 64 [default: 1]",
+};
+
 const LISTEN: Argument = Argument {
     name: "listen",
     form: Form::WantedValue("PATH"),
@@ -161,7 +167,7 @@ fn serve<'a>(alloc: Global) -> Result<Command<'a>, AllocError>
         "serve",
         "Answers FUSE requests over the stacked images",
         &[
-            WORKERS, BATCH, REQUESTS, REPLIES, BALANCES, DEVICE, LASTING, OWNER, STRICT,
+            WORKERS, BATCH, REQUESTS, REPLIES, BALANCES, DEVICE, READERS, LASTING, OWNER, STRICT,
             ATTRIBUTES, IMAGE,
         ],
     )

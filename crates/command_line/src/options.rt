@@ -10,6 +10,9 @@ use std::alloc::{AllocError, AllocFailed};
 /// The most sessions that one command serves at a socket.
 pub const MAX_SESSIONS: u32 = 65_535;
 
+/// The most readers of one open `/dev/fuse`.
+pub const MAX_READERS: u32 = 64;
+
 /// What the program is asked to do.
 #[derive(Clone, Copy, Debug, PartialEq, Eq)]
 pub enum Verb {
@@ -35,6 +38,9 @@ pub struct Line<'a> {
     /// Standard input and output are one open `/dev/fuse`. No file is named in place of one of
     /// them, nor for the balances.
     pub device: bool,
+    /// So many readers serve an open `/dev/fuse`, from 1 to 64. The default is 1. Other streams have
+    /// one reader, whatever it says.
+    pub readers: u32,
     /// The client is told that the tree never changes, so that it asks for each thing once.
     pub lasting: bool,
     /// At most so many workers, from 1 to 64. The default is 4.

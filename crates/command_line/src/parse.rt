@@ -17,7 +17,7 @@ ghost use Rattle.command_line.specs.declared.options.LineFault.TheVariants.{Memo
 
 use crate::commands::{MOUNTING, program};
 use crate::numbers::{number_to, owner_in};
-use crate::options::{Line, LineFault, MAX_SESSIONS, NoLine, Verb};
+use crate::options::{Line, LineFault, MAX_READERS, MAX_SESSIONS, NoLine, Verb};
 use clap::error::ErrorKind;
 use clap::{ArgMatches, Error};
 use node_attr::Owner;
@@ -30,6 +30,8 @@ use work_gate::limits::{MAX_BATCH, MAX_WORKERS};
 const DEFAULT_WORKERS: u32 = 4;
 
 const DEFAULT_BATCH: u32 = 16;
+
+const DEFAULT_READERS: u32 = 1;
 
 const DEFAULT_SESSIONS: u32 = 1;
 
@@ -46,8 +48,8 @@ pub fn words<R: Env + AllocGlobal>(rt: &R) -> Result<Vec<String>, LineFault> {
 
 /// Reads the words after the program's name: the line has their verb, the flag, the first value of
 /// each option or else its default, and all images in order. A number is decimal, in digits alone,
-/// from 1 to 64 (`--workers`), 256 (`--batch`) or 65,535 (`--sessions`), and an owner two numbers
-/// below 2^32 joined by a colon. Of the verb `socket` it has the path of the socket.
+/// from 1 to 64 (`--workers`, `--readers`), 256 (`--batch`) or 65,535 (`--sessions`), and an owner
+/// two numbers below 2^32 joined by a colon. Of the verb `socket` it has the path of the socket.
 ///
 /// Words that ask for the version have no line, and are `Version`. It is `Usage` only where the
 /// words are no command of the program, as where they ask for help, where they give another number,
@@ -112,6 +114,7 @@ fn line_of<'a>(alloc: Global, verb: Verb, found: &ArgMatches<'a>) -> Result<Line
         strict: flag(found, "strict"),
         attributes: flag(found, "attributes"),
         device: flag(found, "device"),
+        readers: number(alloc, found, "readers", DEFAULT_READERS, MAX_READERS)?,
         lasting: flag(found, "lasting"),
         workers: number(alloc, found, "workers", DEFAULT_WORKERS, MAX_WORKERS)?,
         batch: number(alloc, found, "batch", DEFAULT_BATCH, MAX_BATCH)?,

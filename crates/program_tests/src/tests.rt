@@ -7,5 +7,6 @@ mod messages;
 mod mounted;
 mod plans;
 mod program;
+mod readers;
 mod replies;
 mod serving;

@@ -4,6 +4,7 @@ pub mod Rounding
 pub mod Traces
 pub mod Runs
 pub mod Turns
+pub mod Openings
 pub mod Ends
 pub mod Balanced
 pub mod Worked

@@ -3,7 +3,7 @@
 //! [`run_by`] answers what is whole in its buffer, in rounds ([`AnswersRounds`], or [`AnswersOne`]
 //! message by message), each round's replies pushed and flushed before the next; where no whole
 //! message is left it makes one pull. So a client that waits for a reply before it asks again is
-//! served. What it promises at each end is said once, by `IsRun` in `specs/Serving`; [`laws`] draw
+//! served. [`open_by`] serves so until a session has begun. What `run_by` promises at each end is said once, by `IsRun` in `specs/Serving`; [`laws`] draw
 //! from it what each end means, and [`StreamFault`] names those at which the stream was not served
 //! to its end. The loop knows how messages are framed and that a session goes from request to
 //! request, but no image and no node. It takes memory for the balances, one number of 128 bits a
@@ -19,6 +19,7 @@ pub mod limits;
 mod one_message;
 mod one_round;
 mod one_thread;
+pub mod opening;
 mod progress;
 mod rounds_on;
 mod running;
@@ -28,5 +29,6 @@ pub use done::Done;
 pub use one_message::AnswersOne;
 pub use one_round::{AnswersRounds, RoundEnd};
 pub use one_thread::walk;
+pub use opening::{Begun, Opening, open_by};
 pub use running::run_by;
 pub use stream_fault::StreamFault;

@@ -75,7 +75,7 @@ pub fn run_by<T: AnswersRounds, S: Source, K: Sink, A: Allocator + Copy>(
 }
 
 // The length that the next message says, where no message has it, of bytes in which none is whole.
-fn bad_length(rest: &[u8]) -> Option<u32>
+pub(crate) fn bad_length(rest: &[u8]) -> Option<u32>
     requires { IsRest rest.now }
     ensures { MatchOption result (IsOpen rest.now) (λ n. IsBad rest.now n) }
 {

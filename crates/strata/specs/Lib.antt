@@ -2,6 +2,7 @@ pub mod Faults
 pub mod Texts
 pub mod Sessions
 pub mod Ending
+pub mod Readers
 pub mod Laws
 pub mod Mounts
 pub use Rattle.command_line.specs.CommandLine

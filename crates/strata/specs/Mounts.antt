@@ -1,5 +1,5 @@
 -- fuse(4): what a command leaves behind that was run over an open /dev/fuse, or over other streams.
-use Rattle.std.specs.Prelude.{◌≡◌, ◌≢◌, ◌⊎◌, ◌||◌, ℕ, Bool, true, false, List, Option, None, Result, MatchResult, if◌then◌else◌}
+use Rattle.std.specs.Prelude.{◌≡◌, ◌≢◌, ◌<◌, ◌≤◌, ◌⊎◌, ◌||◌, ℕ, Bool, true, false, List, Option, None, Result, MatchResult, if◌then◌else◌}
 use Rattle.devices.specs.Counting.{no_pulls, no_pushes}
 use Rattle.devices.specs.States.{Devices, SinkState, devices, source_state, sink_state}
 use Rattle.fuse_device.specs.Ends.{MountEnds}
@@ -13,6 +13,7 @@ use Rattle.strata.specs.declared.faults.Fault.{Fault}
 use Rattle.strata.specs.declared.faults.Fault.TheVariants.{Stopped}
 use Rattle.strata.specs.Faults.{status_of, line_told_of}
 use Rattle.strata.specs.Ending.{IsDone, IsRunOf, EndsInFault, TellsVersion}
+use Rattle.strata.specs.Readers.{IsRunByReaders}
 
 -- a fault is that the mount was taken away: a pull failed and the input is gone, or a push failed
 -- and one of both is gone
@@ -66,11 +67,13 @@ mounted left = record {
 }
 
 -- the program ran over a reader that has this left and a writer that holds this: as an open
--- /dev/fuse where the line says device, and as other streams where it does not
+-- /dev/fuse where the line says device, by one reader or several, and as other streams where it
+-- does not
 pub record IsRunBy (A : Type 0) (words : List (List ℕ)) (status : ℕ)
     (left held : Option (List ℕ)) (line : Line) : Type 0 where
-  pub device : line.device ≡ true
+  pub device : line.device ≡ true → line.readers ≤ 1
       → (new : MountEnds) × IsRunOnDevice A words status (mounted left) new
+  pub readers : line.device ≡ true → 1 < line.readers → IsRunByReaders A status line
   pub streams : line.device ≡ false
       → (new : Devices) × IsRunOf A words status (new_devices left held) new
 

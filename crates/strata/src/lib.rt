@@ -9,11 +9,13 @@
 //! `command_line` reads the words, `image_files` the files of images; `stack_prepare` checks images
 //! and stacks them, for each command that needs their stack, `serve_core` serves a stream over
 //! that, `path_list` writes the paths that it shows, and `fuse_device` knows where a mount was
-//! taken away. `checking`, `listing`, `serving` and `listening` are the four commands; the two
-//! first know nothing that serves.
+//! taken away; `device_readers` serves one by several readers (`by_readers`). `checking`,
+//! `listing`, `serving` and `listening` are the four commands; the two first know nothing that
+//! serves.
 #![tactic(auto)]
 
 mod balances;
+mod by_readers;
 mod checking;
 mod clients;
 pub mod faults;

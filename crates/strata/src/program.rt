@@ -13,6 +13,7 @@ ghost use Rattle.fuse_device.specs.Ends.{ends, MountEnds};
 ghost use Rattle.strata.specs.Ending.{AreNew, EndsInFault, IsOverWith, IsRunOf};
 ghost use Rattle.strata.specs.Mounts.{mounted, status_on_device, IsRunAsSaid, IsRunBy, IsRunOnDevice};
 
+use crate::by_readers::mount_by_readers;
 use crate::checking::check;
 use crate::faults::Fault;
 use crate::listening::listen;
@@ -34,19 +35,33 @@ use std::thread::Threads;
 
 /// Runs the program on the words after its name, over a reader and a writer that were not used
 /// before, and gives its exit status. They are the two ends of an open `/dev/fuse` where the line
-/// says `--device`, and nowhere else. A fault of the words, or memory that is refused as they are
-/// read, ends it before either is touched. Words that ask for the version are answered by its line.
+/// says `--device`, and nowhere else; then `shared` are both ends once more, as several readers use
+/// them, where the line says more than one. A fault of the words, or memory that is refused as they
+/// are read, ends it before either is touched. Words that ask for the version are answered by its
+/// line.
 ///
-/// What it then does is said of [`command_on_device`] and [`command_on_streams`]. Memory comes from
-/// `alloc`, but for the command line: `clap` takes the global allocator alone.
+/// What it then does is said of [`command_on_device`] and [`command_on_streams`], and of several
+/// readers in `device_readers`. Memory comes from `alloc`, but for the command line: `clap` takes
+/// the global allocator alone.
 pub fn command<
     R: Files + Net + Threads + Sync,
     A: Allocator + Copy + Send + Sync,
     S: AsStr,
     I: Read + Drop,
     O: Write + Drop,
+    X: Read + Copy + Send + Drop,
+    Y: Write + Copy + Send + Drop,
     E: Write,
->(rt: &R, alloc: A, global: Global, words: &[S], reader: I, writer: O, faults: &mut E) -> u8
+>(
+    rt: &R,
+    alloc: A,
+    global: Global,
+    words: &[S],
+    reader: I,
+    writer: O,
+    shared: (X, Y),
+    faults: &mut E,
+) -> u8
 where
     R::File: Send,
     R::Dir: Send,
@@ -54,7 +69,7 @@ where
         (I.remaining reader) (O.contents writer) }
 {
     match line(global, words) {
-        Ok(line) => command_of_line(rt, alloc, &line, reader, writer, faults),
+        Ok(line) => command_of_line(rt, alloc, &line, reader, writer, shared, faults),
         Err(NoLine::Version) => tell_version(alloc, &mut Spout::new(writer), faults),
         Err(NoLine::Fault(fault)) => Fault::from(fault).end(faults),
     }
@@ -66,8 +81,10 @@ fn command_of_line<
     A: Allocator + Copy + Send + Sync,
     I: Read + Drop,
     O: Write + Drop,
+    X: Read + Copy + Send + Drop,
+    Y: Write + Copy + Send + Drop,
     E: Write,
->(rt: &R, alloc: A, line: &Line<'_>, reader: I, writer: O, faults: &mut E) -> u8
+>(rt: &R, alloc: A, line: &Line<'_>, reader: I, writer: O, shared: (X, Y), faults: &mut E) -> u8
 where
     R::File: Send,
     R::Dir: Send,
@@ -77,7 +94,11 @@ where
         IsRunBy A words result (I.remaining reader) (O.contents writer) line.now }
 {
     if line.device {
-        return mount(rt, alloc, line, reader, writer, faults);
+        if line.readers == 1 {
+            return mount(rt, alloc, line, reader, writer, faults);
+        }
+        let (reader, writer) = shared;
+        return mount_by_readers(rt, alloc, line, reader, writer, faults);
     }
     let mut output = Spout::new(writer);
     command_on_streams(rt, alloc, line, &mut Tap::new(reader), &mut output, faults)

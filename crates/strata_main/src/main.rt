@@ -51,6 +51,7 @@ fn main(rt: HostRuntime) -> ExitCode {
                 words.as_slice(),
                 input,
                 rt.stdout(),
+                (input, rt.stdout()),
                 &mut faults,
             ),
         },

@@ -16,5 +16,6 @@ complete -c strata -n "__fish_seen_subcommand_from serve" -l requests -r -d 'Whe
 complete -c strata -n "__fish_seen_subcommand_from serve" -l replies -r -d 'Where replies go'
 complete -c strata -n "__fish_seen_subcommand_from serve" -l balances -r -d 'Where balances go'
 complete -c strata -n "__fish_seen_subcommand_from serve" -l device -d 'The streams are one open /dev/fuse'
+complete -c strata -n "__fish_seen_subcommand_from serve" -l readers -x -d 'How many readers serve the device'
 complete -c strata -n "__fish_seen_subcommand_from socket" -l listen -r -d 'Where the socket is made'
 complete -c strata -n "__fish_seen_subcommand_from socket" -l sessions -x -d 'How many sessions are served'

@@ -68,7 +68,17 @@ where
 {
     let input = Messages(&REQUESTS);
     let mut faults = Vec::new(global);
-    let status = command(rt, alloc, global, words, input, replies, &mut faults);
+    let shared = (io::empty(), io::sink());
+    let status = command(
+        rt,
+        alloc,
+        global,
+        words,
+        input,
+        replies,
+        shared,
+        &mut faults,
+    );
     let told: &[u8] = if status == 0 { &[] } else { line };
     (faults.as_slice() == told).then_some(status)
 }

@@ -2,7 +2,7 @@
 
 use std::alloc::{Allocator, Global};
 use std::fs::Files;
-use std::io::{Read, Write};
+use std::io::{self, Read, Write};
 use std::net::Net;
 use std::test::Fail;
 use std::thread::Threads;
@@ -23,7 +23,8 @@ where
     R::Dir: Send,
 {
     let mut faults = Vec::new(global);
-    let status = command(rt, alloc, global, words, input, output, &mut faults);
+    let shared = (io::empty(), io::sink());
+    let status = command(rt, alloc, global, words, input, output, shared, &mut faults);
     let told: &[u8] = if status == 0 { &[] } else { line };
     (faults.as_slice() == told).then_some(status)
 }

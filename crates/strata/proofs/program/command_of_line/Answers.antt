@@ -1,11 +1,19 @@
-use Rattle.std.proofs.Common.{◌∙◌, sym, subst, ap₂, true≢false}
+use Rattle.std.proofs.Common.{◌∙◌, sym, subst, ap₂, arith, true≢false}
 use Rattle.devices.specs.States.{devices, source_state, sink_state}
 use Rattle.strata.specs.Ending.{IsRunOf}
 use Rattle.strata.proofs.program.command_of_line.Goals as goal
 
 pub returns-then-line : goal.returns-then-line
 returns-then-line g c = λ words is. record {
-  device = λ e. c.mount.ensures words is;
+  device = λ e one. c.mount.ensures words is;
+  readers = λ e more. absurd (omega (arith, more, c.if-readers-eq1.true));
+  streams = λ e. absurd (true≢false (sym c.if-line.true ∙ e));
+}
+
+pub returns-else-readers-eq1 : goal.returns-else-readers-eq1
+returns-else-readers-eq1 g c = λ words is. record {
+  device = λ e one. absurd (omega (arith, one, c.if-readers-eq1.false, c.requires.limits.readers));
+  readers = λ e more. c.mount_by_readers.ensures;
   streams = λ e. absurd (true≢false (sym c.if-line.true ∙ e));
 }
 
@@ -16,7 +24,8 @@ returns g c = λ words is.
     let new = devices (source_state (g.I.Read.remaining input.reader) input.counts)
     (sink_state (g.O.Write.contents output.writer) output.counts) in
     record {
-      device = λ e. absurd (true≢false (sym e ∙ c.if-line.false));
+      device = λ e one. absurd (true≢false (sym e ∙ c.if-line.false));
+      readers = λ e more. absurd (true≢false (sym e ∙ c.if-line.false));
       streams = λ e. (
         new,
         subst (λ d. IsRunOf g.row.A.Denot words c.command_on_streams.result d new) (ap₂ devices c.new.ensures c.new-output.ensures)

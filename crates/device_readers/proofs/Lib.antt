@@ -1,0 +1,5 @@
+pub mod Told
+pub mod Opened
+pub mod Reading
+pub mod Order
+pub mod Sums

@@ -1,0 +1,156 @@
+-- What readers moved together. The sums of what messages move one by one do not go by their order
+-- (`sums_shuffled`); in a session that no message changes a stream moves just that (`moves_one_by_one`).
+use Rattle.std.proofs.Common.{◌≡◌, ◌∙◌, sym, ap, subst, refl, ℕ, suc, ◌+◌, ◌<◌, ℤ, pos, negsuc, ◌+ℤ◌, ◌-ℤ◌, List, [], ◌∷◌, ◌++◌, length, map, flat_map, sum_by, IsPermutation, Result, Ok, Err, arith}
+use Rattle.std.specs.List.{AllByRecursion}
+use Rattle.std.proofs.lemmas.Int.{ints}
+use Rattle.std.proofs.lemmas.List.Elements.{All-from_recursion, recursion_from_All}
+use Rattle.std.proofs.lemmas.List.Sorted.{All-permutation, IsPermutation-sym, sum_by-IsPermutation}
+use Rattle.std.proofs.lemmas.List.Sums.{sum_by-cons}
+use Rattle.fuse_wire.specs.Requests.{asked}
+use Rattle.lookup_balances.proofs.Sums.{balance_append}
+use Rattle.reply_model.specs.declared.session.Session.{Session}
+use Rattle.reply_model.specs.Sessions.{session_after}
+use Rattle.reply_model.specs.Moves.{balance}
+use Rattle.reply_model.specs.Streams.{moves_by}
+use Rattle.reply_pool.specs.Answers.{answering}
+use Rattle.serve_loop.specs.declared.done.Done.{Done}
+use Rattle.serve_loop.specs.Rounds.{Answering}
+use Rattle.serve_loop.specs.Serving.{moves_of}
+use Rattle.serve_core.specs.declared.stop.Stop.{Stop}
+use Rattle.serve_core.specs.Headline.{IsRunOver}
+use Rattle.serve_core.proofs.Stops.{ended_well}
+use Rattle.serve_loop.specs.Serving.{IsRun, Trace}
+use Rattle.stack_model.specs.Listing.{Stacked}
+use Rattle.stack_model.specs.Numbers.{nodes}
+use Rattle.device_readers.specs.Ends.{done_of}
+use Rattle.device_readers.specs.Readers.{AreReaders, Counts, IsReader, Reader, done_of_all}
+use Rattle.device_readers.specs.Laws.{CameOf, KeepsSession, sum_at}
+
+-- what a number has above 0, and below
+abbrev above : ℤ → ℕ
+above (pos n) = n
+above (negsuc n) = 0
+
+abbrev below : ℤ → ℕ
+below (pos n) = 0
+below (negsuc n) = suc n
+
+parted : (z : ℤ) → z ≡ pos (above z) -ℤ pos (below z)
+parted (pos n) = omega (arith, ints)
+parted (negsuc n) = omega (arith, ints)
+
+module _ (by : Answering) (node : ℕ) where
+  -- what a message moves of the node, in the session that streams begin in
+  abbrev moved : List ℕ → ℤ
+  moved m = balance node (by.moved by.first (asked m))
+
+  -- and what messages do, one by one
+  abbrev total : List (List ℕ) → ℤ
+  total ms = pos (sum_by (λ m. above (moved m)) ms) -ℤ pos (sum_by (λ m. below (moved m)) ms)
+
+  total_cons : (m : List ℕ) (ms : List (List ℕ)) → total (m ∷ ms) ≡ moved m +ℤ total ms
+  total_cons m ms =
+      let a = sum_by-cons (λ m. above (moved m)) m ms in
+      let b = sum_by-cons (λ m. below (moved m)) m ms in
+      let c = parted (moved m) in
+      omega (arith, ints)
+
+  total_append : (xs ys : List (List ℕ)) → total (xs ++ ys) ≡ total xs +ℤ total ys
+  total_append [] ys = omega (arith, ints)
+  total_append (x ∷ xs) ys =
+      let a = total_cons x (xs ++ ys) in let b = total_cons x xs in let c = total_append xs ys in omega (arith, ints)
+
+  total_shuffled : (xs ys : List (List ℕ)) → IsPermutation xs ys → total ys ≡ total xs
+  total_shuffled xs ys p =
+      let a = sum_by-IsPermutation (λ m. above (moved m)) xs ys p in
+      let b = sum_by-IsPermutation (λ m. below (moved m)) xs ys p in
+      omega (arith, ints)
+
+  -- in a session that no message changes a stream moves what its messages do
+  kept : (s : Session) (ms : List (List ℕ)) → s ≡ by.first → KeepsSession by.first ms
+      → balance node (moves_by by.moved s (map asked ms)) ≡ total ms
+  kept s [] e k = omega (arith, ints)
+  kept s (m ∷ ms) e k =
+      let q = asked m in
+      let after : session_after s q.op ≡ by.first = ap (λ t. session_after t q.op) e ∙ k.0 in
+      let a = balance_append node (by.moved s q) (moves_by by.moved (session_after s q.op) (map asked ms)) in
+      let b = kept (session_after s q.op) ms after k.1 in
+      let c = ap (λ t. balance node (by.moved t q)) e in
+      let d = total_cons m ms in
+      omega (arith, ints)
+
+module _ {A : Type 0} (by : Answering) (nodes : ℕ) (place : ℕ) (there : place < nodes) where
+  -- the streams leave together what their messages move one by one
+  sums : (done : List (Done A)) (parts : List (List (List ℕ))) → CameOf by nodes done parts
+      → AllByRecursion (KeepsSession by.first) parts → sum_at place done ≡ total by (place + 1) (flat_map (λ part. part) parts)
+  sums [] [] c k = omega (arith, ints)
+  sums [] (messages ∷ others) c k = absurd c
+  sums (done ∷ more) [] c k = absurd c
+  sums (done ∷ more) (messages ∷ others) c k =
+      let a = c.0.each place there in
+      let b = kept by (place + 1) by.first messages refl k.0 in
+      let d = sums more others c.1 k.1 in
+      let e = total_append by (place + 1) messages (flat_map (λ part. part) others) in
+      omega (arith, ints)
+
+parts_keep : (s : Session) (parts : List (List (List ℕ))) → KeepsSession s (flat_map (λ part. part) parts)
+    → AllByRecursion (KeepsSession s) parts
+parts_keep s [] k = tt
+parts_keep s (part ∷ parts) k = let both = apart part k in (both.0, parts_keep s parts both.1)
+  where
+    apart : (part : List (List ℕ)) → KeepsSession s (part ++ flat_map (λ part. part) parts)
+        → KeepsSession s part × KeepsSession s (flat_map (λ part. part) parts)
+    apart [] k = (tt, k)
+    apart (m ∷ part) k = let rest = apart part k.1 in ((k.0, rest.0), rest.1)
+
+-- what they leave is what one stream of all messages leaves, in whatever order
+pub together : {A : Type 0} (by : Answering) (nodes : ℕ) (done : List (Done A)) (parts : List (List (List ℕ))) (all : List (List ℕ))
+    → CameOf by nodes done parts → IsPermutation (flat_map (λ part. part) parts) all → KeepsSession by.first all → (place : ℕ)
+    → place < nodes → sum_at place done ≡ balance (place + 1) (moves_of by all)
+together by nodes done parts all c p k place there =
+    let P : List ℕ → Type 0 = λ m. session_after by.first (asked m).op ≡ by.first in
+    let joined = flat_map (λ part. part) parts in
+    let keep = recursion_from_All P joined (All-permutation P all joined (IsPermutation-sym joined all p) (All-from_recursion P all k)) in
+    let a = sums by nodes place there done parts c (parts_keep by.first parts keep) in
+    let b = kept by (place + 1) by.first all refl k in
+    let d = total_shuffled by (place + 1) joined all p in
+    omega (arith, ints)
+
+-- the stream of a reader that came to its end left what its messages moved
+module _ {A : Type 0} (session : Session) (stack : Stacked) (turns : ℕ) where
+  came_one : (t : Trace) (result : Result (Done A) Stop) → IsRunOver session stack turns t result
+      → (parts : List (List (List ℕ))) × CameOf (answering session stack) (length (nodes stack.entries)) (done_of result) parts
+  came_one t (Ok done) run =
+      let r = subst (IsRun (answering session stack) (length (nodes stack.entries)) turns t) (ended_well done run.ended run.result_is) run.run in
+      (r.messages ∷ [], (r.served.balanced, tt))
+  came_one t (Err stop) run = ([], tt)
+
+  came_append : (xs ys : List (Done A)) (ps qs : List (List (List ℕ)))
+      → CameOf (answering session stack) (length (nodes stack.entries)) xs ps
+      → CameOf (answering session stack) (length (nodes stack.entries)) ys qs
+      → CameOf (answering session stack) (length (nodes stack.entries)) (xs ++ ys) (ps ++ qs)
+  came_append [] ys [] qs c d = d
+  came_append [] ys (p ∷ ps) qs c d = absurd c
+  came_append (x ∷ xs) ys [] qs c d = absurd c
+  came_append (x ∷ xs) ys (p ∷ ps) qs c d = (c.0, came_append xs ys ps qs c.1 d)
+
+  came_with : (r : Reader A) (readers : List (Reader A)) → IsRunOver session stack turns r.trace r.result
+      → (parts : List (List (List ℕ))) × CameOf (answering session stack) (length (nodes stack.entries)) (done_of_all readers) parts
+      → (parts : List (List (List ℕ))) × CameOf (answering session stack) (length (nodes stack.entries)) (done_of_all (r ∷ readers)) parts
+  came_with r readers run (qs, d) =
+      let (ps, c) = came_one r.trace r.result run in
+      (ps ++ qs, came_append (done_of r.result) (done_of_all readers) ps qs c d)
+
+  came_all : (from : Counts) (readers : List (Reader A)) → AllByRecursion (IsReader session stack turns from) readers
+      → (parts : List (List (List ℕ))) × CameOf (answering session stack) (length (nodes stack.entries)) (done_of_all readers) parts
+  came_all from [] each = ([], tt)
+  came_all from (r ∷ readers) each = came_with r readers each.0.run (came_all from readers each.1)
+
+  pub came : (from : Counts) (count : ℕ) (readers : List (Reader A)) → AreReaders session stack turns from count readers
+      → (parts : List (List (List ℕ))) × CameOf (answering session stack) (length (nodes stack.entries)) (done_of_all readers) parts
+  came from count readers are =
+      subst (λ rs. (parts : List (List (List ℕ))) × CameOf (answering session stack) (length (nodes stack.entries)) (done_of_all rs) parts)
+      (sym are.readers_are) (came_with are.leader are.others are.goes_on.run (came_all _ are.others are.new.each))
+
+-- both of them, for the goals of the law
+pub ruleset summed = (came, together)

@@ -1,0 +1,55 @@
+-- How the readers of one open /dev/fuse ended, and which end is told of all of them.
+use Rattle.std.specs.Prelude.{◌≡◌, ℕ, Bool, ◌||◌, List, [], ◌∷◌, ◌++◌, Vec, Result, Ok, Err, IsOkAnd, nat_le, if◌then◌else◌}
+use Rattle.serve_core.specs.declared.stop.Stop.{Stop}
+use Rattle.serve_core.specs.declared.stop.Stop.TheVariants as stops
+use Rattle.serve_loop.specs.declared.done.Done.{Done}
+use Rattle.device_readers.specs.declared.ends.End.{End}
+use Rattle.device_readers.specs.declared.ends.End.TheVariants.{AtEnd, TakenAway, Stopped}
+
+-- the end of a reader that stopped: the mount was taken away where a read failed and its side is
+-- gone, or a write failed and one side is
+abbrev pub end_of_stop : Stop → Bool → Bool → End
+end_of_stop stops.Read input output = if input then TakenAway else Stopped stops.Read
+end_of_stop stops.Write input output = if input || output then TakenAway else Stopped stops.Write
+end_of_stop stop input output = Stopped stop
+
+-- the end of a reader, of which either side may be gone
+abbrev pub end_of : {A : Type 0} → Result (Done A) Stop → Bool → Bool → End
+end_of (Ok done) input output = AtEnd
+end_of (Err stop) input output = end_of_stop stop input output
+
+-- where a fault stands in the table of faults and their exit statuses
+abbrev pub place_of : Stop → ℕ
+place_of (stops.Layer layer fault) = 1
+place_of (stops.Layers count) = 2
+place_of stops.Read = 3
+place_of stops.Write = 4
+place_of (stops.BadLength at len) = 5
+place_of (stops.CutOff at) = 6
+place_of stops.Turns = 7
+place_of stops.Memory = 8
+
+-- where an end stands in the order in which ends are told: faults, then that the mount was taken
+-- away, and at last none of both
+abbrev pub place_of_end : End → ℕ
+place_of_end (Stopped stop) = place_of stop
+place_of_end TakenAway = 9
+place_of_end AtEnd = 10
+
+-- of two ends the one that is told, and the former where they stand alike
+abbrev pub first_told : End → End → End
+first_told low high = if nat_le (place_of_end low) (place_of_end high) then low else high
+
+-- what a stream came to that was served to its end
+abbrev pub done_of : {A : Type 0} → Result (Done A) Stop → List (Done A)
+done_of (Ok done) = done ∷ []
+done_of (Err stop) = []
+
+-- two lists, one behind the other, where memory was refused for neither
+abbrev pub AreBoth : {A E : Type 0} → Result (Vec (Done A) A) E → Result (Vec (Done A) A) E
+    → List (Done A) → Type 0
+AreBoth low high all = IsOkAnd low (λ xs. IsOkAnd high (λ ys. all ≡ xs.items ++ ys.items))
+
+-- a list with one more in front, where memory was not refused for it
+abbrev pub IsBehind : {A E : Type 0} → Done A → Result (Vec (Done A) A) E → List (Done A) → Type 0
+IsBehind before more all = IsOkAnd more (λ xs. all ≡ before ∷ xs.items)

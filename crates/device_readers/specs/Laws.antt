@@ -1,0 +1,43 @@
+-- What readers come to, for a caller: which end is told, and what they moved together.
+use Rattle.std.specs.Prelude.{◌≡◌, ◌≤◌, ◌⊎◌, ⊤, ℕ, ℤ, pos, ◌+ℤ◌, List, [], ◌∷◌}
+use Rattle.std.specs.List.{AllByRecursion}
+use Rattle.fuse_wire.specs.Requests.{asked}
+use Rattle.lookup_balances.specs.Balances.{balance_at}
+use Rattle.reply_model.specs.declared.session.Session.{Session}
+use Rattle.reply_model.specs.Sessions.{session_after}
+use Rattle.serve_loop.specs.declared.done.Done.{Done}
+use Rattle.serve_loop.specs.Rounds.{Answering}
+use Rattle.serve_loop.specs.Serving.{AreBalances, moves_of}
+use Rattle.device_readers.specs.declared.ends.End.{End}
+use Rattle.device_readers.specs.Ends.{end_of, place_of_end}
+use Rattle.device_readers.specs.Readers.{Reader}
+
+-- how a reader ended
+abbrev pub own_end : {A : Type 0} → Reader A → End
+own_end r = end_of r.result r.input_gone r.output_gone
+
+-- this end is told before that of each of the readers, or stands alike
+abbrev pub IsToldFirst : {A : Type 0} → End → List (Reader A) → Type 0
+IsToldFirst end readers = AllByRecursion (λ r. place_of_end end ≤ place_of_end (own_end r)) readers
+
+-- one of the readers ended so
+abbrev pub HasReader : {A : Type 0} → End → List (Reader A) → Type 0
+HasReader end [] = ⊥
+HasReader end (r ∷ readers) = (end ≡ own_end r) ⊎ HasReader end readers
+
+-- how many lookups these streams leave with the client together, of the node at a place
+abbrev pub sum_at : {A : Type 0} → ℕ → List (Done A) → ℤ
+sum_at place [] = pos 0
+sum_at place (done ∷ more) = balance_at done.balances.items place +ℤ sum_at place more
+
+-- each of these streams left what its messages moved
+abbrev pub CameOf : {A : Type 0} → Answering → ℕ → List (Done A) → List (List (List ℕ)) → Type 0
+CameOf by nodes [] [] = ⊤
+CameOf by nodes (done ∷ more) (messages ∷ others) =
+    AreBalances (moves_of by messages) nodes done.balances.items × CameOf by nodes more others
+CameOf by nodes [] (messages ∷ others) = ⊥
+CameOf by nodes (done ∷ more) [] = ⊥
+
+-- none of these messages changes the session
+abbrev pub KeepsSession : Session → List (List ℕ) → Type 0
+KeepsSession s messages = AllByRecursion (λ m. session_after s (asked m).op ≡ s) messages

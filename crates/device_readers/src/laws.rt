@@ -1,0 +1,42 @@
+//! What readers come to, by what [`crate::serve_by_readers`] promises.
+
+ghost use Rattle.std.specs.Prelude.{◌≡◌, ◌<◌, ◌+◌, ◌⊎◌, ℕ, List, length, IsPermutation};
+ghost use Rattle.std.specs.List.{flat_map};
+ghost use Rattle.reply_model.specs.declared.session.Session.{Session};
+ghost use Rattle.reply_model.specs.Moves.{balance};
+ghost use Rattle.reply_pool.specs.Answers.{answering};
+ghost use Rattle.serve_loop.specs.declared.done.Done.{Done};
+ghost use Rattle.serve_loop.specs.Rounds.{Answering};
+ghost use Rattle.serve_loop.specs.Serving.{moves_of};
+ghost use Rattle.stack_model.specs.Listing.{Stacked};
+ghost use Rattle.stack_model.specs.Numbers.{nodes};
+ghost use Rattle.device_readers.specs.declared.ends.End.TheVariants.{AtEnd};
+ghost use Rattle.device_readers.specs.declared.ends.Ended.{Ended};
+ghost use Rattle.device_readers.specs.Readers.{AreReaders, Counts, Reader, TellsOf, done_of_all};
+ghost use Rattle.device_readers.specs.Laws.{CameOf, HasReader, IsToldFirst, KeepsSession, sum_at};
+
+use std::alloc::Allocator;
+
+/// The end that is told is that of one of the readers, if it is no end without a fault, and no
+/// reader's end is told before it.
+#[tactic(auto, using(crate::proofs::Order::told))]
+pub fn first_fault_is_told<A: Allocator>()
+    ensures first { (before : List (Done A)) (readers : List (Reader A)) (ended : Ended A) →
+        TellsOf before readers ended → IsToldFirst ended.end readers }
+    ensures one { (before : List (Done A)) (readers : List (Reader A)) (ended : Ended A) →
+        TellsOf before readers ended → (ended.end ≡ AtEnd) ⊎ HasReader ended.end readers }
+{}
+
+/// The streams of readers leave what their own messages moved. In a session that none of these
+/// changes, that is together what one stream of all of them leaves, in whatever order.
+#[tactic(auto, using(crate::proofs::Sums::summed))]
+pub fn moves_are_summed<A: Allocator>()
+    ensures each { (session : Session) (stack : Stacked) (turns : ℕ) (from : Counts) (count : ℕ)
+        (readers : List (Reader A)) → AreReaders session stack turns from count readers →
+        (parts : List (List (List ℕ))) × CameOf (answering session stack)
+        (length (nodes stack.entries)) (done_of_all readers) parts }
+    ensures together { (by : Answering) (nodes : ℕ) (done : List (Done A))
+        (parts : List (List (List ℕ))) (all : List (List ℕ)) → CameOf by nodes done parts →
+        IsPermutation (flat_map (λ part. part) parts) all → KeepsSession by.first all →
+        (place : ℕ) → place < nodes → sum_at place done ≡ balance (place + 1) (moves_of by all) }
+{}

@@ -1,0 +1,163 @@
+//! All readers.
+
+ghost use Rattle.std.specs.Prelude.{◌≡◌, ◌+◌, ◌<◌, ◌≤◌};
+ghost use Rattle.std.specs.Thread.{IsSync};
+ghost use denote.Param.Send.{IsSend, Frees};
+ghost use Rattle.devices.specs.declared.limits.TheConstants.{MAX_TURNS};
+ghost use Rattle.fuse_device.specs.Ends.{ends};
+ghost use Rattle.serve_loop.specs.Serving.{AreReady};
+ghost use Rattle.device_readers.specs.Readers.{AreServed, AreServedNew, IsAlone, IsServedBy, counts_of};
+
+use crate::ends::{Ended, behind, both, ended_alone};
+use crate::opening::open;
+use crate::reader::{serve_alone, serve_on};
+use fuse_device::{MessageTap, ReplySpout};
+use serve_core::{Gate, SharedAllocator, Stop, Terms};
+use serve_loop::{Begun, Opening};
+use std::io::{Read, Write};
+use std::thread::{Threads, join};
+use table_reader::Table;
+
+/// Serves the requests of an open `/dev/fuse` over a table by so many readers, each over the same
+/// reader and writer, on these terms, and waits until all have ended.
+///
+/// One reader serves alone until the session has begun. Then the others begin in that session, and
+/// each answers what it reads as [`serve_core::run`] does, with a room of 135,168 bytes and buffers
+/// and balances of its own. One that ends, or stops for a fault or for want of memory, ends alone:
+/// the others serve on. Where no thread can be started for a reader, it begins once another has
+/// ended. Where the first one ends before the session has begun, no other begins.
+pub fn serve_by_readers<
+    R: Threads + Sync,
+    A: SharedAllocator,
+    I: Read + Copy + Send + Drop,
+    O: Write + Copy + Send + Drop,
+    G: Gate + Sync,
+>(
+    rt: &R,
+    alloc: A,
+    table: &Table<A>,
+    reader: I,
+    writer: O,
+    readers: u32,
+    terms: &Terms<'_, G>,
+) -> Ended<A>
+    requires some { 1 ≤ readers }
+    requires turns { terms.now.turns ≤ MAX_TURNS }
+    ensures { IsServedBy terms.now.first table.now terms.now.turns readers result }
+{
+    let mut input = match MessageTap::new(alloc, reader) {
+        Ok(input) => input,
+        Err(_) => return ended_alone(alloc, Err(Stop::Memory), false, false),
+    };
+    let mut output = ReplySpout::new(writer);
+    let begun = match open(rt, alloc, table, &mut input, &mut output, terms) {
+        Ok(Opening::Begun(begun)) => begun,
+        Ok(Opening::Ended(done)) => {
+            return ended_alone(alloc, Ok(done), input.is_gone(), output.is_gone());
+        }
+        Err(stop) => return ended_alone(alloc, Err(stop), input.is_gone(), output.is_gone()),
+    };
+    let Begun { session, done } = begun;
+    let terms = Terms {
+        first: session,
+        plan: terms.plan,
+        turns: terms.turns,
+        gate: terms.gate,
+    };
+    let others = readers - 1;
+    let all = serve_with(
+        rt, alloc, table, input, output, reader, writer, others, &terms,
+    );
+    behind(alloc, done, all)
+}
+
+// Serves on by the reader that began and by so many others, at the same time.
+fn serve_with<
+    R: Threads + Sync,
+    A: SharedAllocator,
+    I: Read + Copy + Send + Drop,
+    O: Write + Copy + Send + Drop,
+    G: Gate + Sync,
+>(
+    rt: &R,
+    alloc: A,
+    table: &Table<A>,
+    input: MessageTap<I, A>,
+    output: ReplySpout<O>,
+    reader: I,
+    writer: O,
+    others: u32,
+    terms: &Terms<'_, G>,
+) -> Ended<A>
+    requires { AreReady terms.now.turns (ends I.remaining input output).devices }
+    ensures { AreServed terms.now.first table.now terms.now.turns
+        (counts_of (ends I.remaining input output).devices) (1 + others) result }
+{
+    if others == 0 {
+        return serve_on(rt, alloc, table, input, output, terms);
+    }
+    let (rest, leader) = join(
+        rt,
+        move || -> Ended<A>
+            requires { IsSync R.row × IsSync G.row × IsSync A.row × IsSend A.row
+                × Frees A.Allocator A.dealloc_token × IsSend I.row × IsSend O.row
+                × (1 ≤ others) × (terms.now.turns ≤ MAX_TURNS) }
+            ensures { AreServedNew terms.entry.now.first table.entry.now
+                terms.entry.now.turns others result }
+        { serve_each(rt, alloc, table, reader, writer, others, terms) },
+        move || -> Ended<A>
+            requires { IsSync R.row × IsSync G.row × IsSync A.row × IsSend A.row
+                × Frees A.Allocator A.dealloc_token × IsSend I.row × IsSend O.row
+                × AreReady terms.now.turns (ends I.remaining input output).devices }
+            ensures { IsAlone terms.entry.now.first table.entry.now terms.entry.now.turns
+                (counts_of (ends I.remaining input output).devices) result }
+        { serve_on(rt, alloc, table, input, output, terms) },
+    );
+    both(leader, rest)
+}
+
+// Serves by so many new readers at the same time.
+#[cycle(crew)]
+fn serve_each<
+    R: Threads + Sync,
+    A: SharedAllocator,
+    I: Read + Copy + Send + Drop,
+    O: Write + Copy + Send + Drop,
+    G: Gate + Sync,
+>(
+    rt: &R,
+    alloc: A,
+    table: &Table<A>,
+    reader: I,
+    writer: O,
+    count: u32,
+    terms: &Terms<'_, G>,
+) -> Ended<A>
+    requires some { 1 ≤ count }
+    requires turns { terms.now.turns ≤ MAX_TURNS }
+    ensures { AreServedNew terms.now.first table.now terms.now.turns count result }
+{
+    if count <= 1 {
+        return serve_alone(rt, alloc, table, reader, writer, terms);
+    }
+    let low = count / 2;
+    let high = count - low;
+    let (lows, highs) = join(
+        rt,
+        move || -> Ended<A>
+            requires { IsSync R.row × IsSync G.row × IsSync A.row × IsSend A.row
+                × Frees A.Allocator A.dealloc_token × IsSend I.row × IsSend O.row
+                × (1 ≤ low) × (terms.now.turns ≤ MAX_TURNS) }
+            ensures { AreServedNew terms.entry.now.first table.entry.now
+                terms.entry.now.turns low result }
+        { serve_each(rt, alloc, table, reader, writer, low, terms) },
+        move || -> Ended<A>
+            requires { IsSync R.row × IsSync G.row × IsSync A.row × IsSend A.row
+                × Frees A.Allocator A.dealloc_token × IsSend I.row × IsSend O.row
+                × (1 ≤ high) × (terms.now.turns ≤ MAX_TURNS) }
+            ensures { AreServedNew terms.entry.now.first table.entry.now
+                terms.entry.now.turns high result }
+        { serve_each(rt, alloc, table, reader, writer, high, terms) },
+    );
+    both(lows, highs)
+}

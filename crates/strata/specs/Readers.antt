@@ -1,0 +1,45 @@
+-- fuse(4): what a command leaves behind that was run over an open /dev/fuse by several readers.
+use Rattle.std.specs.Prelude.{◌≡◌, ◌<◌, ◌⊎◌, ℕ, List, vec_len}
+use Rattle.command_line.specs.declared.options.Line.{Line}
+use Rattle.devices.specs.declared.limits.TheConstants.{MAX_TURNS}
+use Rattle.device_readers.specs.declared.ends.End.{End}
+use Rattle.device_readers.specs.declared.ends.End.TheVariants.{AtEnd, TakenAway, Stopped}
+use Rattle.device_readers.specs.declared.ends.Ended.{Ended}
+use Rattle.device_readers.specs.Readers.{IsServedBy}
+use Rattle.stack_model.specs.Listing.{Stacked}
+use Rattle.stack_prepare.specs.Preparing.{AreStacked}
+use Rattle.strata.specs.declared.faults.Fault.{Fault}
+use Rattle.strata.specs.declared.faults.Fault.TheVariants as faults
+use Rattle.strata.specs.Faults.{out_of_memory, status_of, stop_status}
+use Rattle.strata.specs.Ending.{AreNotStacked, NamesAsMany, first_of, profile_of}
+
+-- the exit status of the end that is told of readers
+abbrev pub status_of_end : End → ℕ
+status_of_end (Stopped stop) = stop_status stop
+status_of_end TakenAway = 0
+status_of_end AtEnd = 0
+
+-- the images that the line names are good, readers served their stack, and this is told of them
+pub record IsShared (A : Type 0) (line : Line) (end : End) : Type 0 where
+  pub images : List (List ℕ)
+  pub named : NamesAsMany line images
+  pub stack : Stacked
+  pub stacked : AreStacked (profile_of line) images stack
+  pub ended : Ended A
+  pub served : IsServedBy (first_of line) stack MAX_TURNS line.readers ended
+  pub end_is : end ≡ ended.end
+
+-- one of the images that the line names could not be read, or they are not stacked, or memory ran
+-- out
+abbrev pub IsNotShared : Line → Fault → Type 0
+IsNotShared line fault =
+    ((image : ℕ) × (image < vec_len line.images) × (fault ≡ faults.ImageFile image))
+    ⊎ (((images : List (List ℕ)) × NamesAsMany line images
+    × AreNotStacked (profile_of line) images fault) ⊎ (fault ≡ out_of_memory))
+
+-- readers served what the line says and their end has this status; or a fault that came before has
+-- it
+abbrev pub IsRunByReaders : (A : Type 0) → ℕ → Line → Type 0
+IsRunByReaders A status line =
+    ((end : End) × (status ≡ status_of_end end) × IsShared A line end)
+    ⊎ ((fault : Fault) × (status ≡ status_of fault) × IsNotShared line fault)

@@ -1,0 +1,79 @@
+//! The command `serve` over an open `/dev/fuse`, by several readers.
+
+ghost use Rattle.std.specs.Prelude.{◌≡◌, IfOk, IfErr};
+ghost use Rattle.command_line.specs.CommandLine.{IsInLimits};
+ghost use Rattle.strata.specs.Readers.{IsNotShared, IsRunByReaders, IsShared, status_of_end};
+
+use crate::faults::Fault;
+use crate::settings::{first_of, plan_of, profile_of};
+use command_line::Line;
+use device_readers::{End, serve_by_readers};
+use image_files::read_images;
+use serve_core::{MAX_TURNS, Terms};
+use stack_prepare::{FreePass, prepare_as};
+use std::alloc::Allocator;
+use std::fs::Files;
+use std::io::{Read, Write};
+use std::thread::Threads;
+
+/// Serves an open `/dev/fuse` over the images of a line by as many readers as it says, all of which
+/// use this reader and this writer, and gives the exit status.
+///
+/// It is 0 where each of them came to its stream's end or found the mount taken away. Else it is
+/// that of the first of their faults in the table of faults, whose line goes to `faults` once all
+/// have ended.
+pub fn mount_by_readers<
+    R: Files + Threads + Sync,
+    A: Allocator + Copy + Send + Sync,
+    I: Read + Copy + Send + Drop,
+    O: Write + Copy + Send + Drop,
+    E: Write,
+>(rt: &R, alloc: A, line: &Line<'_>, reader: I, writer: O, faults: &mut E) -> u8
+where
+    R::File: Send,
+    R::Dir: Send,
+    requires { IsInLimits line.now }
+    ensures { IsRunByReaders A result line.now }
+{
+    match serve_shared(rt, alloc, line, reader, writer) {
+        Ok(end) => tell_end(end, faults),
+        Err(fault) => fault.end(faults),
+    }
+}
+
+// Reads, checks and stacks the images, serves their table by the line's readers, and gives the end
+// that is told of them.
+fn serve_shared<
+    R: Files + Threads + Sync,
+    A: Allocator + Copy + Send + Sync,
+    I: Read + Copy + Send + Drop,
+    O: Write + Copy + Send + Drop,
+>(rt: &R, alloc: A, line: &Line<'_>, reader: I, writer: O) -> Result<End, Fault>
+where
+    R::File: Send,
+    R::Dir: Send,
+    requires { IsInLimits line.now }
+    ensures served { IfOk result (IsShared A line.now) }
+    ensures stopped { IfErr result (IsNotShared line.now) }
+{
+    let images = read_images(rt, alloc, line.images.as_slice())?;
+    let table = prepare_as(rt, alloc, images, profile_of(line), &FreePass)?;
+    let terms = Terms {
+        first: first_of(line),
+        plan: plan_of(line),
+        turns: MAX_TURNS,
+        gate: &FreePass,
+    };
+    let ended = serve_by_readers(rt, alloc, &table, reader, writer, line.readers, &terms);
+    Ok(ended.end)
+}
+
+// The exit status of an end, of which a fault has its line.
+fn tell_end<E: Write>(end: End, faults: &mut E) -> u8
+    ensures { result ≡ status_of_end end }
+{
+    match end {
+        End::AtEnd | End::TakenAway => 0,
+        End::Stopped(stop) => Fault::Stopped(stop).end(faults),
+    }
+}
