@@ -2,8 +2,8 @@
 
 use node_table::Table;
 pub use serve_core::{
-    Done, Failed, FreePass, Gate, Plan, Profile, Session, Sink, Source, Spout, Stop, Tap, Terms,
-    Work, prepare, prepare_as, run, serve, serve_as,
+    Done, Failed, FreePass, Gate, Owner, Plan, Profile, Session, Sink, Source, Spout, Stop, Tap,
+    Terms, Work, prepare, prepare_as, prepare_owned, run, serve, serve_as, serve_owned,
 };
 use std::alloc::Allocator;
 use std::io::{Read, Write};

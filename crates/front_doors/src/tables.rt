@@ -1,7 +1,8 @@
 //! `stack_prepare`: images to a table.
 
 pub use stack_prepare::{
-    FreePass, Gate, Profile, Refusal, SharedAllocator, Table, Work, prepare, prepare_as,
+    FreePass, Gate, Owner, Profile, Refusal, SharedAllocator, Table, Work, prepare, prepare_as,
+    prepare_owned,
 };
 use std::thread::Threads;
 
@@ -16,4 +17,14 @@ pub fn prepared<R: Threads + Sync, A: SharedAllocator>(
         Some(profile) => prepare_as(rt, alloc, images, profile, &FreePass),
         None => prepare(rt, alloc, images, &FreePass),
     }
+}
+
+/// The same of an owner, by the usual rules.
+pub fn prepared_for<R: Threads + Sync, A: SharedAllocator>(
+    rt: &R,
+    alloc: A,
+    images: Vec<Vec<u8, A>, A>,
+    owner: Owner,
+) -> Result<Table<A>, Refusal> {
+    prepare_owned(rt, alloc, images, Profile::Usual, owner, &FreePass)
 }

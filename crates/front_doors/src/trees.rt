@@ -65,7 +65,7 @@ pub fn owned<R: Threads + Sync, A: Allocator + Copy + Send + Sync>(
     let tree = stack(rt, alloc, &images, &FreePass)?;
     let mut attributes = Attributes::none(alloc);
     attributes.owner = owner;
-    Table::with_attributes(rt, alloc, tree, images, &attributes)
+    Table::with_attributes(rt, alloc, tree, images, attributes)
 }
 
 /// What a tree tells of a path.

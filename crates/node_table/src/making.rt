@@ -53,7 +53,7 @@ pub trait OfTree: Sized {
         alloc: Self::Memory,
         tree: Self::Tree,
         images: Self::Images,
-        attributes: &Self::Attributes,
+        attributes: Self::Attributes,
     ) -> Result<Self, AllocError>
         requires threads { IsSync R.row }
         requires fits { fits tree images };
@@ -92,7 +92,7 @@ impl<A: Allocator + Copy> OfTree for Table<A> {
         requires few { length images.items ≤ MAX_LAYERS }
         ensures { IfOk result (λ table. IsTableOf images.items table) }
     {
-        Table::with_attributes(rt, alloc, tree, images, &Attributes::none(alloc))
+        Table::with_attributes(rt, alloc, tree, images, Attributes::none(alloc))
     }
 
     /// The same, where each layer's rows say of their nodes whose they are, when they were changed
@@ -103,13 +103,13 @@ impl<A: Allocator + Copy> OfTree for Table<A> {
         alloc: A,
         tree: Tree<A>,
         images: Vec<Image<A>, A>,
-        attributes: &Attributes<A>,
+        attributes: Attributes<A>,
     ) -> Result<Table<A>, AllocError>
         requires threads { IsSync R.row }
         requires tree { IsTreeOf 0 images.items tree }
         requires few { length images.items ≤ MAX_LAYERS }
-        ensures { IfOk result (λ table. IsTableWith images.items attributes.now.rows.items
-            attributes.now.owner table) }
+        ensures { IfOk result (λ table. IsTableWith images.items attributes.rows.items
+            attributes.owner table) }
     {
         let blocks = blocks_of(&images);
         let TableParts {

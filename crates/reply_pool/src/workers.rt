@@ -79,7 +79,6 @@ pub(crate) fn answer_batches<R: Threads + Sync, A: Allocator + Copy + Send + Syn
 /// Draws in so many workers at the same time until nothing is left, each with a hand of its own,
 /// and gives their pieces and the hand that all hands were rejoined into.
 #[cycle(crew)]
-#[tactic(auto, using(table_reader::proofs::Shared::table_sync))]
 fn draw_all<R: Threads + Sync, A: Allocator + Copy + Send + Sync, G: Gate + Sync>(
     rt: &R,
     alloc: A,

@@ -3,6 +3,8 @@ use Rattle.std.specs.Prelude.{◌≡◌, ℕ, ◌⊎◌, List, length, Result, E
 use Rattle.std.specs.Io.KnownBytes.{IsAtEnd}
 use Rattle.devices.specs.States.{Devices}
 use Rattle.romfs_format.specs.declared.rule.Profile.{Profile}
+use Rattle.node_attr.specs.declared.owner.Owner.{Owner}
+use Rattle.node_attr.specs.declared.owner.TheConstants.Owner.{ROOT}
 use Rattle.stack_model.specs.Numbers.{nodes}
 use Rattle.stack_model.specs.Listing.{Stacked}
 use Rattle.stack_prepare.specs.declared.refusal.Refusal.{Refusal}
@@ -39,24 +41,30 @@ pub record RunsBetween {A : Type 0} (first : Session) (stack : Stacked) (turns :
 
 -- ---- serve: prepare, then run
 
--- what a call is to serve: images by the rules of a profile, and over them a stream that begins in
--- this session, in at most so many turns
+-- what a call is to serve: images by the rules of a profile, of which all that has no row of
+-- attributes belongs to this owner, and over them a stream that begins in this session, in at most
+-- so many turns
 pub record Call : Type 0 where
   pub profile : Profile
+  pub owner : Owner
   pub images : List (List ℕ)
   pub first : Session
   pub turns : ℕ
 
 -- the same, of its parts
+abbrev pub owned_call : Profile → Owner → List (List ℕ) → Session → ℕ → Call
+owned_call profile owner images first turns =
+    record { profile = profile; owner = owner; images = images; first = first; turns = turns }
+
+-- where that owner is the superuser
 abbrev pub call : Profile → List (List ℕ) → Session → ℕ → Call
-call profile images first turns =
-    record { profile = profile; images = images; first = first; turns = turns }
+call profile images first turns = owned_call profile ROOT images first turns
 
 -- the images are good, and the stream was served over their stack
 pub record IsServedOver {A : Type 0} (call : Call) (result : Result (Done A) Stop)
     (old new : Devices) : Type 0 where
   pub stack : Stacked
-  pub stacked : AreStacked call.profile call.images stack
+  pub stacked : AreStacked call.profile call.owner call.images stack
   pub runs : RunsBetween call.first stack call.turns result old new
 
 -- the images are refused, or memory ran out before their table stood, and no device was called
@@ -85,7 +93,7 @@ pub record HasServedOver {A : Type 0} (first : Session) (stack : Stacked) (done 
 pub record HasServedAll {A : Type 0} (call : Call) (done : Done A) (old new : Devices)
     : Type 0 where
   pub stack : Stacked
-  pub stacked : AreStacked call.profile call.images stack
+  pub stacked : AreStacked call.profile call.owner call.images stack
   pub served : Does (HasServedOver call.first stack done) old new
 
 -- the images are refused for this, and no device was called

@@ -1,13 +1,14 @@
 //! Images, checked and stacked, as serving begins.
 
 ghost use Rattle.std.specs.Prelude.{IfOk, IfErr};
+ghost use Rattle.node_attr.specs.declared.owner.TheConstants.Owner.{ROOT};
 ghost use Rattle.stack_prepare.specs.Layers.{contents_of};
 ghost use Rattle.stack_prepare.specs.Preparing.{AreStacked};
 ghost use Rattle.serve_core.specs.Stops.{IsRefusal};
 
 use crate::stop::Stop;
 use romfs_format::Profile;
-use stack_prepare::{SharedAllocator, Table};
+use stack_prepare::{Owner, SharedAllocator, Table};
 use std::thread::Threads;
 use work_gate::Gate;
 
@@ -23,13 +24,13 @@ pub fn prepare<R: Threads + Sync, A: SharedAllocator, G: Gate + Sync>(
     images: Vec<Vec<u8, A>, A>,
     gate: &G,
 ) -> Result<Table<A>, Stop>
-    ensures ok { IfOk result (AreStacked Profile.Usual (contents_of images)) }
+    ensures ok { IfOk result (AreStacked Profile.Usual ROOT (contents_of images)) }
     ensures err { IfErr result (IsRefusal Profile.Usual (contents_of images)) }
 {
     prepare_as(rt, alloc, images, Profile::Usual, gate)
 }
 
-/// The same, by the rules of a profile.
+/// The same, by the rules of a profile; one with attributes reads the images' rows.
 pub fn prepare_as<R: Threads + Sync, A: SharedAllocator, G: Gate + Sync>(
     rt: &R,
     alloc: A,
@@ -37,8 +38,23 @@ pub fn prepare_as<R: Threads + Sync, A: SharedAllocator, G: Gate + Sync>(
     profile: Profile,
     gate: &G,
 ) -> Result<Table<A>, Stop>
-    ensures ok { IfOk result (AreStacked profile (contents_of images)) }
+    ensures ok { IfOk result (AreStacked profile ROOT (contents_of images)) }
     ensures err { IfErr result (IsRefusal profile (contents_of images)) }
 {
-    Ok(stack_prepare::prepare_as(rt, alloc, images, profile, gate)?)
+    prepare_owned(rt, alloc, images, profile, Owner::ROOT, gate)
+}
+
+/// The same, where all that has no row of attributes belongs to an owner.
+pub fn prepare_owned<R: Threads + Sync, A: SharedAllocator, G: Gate + Sync>(
+    rt: &R,
+    alloc: A,
+    images: Vec<Vec<u8, A>, A>,
+    profile: Profile,
+    owner: Owner,
+    gate: &G,
+) -> Result<Table<A>, Stop>
+    ensures ok { IfOk result (AreStacked profile owner (contents_of images)) }
+    ensures err { IfErr result (IsRefusal profile (contents_of images)) }
+{
+    Ok(stack_prepare::prepare_owned(rt, alloc, images, profile, owner, gate)?)
 }

@@ -3,15 +3,15 @@
 ghost use Rattle.devices.specs.States.{devices};
 ghost use Rattle.stack_prepare.specs.Layers.{contents_of};
 ghost use Rattle.serve_loop.specs.Serving.{AreReady};
-ghost use Rattle.serve_core.specs.Headline.{call, ServesBetween};
+ghost use Rattle.serve_core.specs.Headline.{call, owned_call, ServesBetween};
 
-use crate::preparing::prepare_as;
+use crate::preparing::prepare_owned;
 use crate::running::{Terms, run};
 use crate::stop::Stop;
 use devices::{Sink, Source};
 use romfs_format::Profile;
 use serve_loop::Done;
-use stack_prepare::SharedAllocator;
+use stack_prepare::{Owner, SharedAllocator};
 use std::thread::Threads;
 use work_gate::Gate;
 
@@ -38,7 +38,7 @@ pub fn serve<R: Threads + Sync, A: SharedAllocator, S: Source, K: Sink, G: Gate 
     serve_as(rt, alloc, images, Profile::Usual, source, sink, terms)
 }
 
-/// The same, by the rules of a profile.
+/// The same, by the rules of a profile; one with attributes reads the images' rows.
 pub fn serve_as<R: Threads + Sync, A: SharedAllocator, S: Source, K: Sink, G: Gate + Sync>(
     rt: &R,
     alloc: A,
@@ -54,6 +54,26 @@ pub fn serve_as<R: Threads + Sync, A: SharedAllocator, S: Source, K: Sink, G: Ga
         (devices (S.state source.old) (K.state sink.old))
         (devices (S.state source.new) (K.state sink.new)) }
 {
-    let table = prepare_as(rt, alloc, images, profile, terms.gate)?;
+    serve_owned(rt, alloc, images, profile, Owner::ROOT, source, sink, terms)
+}
+
+/// The same, where all that has no row of attributes belongs to an owner.
+pub fn serve_owned<R: Threads + Sync, A: SharedAllocator, S: Source, K: Sink, G: Gate + Sync>(
+    rt: &R,
+    alloc: A,
+    images: Vec<Vec<u8, A>, A>,
+    profile: Profile,
+    owner: Owner,
+    source: &mut S,
+    sink: &mut K,
+    terms: &Terms<'_, G>,
+) -> Result<Done<A>, Stop>
+    requires { AreReady terms.now.turns (devices (S.state source.old) (K.state sink.old)) }
+    ensures { ServesBetween
+        (owned_call profile owner (contents_of images) terms.now.first terms.now.turns) result
+        (devices (S.state source.old) (K.state sink.old))
+        (devices (S.state source.new) (K.state sink.new)) }
+{
+    let table = prepare_owned(rt, alloc, images, profile, owner, terms.gate)?;
     run(rt, alloc, &table, source, sink, terms)
 }

@@ -5,21 +5,24 @@ use Rattle.std.proofs.Common.{◌≡◌, ◌∙◌, sym, ap, ℕ, ◌+◌, ◌�
 use Rattle.std.specs.declared.vec.Vec.{Vec}
 use Rattle.std.proofs.lemmas.List.{length-map, length-append, map-append, take-append-drop, length-take-le}
 use Rattle.std.proofs.lemmas.List.Elements.{All-push, All-append}
-use Rattle.romfs_format.specs.Fields.{image}
 use Rattle.romfs_format.specs.Rules.{IsFault, IsSound}
 use Rattle.romfs_format.specs.declared.rule.ImageFault.{ImageFault}
 use Rattle.romfs_format.specs.declared.rule.Profile.{Profile}
 use Rattle.stack_prepare.specs.declared.refusal.Refusal.{Refusal}
 use Rattle.stack_prepare.specs.declared.refusal.Refusal.TheVariants.{Layer, Layers, Memory}
-use Rattle.stack_prepare.specs.Layers.{AreLayers, IsFew, IsLowestBroken, AreRefused}
-use Rattle.stack_prepare.specs.Checking.{AreChecked, IsBroken, Checks, IsFirstRefusal, Joins}
+use Rattle.stack_prepare.specs.Layers.{IsFew, IsLowestBroken, AreRefused}
+use Rattle.stack_prepare.specs.Checking.{Seen, seen, AreChecked, AreSeen, IsBroken, Checks, IsFirstRefusal, Joins}
 
--- the images before those that are left keep the rules, and these are their accessible bytes
+-- the images before those that are left keep the rules, and this is what is kept of them
 pub record AreTaken {X : Type 0} (v : X → List ℕ) (profile : Profile) (all : List (List ℕ)) (left : List X)
-    (layers : List (List ℕ)) : Type 0 where
+    (layers : List Seen) : Type 0 where
   pub below : List (List ℕ)
   pub split : all ≡ below ++ map v left
   pub checked : AreChecked profile below layers
+
+-- two pairs of the same parts are the same
+pub both_are : {X Y : Type 0} {p : X × Y} {x : X} {y : Y} → p.0 ≡ x → p.1 ≡ y → p ≡ (x, y)
+both_are {p = p} {x} {y} e f = ap (λ a. (a, p.1)) e ∙ ap (λ b. (x, b)) f
 
 -- before the first image none is taken
 pub none_taken : {X : Type 0} (v : X → List ℕ) (profile : Profile) (all : List X) → AreTaken v profile (map v all) all []
@@ -29,17 +32,17 @@ none_taken v profile all = record {
   checked = record { sound = λ k d l. absurd (omega arith); are = refl };
 }
 
-module _ {X : Type 0} {v : X → List ℕ} {profile : Profile} {all : List (List ℕ)} {left : List X} {layers : List (List ℕ)}
+module _ {X : Type 0} {v : X → List ℕ} {profile : Profile} {all : List (List ℕ)} {left : List X} {layers : List Seen}
     (t : AreTaken v profile all left layers) (x : X) (rest : List X) (next : left ≡ x ∷ rest) where
   -- an image that keeps the rules goes from what is left to what is taken
-  pub one_more : (checked : List ℕ) → checked ≡ image (v x) → IsSound profile (v x) → AreTaken v profile all rest (layers ++ checked ∷ [])
+  pub one_more : (checked : Seen) → checked ≡ seen profile (v x) → IsSound profile (v x) → AreTaken v profile all rest (layers ++ checked ∷ [])
   one_more checked f d = record {
     below = t.below ++ v x ∷ [];
     split = t.split ∙ ap (λ xs. t.below ++ map v xs) next ∙ sym (append_assoc t.below (v x ∷ []) (map v rest));
     checked = record {
       sound = All-push (IsSound profile) t.below (v x) t.checked.sound d;
-      are = ap (λ xs. xs ++ checked ∷ []) t.checked.are ∙ ap (λ n. map image t.below ++ n ∷ []) f
-          ∙ sym (map-append image t.below (v x ∷ []));
+      are = ap (λ xs. xs ++ checked ∷ []) t.checked.are ∙ ap (λ n. map (seen profile) t.below ++ n ∷ []) f
+          ∙ sym (map-append (seen profile) t.below (v x ∷ []));
     };
   }
 
@@ -54,17 +57,17 @@ module _ {X : Type 0} {v : X → List ℕ} {profile : Profile} {all : List (List
       above = map v rest;
       bytes = v x;
       images_are = t.split ∙ ap (λ xs. t.below ++ map v xs) next;
-      layer_is = h ∙ ap length t.checked.are ∙ length-map t.below image;
+      layer_is = h ∙ ap length t.checked.are ∙ length-map t.below (seen profile);
       sound = t.checked.sound;
       broken = f;
     },
   )
 
 -- no more images are taken than there are
-pub taken_within : {X : Type 0} {v : X → List ℕ} {profile : Profile} {all : List (List ℕ)} {left : List X} {layers : List (List ℕ)}
+pub taken_within : {X : Type 0} {v : X → List ℕ} {profile : Profile} {all : List (List ℕ)} {left : List X} {layers : List Seen}
     → AreTaken v profile all left layers → length layers ≤ length all
-taken_within {v = v} {left = left} t =
-    let same = ap length t.checked.are ∙ length-map t.below image in
+taken_within {v = v} {profile = profile} {left = left} t =
+    let same = ap length t.checked.are ∙ length-map t.below (seen profile) in
     let whole = ap length t.split ∙ length-append t.below (map v left) in
     omega arith
 
@@ -73,21 +76,21 @@ nothing [] none = refl
 nothing (x ∷ xs) none = absurd (omega (arith, none))
 
 -- where none is left, all are checked
-pub all_checked : {X : Type 0} {v : X → List ℕ} {profile : Profile} {all : List (List ℕ)} {left : List X} {layers : List (List ℕ)}
+pub all_checked : {X : Type 0} {v : X → List ℕ} {profile : Profile} {all : List (List ℕ)} {left : List X} {layers : List Seen}
     → AreTaken v profile all left layers → length left ≡ 0 → AreChecked profile all layers
 all_checked {v = v} {profile} {all} {left} t none =
     let same : all ≡ t.below = t.split ∙ ap (λ xs. t.below ++ map v xs) (nothing left none) ∙ append-nil t.below in
     record {
       sound = subst (All (IsSound profile)) (sym same) t.checked.sound;
-      are = t.checked.are ∙ ap (map image) (sym same);
+      are = t.checked.are ∙ ap (map (seen profile)) (sym same);
     }
 
 -- two halves that keep the rules
-pub whole : (profile : Profile) (lows highs xs ys : List (List ℕ)) → AreChecked profile lows xs → AreChecked profile highs ys
+pub whole : (profile : Profile) (lows highs : List (List ℕ)) (xs ys : List Seen) → AreChecked profile lows xs → AreChecked profile highs ys
     → AreChecked profile (lows ++ highs) (xs ++ ys)
 whole profile lows highs xs ys low high = record {
   sound = All-append (IsSound profile) lows highs low.sound high.sound;
-  are = ap (λ n. n ++ ys) low.are ∙ ap (λ n. map image lows ++ n) high.are ∙ sym (map-append image lows highs);
+  are = ap (λ n. n ++ ys) low.are ∙ ap (λ n. map (seen profile) lows ++ n) high.are ∙ sym (map-append (seen profile) lows highs);
 }
 
 -- the lower half's broken image is the lowest of both
@@ -110,7 +113,7 @@ broken_low first profile lows highs Memory b = tt
 broken_low first profile lows highs (Layers count) b = absurd b
 
 -- the upper half's is, where the lower half keeps the rules
-pub broken_high : (first : ℕ) {profile : Profile} {lows xs : List (List ℕ)} → AreChecked profile lows xs → (highs : List (List ℕ))
+pub broken_high : (first : ℕ) {profile : Profile} {lows : List (List ℕ)} {xs : List Seen} → AreChecked profile lows xs → (highs : List (List ℕ))
     (refusal : Refusal) → IsBroken (first + length lows) profile highs refusal → IsBroken first profile (lows ++ highs) refusal
 broken_high first {profile} {lows} low highs (Layer layer fault) (n, at, broken) = (
   length lows + n,
@@ -130,13 +133,13 @@ broken_high first low highs (Layers count) b = absurd b
 
 -- what two halves of a run come to, the upper one numbered on from where the lower one ends
 pub record AreHalves {A : Type 0} (first : ℕ) (profile : Profile) (lows highs : List (List ℕ))
-    (low high : Result (Vec (List ℕ) A) Refusal) : Type 0 where
+    (low high : Result (Vec Seen A) Refusal) : Type 0 where
   pub lower : Checks first profile lows low
   pub upper : Checks (first + length lows) profile highs high
 
 module _ {A : Type 0} (first : ℕ) (profile : Profile) (lows highs : List (List ℕ)) where
   -- why the first of two halves stopped is why the run did
-  refused_first : (low high : Result (Vec (List ℕ) A) Refusal) (refusal : Refusal) → AreHalves first profile lows highs low high
+  refused_first : (low high : Result (Vec Seen A) Refusal) (refusal : Refusal) → AreHalves first profile lows highs low high
       → IsFirstRefusal low high refusal → IsBroken first profile (lows ++ highs) refusal
   refused_first (Err s) high refusal h is =
       subst (IsBroken first profile (lows ++ highs)) (sym is) (broken_low first profile lows highs s h.lower.1)
@@ -145,7 +148,7 @@ module _ {A : Type 0} (first : ℕ) (profile : Profile) (lows highs : List (List
   refused_first (Ok xs) (Ok ys) refusal h is = absurd is
 
   -- what two halves come to is what the run does
-  pub joined : (low high result : Result (Vec (List ℕ) A) Refusal) → AreHalves first profile lows highs low high → Joins low high result
+  pub joined : (low high result : Result (Vec Seen A) Refusal) → AreHalves first profile lows highs low high → Joins low high result
       → Checks first profile (lows ++ highs) result
   joined (Ok xs) (Ok ys) (Ok all) h is =
       (subst (AreChecked profile (lows ++ highs)) (sym is) (whole profile lows highs _ _ h.lower.0 h.upper.0), tt)
@@ -154,14 +157,10 @@ module _ {A : Type 0} (first : ℕ) (profile : Profile) (lows highs : List (List
   joined low high (Err refusal) h (inl memory) = (tt, subst (IsBroken first profile (lows ++ highs)) (sym memory) tt)
   joined low high (Err refusal) h (inr is) = (tt, refused_first low high refusal h is)
 
--- a few images that are checked are layers
-pub as_layers : {X : Type 0} (v : X → List ℕ) (profile : Profile) (all : List X) (layers : List (List ℕ)) → IsFew (length all)
-    → AreChecked profile (map v all) layers → AreLayers profile (map v all) layers
-as_layers v profile all layers few checked = record {
-  few = subst IsFew (sym (length-map all v)) few;
-  sound = checked.sound;
-  are = checked.are;
-}
+-- a few images that are checked are all seen
+pub as_seen : {X : Type 0} (v : X → List ℕ) (profile : Profile) (all : List X) (kept : List Seen) → IsFew (length all)
+    → AreChecked profile (map v all) kept → AreSeen profile (map v all) kept
+as_seen v profile all kept few checked = record { few = subst IsFew (sym (length-map all v)) few; checked = checked }
 
 -- what broke off the check of a few images is why they are refused
 pub as_refused : {X : Type 0} (v : X → List ℕ) (profile : Profile) (all : List X) (refusal : Refusal) → IsFew (length all)

@@ -4,17 +4,22 @@
 //! is put together: where both have a broken image the lower half's is told.
 
 ghost use Rattle.std.specs.Prelude.{◌+◌, ◌≤◌, length, IfOk, IfErr};
-ghost use Rattle.stack_prepare.specs.Layers.{contents_of, AreLayers, AreRefused, IsFew};
-ghost use Rattle.stack_prepare.specs.Checking.{Checks, Joins};
+ghost use Rattle.stack_prepare.specs.Layers.{contents_of, AreRefused, IsFew};
+ghost use Rattle.stack_prepare.specs.Checking.{AreApart, AreSeen, Checks, Joins};
 ghost use denote.Param.Send.{IsSync, IsSend, Frees};
 ghost use Rattle.stack_model.specs.declared.limits.TheConstants.{MAX_LAYERS};
 
 use crate::refusal::Refusal;
+use attribute_rows::Rows;
 use romfs_check::{Check, CheckFault, Image};
 use romfs_format::Profile;
-use std::alloc::Allocator;
+use std::alloc::{AllocError, Allocator};
 use std::thread::{Threads, join};
 use work_gate::{Gate, Work};
+
+/// What is kept of an image: its accessible bytes, and its rows of attributes where the profile
+/// reads them.
+pub(crate) type Seen<A> = (Image<A>, Rows<A>);
 
 /// How many times a list is cut into halves that are checked at the same time.
 const FORKS: u32 = 4;
@@ -31,9 +36,9 @@ pub(crate) fn check_all<R: Threads + Sync, A: Allocator + Copy + Send + Sync, G:
     images: Vec<Vec<u8, A>, A>,
     profile: Profile,
     gate: &G,
-) -> Result<Vec<Image<A>, A>, Refusal>
+) -> Result<Vec<Seen<A>, A>, Refusal>
     requires { IsFew (length images.items) }
-    ensures ok { IfOk result (λ checked. AreLayers profile (contents_of images) checked.items) }
+    ensures ok { IfOk result (λ seen. AreSeen profile (contents_of images) seen.items) }
     ensures err { IfErr result (λ refusal. AreRefused profile (contents_of images) refusal) }
 {
     check_from(rt, alloc, 0, images, profile, gate, FORKS)
@@ -50,7 +55,7 @@ fn check_from<R: Threads + Sync, A: Allocator + Copy + Send + Sync, G: Gate + Sy
     profile: Profile,
     gate: &G,
     forks: u32,
-) -> Result<Vec<Image<A>, A>, Refusal>
+) -> Result<Vec<Seen<A>, A>, Refusal>
     requires { first + length images.items ≤ MAX_LAYERS }
     ensures { Checks first profile (contents_of images) result }
 {
@@ -65,12 +70,12 @@ fn check_from<R: Threads + Sync, A: Allocator + Copy + Send + Sync, G: Gate + Sy
     // the lowest layer, mostly the largest, waits for no thread to start
     let (high, low) = join(
         rt,
-        move || -> Result<Vec<Image<A>, A>, Refusal>
+        move || -> Result<Vec<Seen<A>, A>, Refusal>
             requires { IsSync R.row × IsSync G.row × IsSync A.row × IsSend A.row
                 × Frees A.Allocator A.dealloc_token × (next + length highs.items ≤ MAX_LAYERS) }
             ensures { Checks next profile (contents_of highs) result }
         { check_from(rt, alloc, next, highs, profile, gate, less) },
-        move || -> Result<Vec<Image<A>, A>, Refusal>
+        move || -> Result<Vec<Seen<A>, A>, Refusal>
             requires { IsSync R.row × IsSync G.row × IsSync A.row × IsSend A.row
                 × Frees A.Allocator A.dealloc_token × (first + length lows.items ≤ MAX_LAYERS) }
             ensures { Checks first profile (contents_of lows) result }
@@ -82,9 +87,9 @@ fn check_from<R: Threads + Sync, A: Allocator + Copy + Send + Sync, G: Gate + Sy
 /// What two halves of a run come to: want of memory in either, else the lower one's broken image,
 /// else the upper one's.
 fn together<A: Allocator>(
-    low: Result<Vec<Image<A>, A>, Refusal>,
-    high: Result<Vec<Image<A>, A>, Refusal>,
-) -> Result<Vec<Image<A>, A>, Refusal>
+    low: Result<Vec<Seen<A>, A>, Refusal>,
+    high: Result<Vec<Seen<A>, A>, Refusal>,
+) -> Result<Vec<Seen<A>, A>, Refusal>
     ensures { Joins low high result }
 {
     match (low, high) {
@@ -105,7 +110,7 @@ fn check_in_turn<A: Allocator + Copy, G: Gate>(
     images: Vec<Vec<u8, A>, A>,
     profile: Profile,
     gate: &G,
-) -> Result<Vec<Image<A>, A>, Refusal>
+) -> Result<Vec<Seen<A>, A>, Refusal>
     requires { first + length images.items ≤ MAX_LAYERS }
     ensures { Checks first profile (contents_of images) result }
 {
@@ -113,11 +118,28 @@ fn check_in_turn<A: Allocator + Copy, G: Gate>(
     for bytes in images {
         let layer = first + checked.len() as u16;
         gate.pass(Work::Check, u32::from(layer));
-        match Image::check_as(alloc, bytes, profile) {
-            Ok(image) => checked.push(image)?,
+        match Image::check_with_rows(alloc, bytes, profile) {
+            Ok(seen) => checked.push(seen)?,
             Err(CheckFault::Broken(fault)) => return Err(Refusal::Layer { layer, fault }),
             Err(CheckFault::Memory) => return Err(Refusal::Memory),
         }
     }
     Ok(checked)
+}
+
+/// What is kept of images, taken apart.
+pub(crate) fn apart<A: Allocator + Copy>(
+    alloc: A,
+    seen: Vec<Seen<A>, A>,
+) -> Result<(Vec<Image<A>, A>, Vec<Rows<A>, A>), AllocError>
+    ensures { IfOk result (λ both. AreApart seen.items both.0.items both.1.items) }
+{
+    let mut images = Vec::with_capacity(alloc, seen.len())?;
+    let mut rows = Vec::with_capacity(alloc, seen.len())?;
+    for both in seen {
+        let (image, its_rows) = both;
+        images.push(image)?;
+        rows.push(its_rows)?;
+    }
+    Ok((images, rows))
 }

@@ -1,10 +1,17 @@
-//! Why images are refused: what follows from what [`crate::prepare_as`] promises.
+//! Why images are refused, and what they show where no attributes are asked for: what follows from
+//! what [`crate::prepare_as`] promises.
 
-ghost use Rattle.std.specs.Prelude.{◌≡◌, ◌⊎◌, List, ℕ};
+ghost use Rattle.std.specs.Prelude.{◌≡◌, ◌⊎◌, List, ℕ, false};
+ghost use Rattle.node_attr.specs.declared.owner.TheConstants.Owner.{ROOT};
 ghost use Rattle.romfs_format.specs.declared.rule.Profile.{Profile};
+ghost use Rattle.romfs_format.specs.Profiles.{reads_attributes};
+ghost use Rattle.stack_model.specs.Listing.{Stacked, stacked};
+ghost use Rattle.stack_model.specs.Numbers.{Place};
+ghost use Rattle.stack_model.specs.Attributes.{attr_of};
 ghost use Rattle.stack_prepare.specs.declared.refusal.Refusal.{Refusal};
 ghost use Rattle.stack_prepare.specs.declared.refusal.Refusal.TheVariants.{Memory};
 ghost use Rattle.stack_prepare.specs.Layers.{AreLayers, AreRefused};
+ghost use Rattle.stack_prepare.specs.Preparing.{AreStacked};
 
 /// Beside want of memory, images are refused for one reason, and good ones for none.
 #[tactic(auto, using(crate::proofs::Refusals::one_reason))]
@@ -14,4 +21,13 @@ pub fn refusals_are_one()
         (r ≡ s) ⊎ ((r ≡ Memory) ⊎ (s ≡ Memory)) }
     ensures good { (profile : Profile) (images layers : List (List ℕ)) (r : Refusal) →
         AreLayers profile images layers → AreRefused profile images r → r ≡ Memory }
+{}
+
+/// Where a profile reads no attributes, and all belongs to the superuser, the attributes of each
+/// place are those of the layers without any rows, whatever stands behind the images.
+#[tactic(auto, using(crate::proofs::Apart::unasked))]
+pub fn attributes_are_asked_for()
+    ensures { (profile : Profile) (images : List (List ℕ)) (stack : Stacked) (p : Place) →
+        reads_attributes profile ≡ false → AreStacked profile ROOT images stack →
+        attr_of stack p ≡ attr_of (stacked stack.layers stack.entries) p }
 {}

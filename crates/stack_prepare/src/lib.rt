@@ -2,7 +2,8 @@
 //!
 //! [`prepare_as`] takes 1 to 128 images, the lowest layer first. It checks them by the rules of a
 //! profile, some at the same time (`checking`), stacks them (`stack_core`) and makes their table
-//! (`node_table`); [`prepare`] is the same by the usual profile. What it gives is the table of the
+//! (`node_table`); [`prepare`] is the same by the usual profile, and [`prepare_owned`] with an owner
+//! of what has no row of attributes. What it gives is the table of the
 //! images' stack, or a [`Refusal`]: a wrong number of them, the lowest that breaks a rule,
 //! whichever was found first, or want of memory; [`laws`] says that there is one such reason. What
 //! images are taken and why others are refused is said in `specs/Layers`, and of what stack a table
@@ -19,8 +20,8 @@ mod preparing;
 pub mod refusal;
 
 pub use bounds::SharedAllocator;
-pub use node_table::Table;
-pub use preparing::{prepare, prepare_as};
+pub use node_table::{Owner, Table};
+pub use preparing::{prepare, prepare_as, prepare_owned};
 pub use refusal::Refusal;
 pub use romfs_format::Profile;
 pub use work_gate::{FreePass, Gate, Work};

@@ -3,6 +3,7 @@
 use Rattle.std.proofs.Common.{◌≡◌, inl, inr, ℕ, List, Result, Ok, Err, IfErr, IsErrAnd}
 use Rattle.devices.specs.States.{SinkState}
 use Rattle.romfs_format.specs.declared.rule.Profile.{Profile}
+use Rattle.node_attr.specs.declared.owner.TheConstants.Owner.{ROOT}
 use Rattle.stack_model.specs.Listing.{Stacked}
 use Rattle.stack_prepare.specs.declared.refusal.Refusal.TheVariants as refusals
 use Rattle.stack_prepare.specs.Preparing.{AreStacked}
@@ -16,7 +17,7 @@ use Rattle.strata.specs.Ending.{IsNotListed}
 -- a list that was broken off did not list the stack, and its fault tells why
 pub list_stopped : {profile : Profile} {images : List (List ℕ)} {stack : Stacked} (old new : SinkState) (r : Result (Unit {0}) Fault)
     (fault : ListFault)
-    → AreStacked profile images stack → IsBrokenOff stack old new fault → IsErrAnd r (λ told. told ≡ list_told_of fault)
+    → AreStacked profile ROOT images stack → IsBrokenOff stack old new fault → IsErrAnd r (λ told. told ≡ list_told_of fault)
     → IfErr r (λ told. IsNotListed profile images told old new)
 list_stopped old new (Ok u) fault s b e = absurd e
 list_stopped {stack = stack} old new (Err told) Write s b e = inr (record { told = e; stack = stack; stacked = s; broken = b })

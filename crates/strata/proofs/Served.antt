@@ -59,7 +59,7 @@ module _ (A : Type 0) (line : Line) (images : List (List ℕ)) (old new : Device
   refused refusal (Ok u) r k f = absurd f
   refused refusal (Err fault) r k f = inr (inl (record { refusal = refusal; told = f; refused = r }, k))
 
-  module _ (stack : Stacked) (stacked : AreStacked (profile_of line) images stack) where
+  module _ (stack : Stacked) (stacked : AreStacked (profile_of line) line.owner images stack) where
     -- serving stopped
     pub stopped : (r : Result (Done A) Stop) (stop : Stop) (told : Result (Unit {0}) Fault) → (t : Trace) × IsServing line stack t r old new
         → r ≡ Err stop

@@ -2,7 +2,8 @@
 use Rattle.std.specs.Prelude.{◌≡◌, ◌≢◌, ◌<◌, ◌+◌, ◌⊎◌, ◌||◌, ℕ, List, true, Option, Some, None, is_some, length, vec_len, Result, Ok, Err, OnOk, if◌then◌else◌}
 use Rattle.std.specs.Io.KnownBytes.{Appends, Consumes, IsAtEnd}
 use Rattle.romfs_format.specs.declared.rule.Profile.{Profile}
-use Rattle.romfs_format.specs.declared.rule.Profile.TheVariants.{Usual, Strict}
+use Rattle.romfs_format.specs.Profiles.{profile_with}
+use Rattle.node_attr.specs.declared.owner.TheConstants.Owner.{ROOT}
 use Rattle.devices.specs.Counting.{no_pulls, no_pushes, no_accepts}
 use Rattle.devices.specs.Pushing.{HasFlushed, GainsFront}
 use Rattle.devices.specs.States.{SourceState, SinkState, Devices}
@@ -29,9 +30,9 @@ use Rattle.strata.specs.Faults.{AreSizes, IsFirstFault, line_told_of, status_of,
 use Rattle.strata.specs.Texts.{size_lines, version_line}
 use Rattle.strata.specs.Sessions.{Accepting, AreServed, status_at, IsSession}
 
--- the rules that a line holds images to
+-- the rules that a line holds images to, and whether their attributes are read
 abbrev pub profile_of : Line → Profile
-profile_of line = if line.strict then Strict else Usual
+profile_of line = profile_with line.strict line.attributes
 
 -- the session that its stream begins in: over a device, and where the line says so, the client is
 -- told that the tree never changes
@@ -97,11 +98,11 @@ AreNotGood profile images fault old new =
 -- ---- list
 
 -- the images are good, and the output gained a line for each path that their stack shows; none
--- waits for a flush
+-- waits for a flush. Owners are not listed
 pub record IsStackListed (profile : Profile) (images : List (List ℕ))
     (old new : SinkState) : Type 0 where
   pub stack : Stacked
-  pub stacked : AreStacked profile images stack
+  pub stacked : AreStacked profile ROOT images stack
   pub listed : Lists stack old new
 
 -- why images are not stacked: one of them is to blame, or their number, or memory ran out
@@ -116,7 +117,7 @@ pub record IsListLost (profile : Profile) (images : List (List ℕ)) (fault : Fa
     (old new : SinkState) : Type 0 where
   pub told : fault ≡ write_failed
   pub stack : Stacked
-  pub stacked : AreStacked profile images stack
+  pub stacked : AreStacked profile ROOT images stack
   pub broken : IsBrokenOff stack old new Write
 
 -- a list stopped: so, and the output is as it was; or the output failed
@@ -163,7 +164,7 @@ pub record IsServing {A : Type 0} (line : Line) (stack : Stacked) (t : Trace)
 pub record IsServedWhole (A : Type 0) (line : Line) (images : List (List ℕ))
     (old new : Devices) : Type 0 where
   pub stack : Stacked
-  pub stacked : AreStacked (profile_of line) images stack
+  pub stacked : AreStacked (profile_of line) line.owner images stack
   pub trace : Trace
   pub done : Done A
   pub serving : IsServing line stack trace (Ok done) old new
@@ -181,7 +182,7 @@ pub record IsFileFault (line : Line) (fault : Fault) (old new : Devices) : Type 
 pub record IsServedInPart (A : Type 0) (line : Line) (images : List (List ℕ)) (fault : Fault)
     (old new : Devices) : Type 0 where
   pub stack : Stacked
-  pub stacked : AreStacked (profile_of line) images stack
+  pub stacked : AreStacked (profile_of line) line.owner images stack
   pub trace : Trace
   pub stop : Stop
   pub told : fault ≡ Stopped stop
@@ -208,7 +209,7 @@ IsNotServed A line images fault old new =
 pub record IsServedAtSocket (A : Type 0) (line : Line) (images : List (List ℕ))
     (fault : Option Fault) : Type 0 where
   pub stack : Stacked
-  pub stacked : AreStacked (profile_of line) images stack
+  pub stacked : AreStacked (profile_of line) line.owner images stack
   pub clients : Accepting
   pub first_client : clients.before ≡ no_accepts
   pub served : AreServed A (first_of line) stack line.sessions fault clients
@@ -224,7 +225,7 @@ pub record EndsAtSocket (A : Type 0) (line : Line) (images : List (List ℕ))
 pub record IsNotBound (line : Line) (images : List (List ℕ)) (fault : Fault) : Type 0 where
   pub told : fault ≡ Bind
   pub stack : Stacked
-  pub stacked : AreStacked (profile_of line) images stack
+  pub stacked : AreStacked (profile_of line) line.owner images stack
 
 -- why serving at a socket stopped
 abbrev pub IsNotServedAtSocket : (A : Type 0) → Line → List (List ℕ) → Fault → Type 0

@@ -10,7 +10,7 @@ use crate::faults::Fault;
 use crate::settings::{first_of, plan_of, profile_of};
 use command_line::Line;
 use devices::Listening;
-use stack_prepare::{FreePass, prepare_as};
+use stack_prepare::{FreePass, prepare_owned};
 use std::alloc::Allocator;
 use std::fs::{self, Files};
 use std::io::Write;
@@ -36,7 +36,7 @@ pub fn listen<R: Files + Net + Threads + Sync, A: Allocator + Copy + Send + Sync
         ⊎ IsNotBound line.now (contents_of images) fault) }
 {
     let path = line.listen.unwrap();
-    let table = prepare_as(rt, alloc, images, profile_of(line), &FreePass)?;
+    let table = prepare_owned(rt, alloc, images, profile_of(line), line.owner, &FreePass)?;
     let listener = bind(rt, path)?;
     let mut clients = Listening::new(&listener);
     let status = sessions_from(

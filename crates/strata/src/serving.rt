@@ -16,7 +16,7 @@ use crate::settings::{first_of, plan_of, profile_of};
 use command_line::Line;
 use devices::{Sink, Source, Spout, Tap};
 use serve_core::{Done, MAX_TURNS, Stop, Terms, run};
-use stack_prepare::{FreePass, Table, prepare_as};
+use stack_prepare::{FreePass, Table, prepare_owned};
 use std::alloc::Allocator;
 use std::fs::Files;
 use std::io::{Read, Write};
@@ -46,7 +46,7 @@ pub fn serve<R: Files + Threads + Sync, A: Allocator + Copy + Send + Sync, S: So
     let requests = open_requests(rt, line.requests)?;
     let replies = create_named(rt, line.replies, Fault::RepliesFile)?;
     let balances = create_named(rt, line.balances, Fault::BalancesFile)?;
-    let table = prepare_as(rt, alloc, images, profile_of(line), &FreePass)?;
+    let table = prepare_owned(rt, alloc, images, profile_of(line), line.owner, &FreePass)?;
     let done = serve_stream(rt, alloc, line, &table, requests, replies, input, output)?;
     tell_balances(alloc, balances, done.balances.as_slice())
 }

@@ -8,15 +8,11 @@ ghost use Rattle.strata.specs.Ending.{profile_of, first_of};
 use command_line::Line;
 use serve_core::{Plan, Profile, Session};
 
-/// The rules that the line holds images to.
+/// The rules that the line holds images to, and whether their attributes are read.
 pub fn profile_of(line: &Line<'_>) -> Profile
     ensures { result ≡ profile_of line.now }
 {
-    if line.strict {
-        Profile::Strict
-    } else {
-        Profile::Usual
-    }
+    Profile::with(line.strict, line.attributes)
 }
 
 /// The session that the line has its streams begin in.

@@ -1,4 +1,3 @@
 pub mod Names
 pub mod Nodes
 pub mod Noting
-pub mod Shared

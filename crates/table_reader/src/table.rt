@@ -21,14 +21,13 @@ use node_attr::{Attr, Owner};
 use romfs_reader::Image;
 use std::alloc::{AllocError, Allocator, Global};
 use std::marker::Model;
-use std::snapshot::Snapshot;
 
 /// The nodes of a stack of layers, by number: attributes, rows and data.
 ///
 /// A clause sees the layers, their listing, the layers' rows of attributes, and whom nodes without
 /// a row belong to. Each node and row takes at most 113 bytes beside a name of more than 22 (16 of
 /// them for guesses of where names stand), a directory 32 more, and each node 24 more where any has
-/// a row of attributes. No reader takes memory, and each answers for every number: 1 is the root,
+/// a row of attributes, beside the 32 of the row. No reader takes memory, and each answers for every number: 1 is the root,
 /// and a number that is not in use has nothing.
 ///
 /// ```text
@@ -44,7 +43,7 @@ use std::snapshot::Snapshot;
 /// does not tell the row. A node keeps where its data lie, so no answer parses a header, and only a
 /// directory keeps more: where its rows lie, and which directory is above. Attributes lie once more
 /// in lists of their own, since most requests ask for nothing else of a node. Rows of attributes
-/// are sought once, when these lists are made, and then let go.
+/// are sought once, when these lists are made.
 #[derive(Drop)]
 pub struct Table<A: Allocator> {
     images: Vec<Image<A>, A>,
@@ -53,8 +52,8 @@ pub struct Table<A: Allocator> {
     briefs: Vec<Brief, A>,
     // Whose the nodes are, in the same order; none where no node has a row of attributes.
     stamps: Vec<Stamp, A>,
-    // What clauses see of the rows of attributes, of which none is kept.
-    rows: Snapshot<Vec<Rows<A>, A>>,
+    // The rows of attributes of each layer, which clauses see. No answer reads them.
+    rows: Vec<Rows<A>, A>,
     owner: Owner,
     directories: Directories<A>,
     hints: Hints<A>,
@@ -81,7 +80,7 @@ impl<A: Allocator> Model for Table<A> {
     ghost view = { λ held. record {
       layers = held.images.items;
       entries = held.listing.0;
-      rows = held.rows.value.items;
+      rows = held.rows.items;
       owner = held.owner;
     } };
 
@@ -90,7 +89,7 @@ impl<A: Allocator> Model for Table<A> {
         (record {
           layers = held.images.items;
           entries = held.listing.0;
-          rows = held.rows.value.items;
+          rows = held.rows.items;
           owner = held.owner;
         })
         held.nodes.items held.briefs.items held.stamps.items held.directories held.hints.filter
@@ -107,23 +106,23 @@ impl<A: Allocator + Copy> Table<A> {
         nodes: Vec<Node, A>,
         directories: Directories<A>,
         blocks: u64,
-        attributes: &Attributes<A>,
+        attributes: Attributes<A>,
     ) -> Result<Self, AllocError>
         requires { IsSomeTable images.items nodes.items directories blocks }
-        ensures { IfOk result (λ table. IsTableWith images.items attributes.now.rows.items
-            attributes.now.owner table) }
+        ensures { IfOk result (λ table. IsTableWith images.items attributes.rows.items
+            attributes.owner table) }
     {
         let hints = hints_of(alloc, &nodes, &directories)?;
-        let rows = &attributes.rows;
-        let briefs = briefs_of(alloc, &nodes, rows)?;
-        let stamps = stamps_of(alloc, &nodes, rows, attributes.owner)?;
+        let Attributes { rows, owner } = attributes;
+        let briefs = briefs_of(alloc, &nodes, &rows)?;
+        let stamps = stamps_of(alloc, &nodes, &rows, owner)?;
         Ok(Table {
             images,
             nodes,
             briefs,
             stamps,
-            rows: Snapshot::of(rows),
-            owner: attributes.owner,
+            rows,
+            owner,
             directories,
             hints,
             blocks,

@@ -5,8 +5,16 @@ use Rattle.romfs_check.specs.Refusals.{IsRefusal}
 use Rattle.stack_prepare.specs.declared.refusal.Refusal.TheVariants.{Layer}
 use Rattle.stack_prepare.specs.Checking.{IsBroken}
 use Rattle.stack_prepare.specs.Layers.{contents_of}
-use Rattle.stack_prepare.proofs.Checked.{all_checked, next_breaks, one_more, taken_within}
+use Rattle.stack_prepare.proofs.Checked.{all_checked, both_are, next_breaks, none_taken, one_more, taken_within}
 use Rattle.stack_prepare.proofs.checking.check_in_turn.Goals as goal
+
+pub loop-bytes-init : goal.loop-bytes-init
+loop-bytes-init g c = record {
+  can_next = tt;
+  is_finite = tt;
+  done = rw (c.into_iter-bytes-iterator.ensures.into_iter_gives.0, c.in_ok-checked.ensures.items)
+      (none_taken (λ image. image.items) c.args.profile c.args.images.items);
+}
 
 pub loop-bytes-preserved : goal.loop-bytes-preserved
 loop-bytes-preserved g c =
@@ -14,7 +22,7 @@ loop-bytes-preserved g c =
       can_next = tt;
       is_finite = tt;
       done = rw c.in_ok-push-in-Ok.ensures.items (one_more c.loop-bytes.invariant.done c.in-Some.bytes _ c.in-Some.ensures.steps.0
-          c.in-Ok.image c.in-Ok.ensures.ok.0 c.in-Ok.ensures.ok.1);
+          c.in-Ok.seen (both_are c.in-Ok.ensures.ok.0.0 c.in-Ok.ensures.ok.1) c.in-Ok.ensures.ok.0.1);
     }
 
 pub returns : goal.returns

@@ -1,6 +1,6 @@
-use Rattle.std.proofs.Common.{◌∙◌, refl, sym, List, ap, subst}
+use Rattle.std.proofs.Common.{refl, List, ap, subst}
 use Rattle.stack_model.specs.Listing.{Entry, IsListing, stacked}
-use Rattle.table_reader.specs.Held.{briefs_of, stamps_of, IsTable}
+use Rattle.table_reader.specs.Held.{IsTable}
 use Rattle.table_reader.specs.Stacked.{Listed, listed_once}
 use Rattle.table_reader.proofs.Nodes.{have_keys}
 use Rattle.table_reader.proofs.table.Table.of_parts.Goals as goal
@@ -12,13 +12,11 @@ pub invariant_of-result-2 : goal.invariant_of-result-2
 invariant_of-result-2 g c =
     let mine : Listed c.args.images.items = (c.requires.0, ∣ c.requires.1.listing ∣₁) in
     let table = subst (λ (e : List Entry). IsTable (stacked c.args.images.items e) c.args.nodes.items c.args.directories c.args.blocks)
-    (ap (λ x. x.0) (listed_once c.args.images.items mine c.result-2-1.given.0)) c.requires.1 in
+    (ap (λ x. x.0) (listed_once c.args.images.items mine c.result-1.given.0)) c.requires.1 in
     record {
       table = record { listing = table.listing; are = table.are; blocks_are = table.blocks_are };
-      briefs_are = rw (c.deref-2.ensures.value, c.deref-3.ensures.value) at c.in_ok-briefs.ensures
-          ∙ ap (λ rows. briefs_of rows.items c.args.nodes.items) (sym c.of.ensures);
-      stamps_are = rw (c.deref-4.ensures.value, c.deref-5.ensures.value) at c.in_ok-stamps.ensures
-          ∙ ap (λ rows. stamps_of rows.items c.args.attributes.now.owner c.args.nodes.items) (sym c.of.ensures);
+      briefs_are = rw (c.deref-2.ensures.value, c.deref-3.ensures.value) at c.in_ok-briefs.ensures;
+      stamps_are = rw (c.deref-4.ensures.value, c.deref-5.ensures.value) at c.in_ok-stamps.ensures;
       noted = rw c.deref.ensures.value at c.in_ok-hints.ensures.noted;
     }
 
@@ -27,8 +25,8 @@ returns g c =
     let mine : Listed c.args.images.items = (c.requires.0, ∣ c.requires.1.listing ∣₁) in
     record {
       layers_are = refl;
-      rows_are = ap (λ rows. rows.items) c.of.ensures;
+      rows_are = refl;
       owner_is = refl;
       listing = subst (λ (e : List Entry). IsListing c.args.images.items e)
-          (ap (λ x. x.0) (listed_once c.args.images.items mine c.result-2-1.given.0)) c.requires.1.listing;
+          (ap (λ x. x.0) (listed_once c.args.images.items mine c.result-1.given.0)) c.requires.1.listing;
     }
