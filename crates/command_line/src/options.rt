@@ -38,8 +38,8 @@ pub struct Line<'a> {
     /// Standard input and output are one open `/dev/fuse`. No file is named in place of one of
     /// them, nor for the balances.
     pub device: bool,
-    /// So many readers serve an open `/dev/fuse`, from 1 to 64. The default is 1. Other streams have
-    /// one reader, whatever it says.
+    /// So many readers serve an open `/dev/fuse`, from 1 to 64. The default is 1. Other streams
+    /// have one reader, whatever it says.
     pub readers: u32,
     /// The client is told that the tree never changes, so that it asks for each thing once.
     pub lasting: bool,

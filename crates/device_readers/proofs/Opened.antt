@@ -20,7 +20,8 @@ Opened turns result old new first stack = Does (λ t. IsOpened (answering first 
 
 module _ {A : Type 0} (turns : ℕ) (old new : Devices) where
   -- the same of the session and the stack that a pool was made of
-  pub opened_by : (result : Result (Opening A) StreamFault) (first second : Session) (stack other : Stacked) → first ≡ second → stack ≡ other
+  pub opened_by : (result : Result (Opening A) StreamFault) (first second : Session) (stack other : Stacked) → first ≡ second
+      → stack ≡ other
       → Opened turns result old new first stack → Opened turns result old new second other
   opened_by result first second stack other e f o =
       subst (λ s. Opened turns result old new second s) f (subst (λ s. Opened turns result old new s stack) e o)

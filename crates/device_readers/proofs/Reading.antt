@@ -76,7 +76,11 @@ module _ {A : Type 0} (first : Session) (stack : Stacked) (turns : ℕ) where
       record {
         reader = r;
         is = record {
-          run = record { ended = Err faults.Memory; result_is = refl; run = no_memory (answering first stack) (length (nodes stack.entries)) turns no_pulls no_pushes };
+          run = record {
+            ended = Err faults.Memory;
+            result_is = refl;
+            run = no_memory (answering first stack) (length (nodes stack.entries)) turns no_pulls no_pushes;
+          };
           first_pull = refl;
           first_push = refl;
           input = λ no. absurd (cc);
@@ -86,7 +90,8 @@ module _ {A : Type 0} (first : Session) (stack : Stacked) (turns : ℕ) where
       }
 
   -- one new reader
-  pub one_new : (ended : Ended A) (count : ℕ) → count ≡ 1 → IsAlone first stack turns unused ended → AreServedNew first stack turns count ended
+  pub one_new : (ended : Ended A) (count : ℕ) → count ≡ 1 → IsAlone first stack turns unused ended
+      → AreServedNew first stack turns count ended
   one_new ended count one a = record {
     readers = a.reader ∷ [];
     new = record { count_is = sym one; each = (a.is, tt) };

@@ -121,7 +121,8 @@ module _ {A : Type 0} (session : Session) (stack : Stacked) (turns : ℕ) where
   came_one : (t : Trace) (result : Result (Done A) Stop) → IsRunOver session stack turns t result
       → (parts : List (List (List ℕ))) × CameOf (answering session stack) (length (nodes stack.entries)) (done_of result) parts
   came_one t (Ok done) run =
-      let r = subst (IsRun (answering session stack) (length (nodes stack.entries)) turns t) (ended_well done run.ended run.result_is) run.run in
+      let r = subst (IsRun (answering session stack) (length (nodes stack.entries)) turns t)
+      (ended_well done run.ended run.result_is) run.run in
       (r.messages ∷ [], (r.served.balanced, tt))
   came_one t (Err stop) run = ([], tt)
 

@@ -301,10 +301,12 @@ twins_back profile none b a g =
     }
 
 pub same_fault : (profile : Profile) → ¬ IsTrue (reads_attributes profile) → (b a : List ℕ) → IsGatheredOf b a
-    → (fault : Option ImageFault) → (IsFaultOf profile b fault → IsFaultOf profile a fault) × (IsFaultOf profile a fault → IsFaultOf profile b fault)
+    → (fault : Option ImageFault)
+    → (IsFaultOf profile b fault → IsFaultOf profile a fault) × (IsFaultOf profile a fault → IsFaultOf profile b fault)
 same_fault profile none b a g fault =
     (fault_of_goes profile b a (twins profile none b a g) fault, fault_of_goes profile a b (twins_back profile none b a g) fault)
 
 pub same_breaks : (profile : Profile) → ¬ IsTrue (reads_attributes profile) → (b a : List ℕ) → IsGatheredOf b a → 16 ≤ word b 8
-    → word b 8 ≤ length b → (r : Rule) (p : ℕ) → (Breaks profile b r p → Breaks profile a r p) × (Breaks profile a r p → Breaks profile b r p)
+    → word b 8 ≤ length b → (r : Rule) (p : ℕ)
+    → (Breaks profile b r p → Breaks profile a r p) × (Breaks profile a r p → Breaks profile b r p)
 same_breaks profile none b a g l h r p = (all_forth b a g l h profile none r p, all_back b a g l h profile none r p)

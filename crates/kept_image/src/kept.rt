@@ -24,8 +24,8 @@ use std::marker::Model;
 const RUN_BLOCKS: usize = 18;
 
 /// What is kept of an image: some of its blocks of 16 bytes. A clause sees a list of bytes, those
-/// of the blocks at their places and zeros between. The list is as long as the full size says, or as
-/// the image where that is shorter; 16 bytes at least, where there are so many.
+/// of the blocks at their places and zeros between. The list is as long as the full size says, or
+/// as the image where that is shorter; 16 bytes at least, where there are so many.
 #[derive(Drop)]
 pub struct Kept<A: Allocator> {
     size: u32,

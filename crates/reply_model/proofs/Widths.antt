@@ -59,12 +59,12 @@ word_fits a p b =
     omega arith
 
 -- what a row says, or the owner where there is none, fits its fields
-record FitsRow (row : Option AttributeRow) (owner : Owner) (mode : ℕ) : Type 0 where
-  seconds : option_map_or (λ (r : AttributeRow). r.seconds) row 0 < 2 ^ 64
-  nanoseconds : option_map_or (λ (r : AttributeRow). r.nanoseconds) row 0 < 2 ^ 32
-  mode_is : mode_by row mode < 2 ^ 32
-  uid : (owner_by row owner).uid < 2 ^ 32
-  gid : (owner_by row owner).gid < 2 ^ 32
+record FitsRow (said : Option AttributeRow) (owner : Owner) (mode : ℕ) : Type 0 where
+  seconds : option_map_or (λ (r : AttributeRow). r.seconds) said 0 < 2 ^ 64
+  nanoseconds : option_map_or (λ (r : AttributeRow). r.nanoseconds) said 0 < 2 ^ 32
+  mode_is : mode_by said mode < 2 ^ 32
+  uid : (owner_by said owner).uid < 2 ^ 32
+  gid : (owner_by said owner).gid < 2 ^ 32
 
 row_fits : (row : Option AttributeRow) (owner : Owner) (mode : ℕ) → mode < 2 ^ 32 → IsOwner owner
     → ((r : AttributeRow) → row ≡ Some r → IsRow r) → FitsRow row owner mode

@@ -6,8 +6,8 @@
 //! [`Image::check_with_rows`](Check::check_with_rows) gives the rows of the attribute trailer too.
 //! What a check promises is said by the definitions of `romfs_format`, and in `specs/`: what bytes
 //! are that it takes (`Checks`), and why it refuses others (`Refusals`, in words `Texts`). The
-//! crate stands on `romfs_rules`, `romfs_reader` and `attribute_rows`, apart from them, so that what
-//! stands on images is proved beside the rules, and not after them.
+//! crate stands on `romfs_rules`, `romfs_reader` and `attribute_rows`, apart from them, so that
+//! what stands on images is proved beside the rules, and not after them.
 #![tactic(auto)]
 
 mod check;

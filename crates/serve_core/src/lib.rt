@@ -6,8 +6,9 @@
 //! that are put are the definition's replies, one after another; or the images are refused, and no
 //! device is called. `_as` takes a profile of rules, and `_owned` an owner besides, of all that has
 //! no row of attributes. What serving promises at each end is said by `IsRun` in `serve_loop`'s
-//! `specs/Serving`, and over images by `ServesBetween` in `specs/Headline`; [`laws`] draw from it what each end means. [`Stop`] joins what the two halves
-//! tell: why images were refused, and why a stream was not served to its end.
+//! `specs/Serving`, and over images by `ServesBetween` in `specs/Headline`; [`laws`] draw from it
+//! what each end means. [`Stop`] joins what the two halves tell: why images were refused, and why a
+//! stream was not served to its end.
 #![tactic(auto)]
 
 pub mod laws;

@@ -27,12 +27,12 @@ bits_are stack p row e = rw e (bits_of row (mode stack.layers p))
 
 -- the attributes of a place that is shown as this without rows, by its row and an owner
 abbrev told : Stacked → Place → Option AttributeRow → Owner → Attr
-told stack p row owner = record (attr_of (stacked stack.layers stack.entries) p) {
-  seconds = option_map_or (λ (r : AttributeRow). r.seconds) row 0;
-  nanoseconds = option_map_or (λ (r : AttributeRow). r.nanoseconds) row 0;
-  mode = mode_by row (mode stack.layers p);
-  uid = (owner_by row owner).uid;
-  gid = (owner_by row owner).gid;
+told stack p said owner = record (attr_of (stacked stack.layers stack.entries) p) {
+  seconds = option_map_or (λ (r : AttributeRow). r.seconds) said 0;
+  nanoseconds = option_map_or (λ (r : AttributeRow). r.nanoseconds) said 0;
+  mode = mode_by said (mode stack.layers p);
+  uid = (owner_by said owner).uid;
+  gid = (owner_by said owner).gid;
 }
 
 -- without a row, and where the superuser has all that has none, they are those without rows

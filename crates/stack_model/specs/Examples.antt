@@ -125,8 +125,8 @@ pub record NestedExamples : Type 0 where
   pub no_data : data_of (six_headers ∷ []) (0, 0) ≡ []
 
 -- a row of a header, with this mode; uid, gid and time are told apart
-abbrev pub row : ℕ → ℕ → AttributeRow
-row place mode = record {
+abbrev pub row_for : ℕ → ℕ → AttributeRow
+row_for place mode = record {
   place = place;
   mode = mode;
   uid = 1000;
@@ -141,7 +141,7 @@ abbrev pub owned_stack : Stacked
 owned_stack = record {
   layers = six_headers ∷ [];
   entries = nested;
-  rows = (row 12 0o1777 ∷ row 13 0o777 ∷ row 20 0o4640 ∷ []) ∷ [];
+  rows = (row_for 12 0o1777 ∷ row_for 13 0o777 ∷ row_for 20 0o4640 ∷ []) ∷ [];
   owner = record { uid = 7; gid = 8 };
 }
 
@@ -150,19 +150,19 @@ abbrev pub elsewhere : Stacked
 elsewhere = record {
   layers = six_headers ∷ [];
   entries = nested;
-  rows = [] ∷ (row 12 0o1777 ∷ row 20 0o4640 ∷ []) ∷ [];
+  rows = [] ∷ (row_for 12 0o1777 ∷ row_for 20 0o4640 ∷ []) ∷ [];
   owner = ROOT;
 }
 
 -- twelve bits are the row's, and the type is the header's, whatever the row has above them
 pub record RowModeExamples : Type 0 where
   pub no_row : mode_by None 0x41ed ≡ 0x41ed
-  pub sticky : mode_by (Some (row 0 0o1777)) 0x41a4 ≡ 0x43ff
-  pub no_bits : mode_by (Some (row 0 0)) 0x81ed ≡ 0x8000
-  pub setuid : mode_by (Some (row 0 0o4755)) 0x81a4 ≡ 0x89ed
-  pub link : mode_by (Some (row 0 0o777)) 0xa1ff ≡ 0xa1ff
-  pub all_bits : mode_by (Some (row 0 0o7777)) 0x11a4 ≡ 0x1fff
-  pub above : mode_by (Some (row 0 0o100640)) 0x41ed ≡ 0x41a0
+  pub sticky : mode_by (Some (row_for 0 0o1777)) 0x41a4 ≡ 0x43ff
+  pub no_bits : mode_by (Some (row_for 0 0)) 0x81ed ≡ 0x8000
+  pub setuid : mode_by (Some (row_for 0 0o4755)) 0x81a4 ≡ 0x89ed
+  pub link : mode_by (Some (row_for 0 0o777)) 0xa1ff ≡ 0xa1ff
+  pub all_bits : mode_by (Some (row_for 0 0o7777)) 0x11a4 ≡ 0x1fff
+  pub above : mode_by (Some (row_for 0 0o100640)) 0x41ed ≡ 0x41a0
 
 -- a node with a row has its mode, ids and time; one without has its header's mode, the owner of
 -- those without, and the time 0

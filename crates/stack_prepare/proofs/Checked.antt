@@ -35,7 +35,8 @@ none_taken v profile all = record {
 module _ {X : Type 0} {v : X → List ℕ} {profile : Profile} {all : List (List ℕ)} {left : List X} {layers : List Seen}
     (t : AreTaken v profile all left layers) (x : X) (rest : List X) (next : left ≡ x ∷ rest) where
   -- an image that keeps the rules goes from what is left to what is taken
-  pub one_more : (checked : Seen) → checked ≡ seen profile (v x) → IsSound profile (v x) → AreTaken v profile all rest (layers ++ checked ∷ [])
+  pub one_more : (checked : Seen) → checked ≡ seen profile (v x) → IsSound profile (v x)
+      → AreTaken v profile all rest (layers ++ checked ∷ [])
   one_more checked f d = record {
     below = t.below ++ v x ∷ [];
     split = t.split ∙ ap (λ xs. t.below ++ map v xs) next ∙ sym (append_assoc t.below (v x ∷ []) (map v rest));
@@ -113,7 +114,8 @@ broken_low first profile lows highs Memory b = tt
 broken_low first profile lows highs (Layers count) b = absurd b
 
 -- the upper half's is, where the lower half keeps the rules
-pub broken_high : (first : ℕ) {profile : Profile} {lows : List (List ℕ)} {xs : List Seen} → AreChecked profile lows xs → (highs : List (List ℕ))
+pub broken_high : (first : ℕ) {profile : Profile} {lows : List (List ℕ)} {xs : List Seen} → AreChecked profile lows xs
+    → (highs : List (List ℕ))
     (refusal : Refusal) → IsBroken (first + length lows) profile highs refusal → IsBroken first profile (lows ++ highs) refusal
 broken_high first {profile} {lows} low highs (Layer layer fault) (n, at, broken) = (
   length lows + n,

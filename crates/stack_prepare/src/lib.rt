@@ -2,12 +2,12 @@
 //!
 //! [`prepare_as`] takes 1 to 128 images, the lowest layer first. It checks them by the rules of a
 //! profile, some at the same time (`checking`), stacks them (`stack_core`) and makes their table
-//! (`node_table`); [`prepare`] is the same by the usual profile, and [`prepare_owned`] with an owner
-//! of what has no row of attributes. What it gives is the table of the
-//! images' stack, or a [`Refusal`]: a wrong number of them, the lowest that breaks a rule,
-//! whichever was found first, or want of memory; [`laws`] says that there is one such reason. What
-//! images are taken and why others are refused is said in `specs/Layers`, and of what stack a table
-//! is made in `specs/Preparing`. An image costs what its check costs
+//! (`node_table`); [`prepare`] is the same by the usual profile, and [`prepare_owned`] with an
+//! owner of what has no row of attributes. What it gives is the table of the images' stack, or a
+//! [`Refusal`]: a wrong number of them, the lowest that breaks a rule, whichever was found first,
+//! or want of memory; [`laws`] says that there is one such reason. What images are taken and why
+//! others are refused is said in `specs/Layers`, and of what stack a table is made in
+//! `specs/Preparing`. An image costs what its check costs
 //! ([`Image::check_as`](romfs_check::Check::check_as)), and a part of several images a started
 //! thread. The crate knows no device, no stream and no request: whoever has the table may serve it,
 //! or list it.

@@ -27,8 +27,8 @@ use std::marker::Model;
 /// A clause sees the layers, their listing, the layers' rows of attributes, and whom nodes without
 /// a row belong to. Each node and row takes at most 113 bytes beside a name of more than 22 (16 of
 /// them for guesses of where names stand), a directory 32 more, and each node 24 more where any has
-/// a row of attributes, beside the 32 of the row. No reader takes memory, and each answers for every number: 1 is the root,
-/// and a number that is not in use has nothing.
+/// a row of attributes, beside the 32 of the row. No reader takes memory, and each answers for
+/// every number: 1 is the root, and a number that is not in use has nothing.
 ///
 /// ```text
 /// if let Some(number) = table.child(1, b"etc") {
