@@ -24,7 +24,7 @@ pub record IsShared (A : Type 0) (line : Line) (end : End) : Type 0 where
   pub images : List (List ℕ)
   pub named : NamesAsMany line images
   pub stack : Stacked
-  pub stacked : AreStacked (profile_of line) images stack
+  pub stacked : AreStacked (profile_of line) line.owner images stack
   pub ended : Ended A
   pub served : IsServedBy (first_of line) stack MAX_TURNS line.readers ended
   pub end_is : end ≡ ended.end

@@ -10,7 +10,7 @@ use command_line::Line;
 use device_readers::{End, serve_by_readers};
 use image_files::read_images;
 use serve_core::{MAX_TURNS, Terms};
-use stack_prepare::{FreePass, prepare_as};
+use stack_prepare::{FreePass, prepare_owned};
 use std::alloc::Allocator;
 use std::fs::Files;
 use std::io::{Read, Write};
@@ -57,7 +57,7 @@ where
     ensures stopped { IfErr result (IsNotShared line.now) }
 {
     let images = read_images(rt, alloc, line.images.as_slice())?;
-    let table = prepare_as(rt, alloc, images, profile_of(line), &FreePass)?;
+    let table = prepare_owned(rt, alloc, images, profile_of(line), line.owner, &FreePass)?;
     let terms = Terms {
         first: first_of(line),
         plan: plan_of(line),
