@@ -3,16 +3,16 @@ use Rattle.devices.specs.States.{devices, source_state, sink_state}
 use Rattle.strata.specs.Ending.{IsRunOf}
 use Rattle.strata.proofs.program.command_of_line.Goals as goal
 
-pub returns-then-line : goal.returns-then-line
-returns-then-line g c = λ words is. record {
+pub returns-then-line-eq1 : goal.returns-then-line-eq1
+returns-then-line-eq1 g c = λ words is. record {
   device = λ e one. c.mount.ensures words is;
-  readers = λ e more. absurd (omega (arith, more, c.if-readers-eq1.true));
+  readers = λ e more. absurd (omega (arith, more, c.if-line-eq1.true));
   streams = λ e. absurd (true≢false (sym c.if-line.true ∙ e));
 }
 
-pub returns-else-readers-eq1 : goal.returns-else-readers-eq1
-returns-else-readers-eq1 g c = λ words is. record {
-  device = λ e one. absurd (omega (arith, one, c.if-readers-eq1.false, c.requires.limits.readers));
+pub returns-then-line : goal.returns-then-line
+returns-then-line g c = λ words is. record {
+  device = λ e one. absurd (omega (arith, one, c.if-line-eq1.false, c.requires.limits.readers));
   readers = λ e more. c.mount_by_readers.ensures;
   streams = λ e. absurd (true≢false (sym c.if-line.true ∙ e));
 }
