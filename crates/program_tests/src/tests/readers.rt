@@ -105,36 +105,20 @@ fn messages_of<A: Allocator>(all: &[Done<A>]) -> u64 {
     messages
 }
 
-/// The end that so many readers come to over the empty image, by the requests of a socket.
+/// The end that so many readers come to over the empty image, of which each uses this reader and
+/// this writer.
 fn end_of<R: Threads + Sync, A: Allocator + Copy + Send + Sync, G: Gate + Sync>(
     rt: &R,
     plain: A,
     alloc: A,
-    socket: &UnixStream,
+    reader: Asks<'_>,
+    writer: Answers<'_>,
     readers: u32,
-    faults: Faults,
     gate: &G,
 ) -> Option<(End, Option<(usize, u64)>)> {
     if readers == 0 {
         return None;
     }
-    let (reads, writes) = (AtomicU64::new(0), AtomicU64::new(0));
-    let reader = Asks {
-        socket,
-        failing: Failing {
-            calls: &reads,
-            at: faults.read_at,
-            number: faults.number,
-        },
-    };
-    let writer = Answers {
-        socket,
-        failing: Failing {
-            calls: &writes,
-            at: faults.write_at,
-            number: faults.number,
-        },
-    };
     let terms = Terms {
         first: Session::Fresh,
         plan: Plan::new(2, 3)?,
@@ -145,8 +129,8 @@ fn end_of<R: Threads + Sync, A: Allocator + Copy + Send + Sync, G: Gate + Sync>(
     let table = prepare(rt, plain, images, &FreePass).ok()?;
     let ended = serve_by_readers(rt, alloc, &table, reader, writer, readers, &terms);
     drop(table);
-    let done = match ended.done {
-        Ok(all) => Some((all.len(), messages_of(&all))),
+    let done = match &ended.done {
+        Ok(all) => Some((all.len(), messages_of(all))),
         Err(_) => None,
     };
     Some((ended.end, done))
@@ -208,7 +192,27 @@ fn seen_of<R: Net + Threads + Sync, G: Gate + Sync>(
     let (client, socket) = UnixStream::pair(rt).ok()?;
     ask(&client, MESSAGES).ok()?;
     let (plain, refusing) = (&memories.plain, &memories.refusing);
-    let (end, done) = end_of(rt, plain, refusing, &socket, readers, faults, gate)?;
+    let (reads, writes) = (AtomicU64::new(0), AtomicU64::new(0));
+    let reading = Failing {
+        calls: &reads,
+        at: faults.read_at,
+        number: faults.number,
+    };
+    let writing = Failing {
+        calls: &writes,
+        at: faults.write_at,
+        number: faults.number,
+    };
+    let shared = &socket;
+    let reader = Asks {
+        socket: shared,
+        failing: reading,
+    };
+    let writer = Answers {
+        socket: shared,
+        failing: writing,
+    };
+    let (end, done) = end_of(rt, plain, refusing, reader, writer, readers, gate)?;
     drop(socket);
     let replies = replies_to(memories.global, client);
     Some(Seen { end, done, replies })
