@@ -54,16 +54,16 @@ held_map f (x ∷ all) (suc (suc k)) = held_map f all (suc k)
 
 -- attributes of the same numbers, row and owner are the same
 abbrev attr_by : Owner → ℕ → ℕ → ℕ → ℕ → ℕ → Option AttributeRow → Attr
-attr_by owner n size mode nlink rdev row = record {
+attr_by owner n size mode nlink rdev given = record {
   ino = n;
   size = size;
   blocks = blocks_of size;
-  seconds = option_map_or (λ (r : AttributeRow). r.seconds) row 0;
-  nanoseconds = option_map_or (λ (r : AttributeRow). r.nanoseconds) row 0;
-  mode = mode_by row mode;
+  seconds = option_map_or (λ (r : AttributeRow). r.seconds) given 0;
+  nanoseconds = option_map_or (λ (r : AttributeRow). r.nanoseconds) given 0;
+  mode = mode_by given mode;
   nlink = nlink;
-  uid = (owner_by row owner).uid;
-  gid = (owner_by row owner).gid;
+  uid = (owner_by given owner).uid;
+  gid = (owner_by given owner).gid;
   rdev = rdev;
 }
 

@@ -48,11 +48,11 @@ brief_by row node = record {
 
 -- whose the node of a row is, and when it was changed; without a row it is this owner's
 abbrev pub stamp_by : Option AttributeRow → Owner → Stamp
-stamp_by row owner = record {
-  seconds = option_map_or (λ r. r.seconds) row 0;
-  nanoseconds = option_map_or (λ r. r.nanoseconds) row 0;
-  uid = (owner_by row owner).uid;
-  gid = (owner_by row owner).gid;
+stamp_by given owner = record {
+  seconds = option_map_or (λ r. r.seconds) given 0;
+  nanoseconds = option_map_or (λ r. r.nanoseconds) given 0;
+  uid = (owner_by given owner).uid;
+  gid = (owner_by given owner).gid;
 }
 
 -- in brief the attributes of nodes

@@ -8,4 +8,5 @@ returns-then-near-ge4 c =
 
 pub returns : goal.returns
 returns c = c.read_u32-2.ensures
-    ∙ word_of_bytes c.args.size _ _ c.args.at c.requires.at _ _ _ _ c.byte_in.ensures c.byte_in-2.ensures c.byte_in-3.ensures c.byte_in-4.ensures
+    ∙ word_of_bytes c.args.size _ _ c.args.at c.requires.at _ _ _ _ c.byte_in.ensures c.byte_in-2.ensures
+        c.byte_in-3.ensures c.byte_in-4.ensures

@@ -8,4 +8,5 @@ returns-clause-room g c =
     c.in_ok-look_at.ensures.held c.in_ok-look_at.ensures.low c.in_ok-look_at.ensures.high (omega arith)
     (omega (arith, c.min-count.ensures)) c.clear.ensures
     (c.copy_part.ensures
-    ∙ ap (λ b. take c.min-count.result (drop (c.args.at - c.look_at.new.window.start) b) ++ drop c.min-count.result c.clear.new.room) c.deref.ensures.value)
+    ∙ ap (λ b. take c.min-count.result (drop (c.args.at - c.look_at.new.window.start) b)
+        ++ drop c.min-count.result c.clear.new.room) c.deref.ensures.value)

@@ -111,7 +111,8 @@ returns-then-has_begun g c =
     let fed = fed_now g (goal.at.returns-then-has_begun g c).In-Ok c.if-got-eq0.false in
     let next = goes_on _ _ _ _ c.args.turns _ _ fed _ _ c.in-Ok-answer_all.ensures.ok.0
     (subst IsOpen c.rest-in-loop-turn.ensures c.in_default.ensures) in
-    over_for_begun _ _ _ _ _ _ _ next (omega (arith, c.loop-turn-test.true)) c.as_begun.result (c.has_begun.ensures.rest c.if-has_begun.true)
+    over_for_begun _ _ _ _ _ _ _ next (omega (arith, c.loop-turn-test.true)) c.as_begun.result
+    (c.has_begun.ensures.rest c.if-has_begun.true)
     c.as_begun.ensures.session (c.has_begun.ensures.ready c.if-has_begun.true) c.as_begun.ensures.messages c.as_begun.ensures.written
     c.as_begun.ensures.balances
 
