@@ -13,11 +13,8 @@ pub(crate) fn number_to(text: &str, most: u32) -> Option<u32>
         IsNumberTo most text.now × (number ≡ digits_value 10 text.now)) }
     ensures none { result ≡ None → ¬ IsNumberTo most text.now }
 {
-    if text.starts_with('+') {
-        return None;
-    }
-    match text.parse::<u32>() {
-        Ok(number) if 1 <= number && number <= most => Some(number),
+    match id_in(text) {
+        Some(number) if 1 <= number && number <= most => Some(number),
         _ => None,
     }
 }
@@ -42,8 +39,5 @@ fn id_in(text: &str) -> Option<u32>
     if text.starts_with('+') {
         return None;
     }
-    match text.parse::<u32>() {
-        Ok(id) => Some(id),
-        Err(_) => None,
-    }
+    text.parse::<u32>().ok()
 }
