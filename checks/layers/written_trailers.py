@@ -7,6 +7,7 @@ import subprocess
 from checks.layers.layer_room import GNU, PAX, LeftOut, expect
 from checks.layers.shown_trees import read
 from checks.plain import plain, plain_attributes
+from checks.shared import other_kernel
 from checks.shared.layer_files import archive, block, character, directory, fifo, file, hard, layout_of, symlink
 
 MOST = 2 ** 32 - 1
@@ -209,25 +210,60 @@ diff -r "$3" "$4"; umount "$3" "$4"
 """
 
 
-def test_linux(room):
-    """Linux's own driver shows of an image with a trailer what it shows of the same one without."""
-    folder, places = room.name(), [room.name(), room.name()]
+def with_and_without(room):
+    """An image with a trailer, and the same without."""
+    folder, bare = room.name(), room.name()
     room.convert(layout_of(room.name(), [archive(LOW[:2] + LOW[4:])]).path, folder)
     data = read(folder + "/00.romfs")
-    bare, place = room.name(), plain_attributes.place(data)
+    place = plain_attributes.place(data)
     with open(bare, "wb") as out:
         out.write(data[:place] + bytes(-place % 1024))
+    return folder + "/00.romfs", bare
+
+
+def hold_halves(lines):
+    """What was printed of both images is the same."""
+    hold("a mount by Linux", lines[:len(lines) // 2], lines[len(lines) // 2:])
+    expect(len(lines) >= 10, "Linux shows %r" % lines)
+
+
+def test_linux(room):
+    """Linux's own driver shows of an image with a trailer what it shows of the same one without."""
+    images, places = with_and_without(room), [room.name(), room.name()]
     for it in places:
         os.mkdir(it)
     if os.geteuid() != 0 or shutil.which("unshare") is None:
         raise LeftOut("Linux's own romfs: it takes root and unshare to mount it")
-    done = subprocess.run(["unshare", "-m", "sh", "-c", LINUX, "sh", folder + "/00.romfs", bare, *places], stdin=subprocess.DEVNULL,
+    done = subprocess.run(["unshare", "-m", "sh", "-c", LINUX, "sh", *images, *places], stdin=subprocess.DEVNULL,
                           capture_output=True, text=True, check=False)
     if done.returncode == 99 or "unshare" in done.stderr:
         raise LeftOut("Linux's own romfs can't be mounted here: %s" % done.stderr.strip().splitlines()[0])
-    lines = done.stdout.splitlines()
-    hold("a mount by Linux", (0, lines[:len(lines) // 2]), (done.returncode, lines[len(lines) // 2:]))
-    expect(len(lines) >= 10, "Linux shows %r" % lines)
+    hold("its status", 0, done.returncode)
+    hold_halves(done.stdout.splitlines())
+
+
+OTHER_LINUX = r"""
+mkdir /a /b
+mount -t romfs -o loop,ro /with /a && mount -t romfs -o loop,ro /without /b
+for at in /a /b; do
+    cd $at
+    find . | sort | while read -r it; do
+        stat -c '%n %F %a %u:%g %h %s %t,%T %Y' "$it"
+        if [ -L "$it" ]; then readlink "$it"; elif [ -f "$it" ]; then md5sum "$it"; fi
+    done
+done
+"""
+
+
+def test_other_linux(room):
+    """The same in another kernel, where its package is named."""
+    missing = other_kernel.what_is_missing()
+    if missing:
+        raise LeftOut("another kernel's romfs: %s" % missing)
+    image, bare = with_and_without(room)
+    place = room.name()
+    os.mkdir(place)
+    hold_halves(other_kernel.run_in(place, ("mtd.ko", "loop.ko", "romfs.ko"), {"with": image, "without": bare}, OTHER_LINUX))
 
 
 # an image of 64 bytes with a root that holds nothing, as a dump prints it
