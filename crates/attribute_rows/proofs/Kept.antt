@@ -1,13 +1,13 @@
 -- The first rows of a trailer as a list: how many they are (first_length), which stands where
--- (first_get), and that they are in order where they are right (ordered).
-use Rattle.std.proofs.Common.{◌≡◌, ◌∙◌, sym, ap, ℕ, zero, suc, ◌+◌, ◌<◌, ◌≤◌, inl, inr, List, [], ◌∷◌, ◌++◌, length, get_or, arith, refl}
+-- (first_get), and that they are in order where they are right and few (ordered).
+use Rattle.std.proofs.Common.{◌≡◌, ◌∙◌, ℕ, zero, suc, ◌^◌, ◌<◌, ◌≤◌, inl, inr, List, [], ◌∷◌, length, get_or, arith, refl}
 use Rattle.std.proofs.lemmas.Bool.{cases_order}
 use Rattle.std.proofs.lemmas.List.{length-append, get_or_append_left, get_or_push}
 use Rattle.romfs_format.specs.declared.attribute_row.AttributeRow.{AttributeRow}
 use Rattle.romfs_format.specs.Trailer.{row_of, first_rows, AreRows}
 use Rattle.attribute_rows.specs.Order.{AreOrdered}
 
-first_length : (t : List ℕ) (n : ℕ) → length (first_rows t n) ≡ n
+pub first_length : (t : List ℕ) (n : ℕ) → length (first_rows t n) ≡ n
 first_length t zero = refl
 first_length t (suc n) = rw (length-append (first_rows t n) (row_of t n ∷ []), first_length t n) (omega arith)
 
@@ -21,7 +21,7 @@ first_get t (suc n) i d l = elim (cases_order i n) [
   | inr (inr m) ↦ absurd (omega arith)
 ]
 
-module _ (full : ℕ) (t : List ℕ) (n : ℕ) (are : AreRows full t n) where
+module _ (full : ℕ) (t : List ℕ) (n : ℕ) (are : AreRows full t n) (few : length (first_rows t n) < 2 ^ 32) where
   rising : (i j : ℕ) (d : AttributeRow) → i ≤ j → j < length (first_rows t n)
       → (get_or (first_rows t n) i d).place ≤ (get_or (first_rows t n) j d).place
   rising i j d l m =
@@ -32,11 +32,12 @@ module _ (full : ℕ) (t : List ℕ) (n : ℕ) (are : AreRows full t n) where
         | inr (inr o) ↦ absurd (omega arith)
       ])
 
-  -- the first rows of a trailer are in order, where they are right
+  -- the first rows of a trailer are in order, where they are right and few
   pub ordered : AreOrdered (first_rows t n)
   ordered = record {
     rising = rising;
     modes = λ k d l.
         let m : k < n = rw (← first_length t n) l in
         rw (first_get t n k d m) (are.each k m).mode;
+    few = few;
   }

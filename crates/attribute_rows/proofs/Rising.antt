@@ -1,7 +1,7 @@
 -- How rows are gone over: the first n are right and rise, and the next may have no offset below
 -- `least` (AreSoFar). A row that is right and stands there keeps it so (more); with any other the
 -- rows are not right (fallen, wrong).
-use Rattle.std.proofs.Common.{◌≡◌, ℕ, zero, suc, ◌+◌, ◌<◌, ◌≤◌, inl, inr, List, arith, subst, sym, refl}
+use Rattle.std.proofs.Common.{◌≡◌, ℕ, ◌+◌, ◌<◌, ◌≤◌, inl, inr, List, arith, refl}
 use Rattle.std.proofs.lemmas.Bool.{cases_order}
 use Rattle.romfs_format.specs.Trailer.{row_of, IsRow, AreRows}
 

@@ -1,39 +1,67 @@
--- Which row is that of an offset: none where no row has it (row_none), and else the first that has
--- it (row_some). So the first row that is not below the offset tells, among rows that rise (found,
--- another, past).
-use Rattle.std.proofs.Common.{◌≡◌, ◌≢◌, ◌∙◌, sym, ap, ℕ, zero, suc, ◌<◌, ◌≤◌, inl, inr, true, false, ltb, List, [], ◌∷◌, length, get_or, Some, None, arith, refl}
+-- Where the row of an offset stands: nowhere where no row has it (nowhere), and else at the first
+-- that has it (here). So the first row that is not below the offset tells, among rows that rise
+-- (found, another, past). The row for an offset is the one at its position (row_at_position).
+use Rattle.std.proofs.Common.{◌≡◌, ◌≢◌, ◌∙◌, sym, ap, ℕ, ◌<◌, ◌≤◌, inl, inr, true, false, ltb, Bool, ◌==◌, List, [], ◌∷◌, length, get_or, cond, Some, None, arith, refl}
+use Rattle.std.specs.Prelude.{find, slice_get}
+use Rattle.std.specs.List.{position_or_len}
 use Rattle.std.specs.List.Sorted.{IsNonDecreasingBy, IsPartitionPoint}
-use Rattle.std.proofs.lemmas.Bool.{cases_lt, eq-eqb, ltb-false, ltb-true, ne_eqb}
+use Rattle.std.specs.Option.{option_and_then}
+use Rattle.std.proofs.lemmas.Bool.{cases_lt, eq-eqb, le-ltb, lt-ltb, ltb-false, ltb-true, ne_eqb}
+use Rattle.std.proofs.lemmas.List.Folds.{find_at}
+use Rattle.std.proofs.lemmas.List.Sums.{position_or_len_is}
+use Rattle.std.proofs.lemmas.Option.{slice_get_past}
 use Rattle.romfs_format.specs.declared.attribute_row.AttributeRow.{AttributeRow}
 use Rattle.romfs_format.specs.Trailer.{row_at}
+use Rattle.attribute_rows.specs.Order.{position_at}
 
--- where no row has the offset there is none for it
-pub row_none : (xs : List AttributeRow) (p : ℕ)
-    → ((k : ℕ) (d : AttributeRow) → k < length xs → (get_or xs k d).place ≢ p) → row_at xs p ≡ None
-row_none [] p h = refl
-row_none (x ∷ xs) p h = rw (ne_eqb x.place p (h 0 x (omega arith))) (row_none xs p (λ k d l. h (suc k) d (omega arith)))
+-- whether a row is for an offset
+abbrev is_for : ℕ → AttributeRow → Bool
+is_for p x = x.place == p
 
--- the first row that has the offset is the one for it
-pub row_some : (xs : List AttributeRow) (p i : ℕ) (d : AttributeRow) → i < length xs
-    → ((k : ℕ) (e : AttributeRow) → k < i → (get_or xs k e).place ≢ p) → (get_or xs i d).place ≡ p
-    → row_at xs p ≡ Some (get_or xs i d)
-row_some [] p i d l h e = absurd (omega arith)
-row_some (x ∷ xs) p zero d l h e = rw (eq-eqb x.place p e) refl
-row_some (x ∷ xs) p (suc i) d l h e =
-    rw (ne_eqb x.place p (h 0 d (omega arith))) (row_some xs p i d (omega arith) (λ k f m. h (suc k) f (omega arith)) e)
+-- any row
+nothing : AttributeRow
+nothing = record { place = 0; mode = 0; uid = 0; gid = 0; seconds = 0; nanoseconds = 0 }
+
+module _ (xs : List AttributeRow) (p : ℕ) where
+  -- where no row has the offset it stands nowhere
+  pub nowhere : ((k : ℕ) (d : AttributeRow) → k < length xs → (get_or xs k d).place ≢ p) → None ≡ position_at xs p
+  nowhere h =
+      let e : position_or_len (is_for p) xs ≡ length xs =
+      position_or_len_is (is_for p) xs (length xs) nothing (omega arith) (λ k l. ne_eqb _ _ (h k nothing l)) (λ l. absurd (omega arith)) in
+      rw (e, le-ltb (length xs) (length xs) (omega arith)) refl
+
+  -- the first row that has the offset is the one for it
+  pub here : (i : ℕ) (d : AttributeRow) → i < length xs → ((k : ℕ) (e : AttributeRow) → k < i → (get_or xs k e).place ≢ p)
+      → (get_or xs i d).place ≡ p → Some i ≡ position_at xs p
+  here i d l before e =
+      let f : position_or_len (is_for p) xs ≡ i =
+      position_or_len_is (is_for p) xs i d (omega arith) (λ k m. ne_eqb _ _ (before k d m)) (λ _. eq-eqb _ _ e) in
+      rw (f, lt-ltb i (length xs) l) refl
+
+  -- the row for an offset is the first that has it
+  finds : (ys : List AttributeRow) → row_at ys p ≡ find (is_for p) ys
+  finds [] = refl
+  finds (y ∷ ys) = ap (λ r. cond (is_for p y) (Some y) r) (finds ys)
+
+  -- the row for an offset is the one at its position
+  pub row_at_position : row_at xs p ≡ option_and_then (slice_get xs) (position_at xs p)
+  row_at_position = finds xs ∙ find_at (is_for p) xs ∙ elim (cases_lt (position_or_len (is_for p) xs) (length xs)) [
+    | inl l ↦ rw (lt-ltb _ _ l) refl
+    | inr l ↦ rw (le-ltb _ _ l) (slice_get_past xs _ l)
+  ]
 
 module _ (xs : List AttributeRow) (p i : ℕ) (rising : IsNonDecreasingBy (λ x. x.place) xs)
     (split : IsPartitionPoint (λ x. ltb x.place p ≡ true) (λ x. ltb x.place p ≡ false) xs i) where
   below : (k : ℕ) (d : AttributeRow) → k < i → (get_or xs k d).place ≢ p
   below k d l e = let b = ltb-true _ _ (split.0 k d (omega arith) l) in omega arith
 
-  -- it is the row, where it has the offset
-  pub found : (x : AttributeRow) → i < length xs → ((d : AttributeRow) → x ≡ get_or xs i d) → x.place ≡ p → Some x ≡ row_at xs p
-  found x l at e = ap Some (at x) ∙ sym (row_some xs p i x l below (ap (λ (y : AttributeRow). y.place) (sym (at x)) ∙ e))
+  -- the row there is it, where it has the offset
+  pub found : (x : AttributeRow) → i < length xs → ((d : AttributeRow) → x ≡ get_or xs i d) → x.place ≡ p → Some i ≡ position_at xs p
+  found x l at e = here xs p i x l below (ap (λ (y : AttributeRow). y.place) (sym (at x)) ∙ e)
 
   -- where it has another there is none
-  pub another : (x : AttributeRow) → i < length xs → ((d : AttributeRow) → x ≡ get_or xs i d) → x.place ≢ p → None ≡ row_at xs p
-  another x l at n = sym (row_none xs p none)
+  pub another : (x : AttributeRow) → i < length xs → ((d : AttributeRow) → x ≡ get_or xs i d) → x.place ≢ p → None ≡ position_at xs p
+  another x l at n = nowhere xs p none
     where
       none : (k : ℕ) (d : AttributeRow) → k < length xs → (get_or xs k d).place ≢ p
       none k d m e = elim (cases_lt k i) [
@@ -46,5 +74,5 @@ module _ (xs : List AttributeRow) (p i : ℕ) (rising : IsNonDecreasingBy (λ x.
       ]
 
   -- and where all rows are below
-  pub past : length xs ≤ i → None ≡ row_at xs p
-  past l = sym (row_none xs p (λ k d m. below k d (omega arith)))
+  pub past : length xs ≤ i → None ≡ position_at xs p
+  past l = nowhere xs p (λ k d m. below k d (omega arith))

@@ -2,12 +2,13 @@
 //! (`Trailer`, of `romfs_format`).
 //!
 //! [`trailer_fault`] says whether the trailer of an image is broken: it goes over its bytes twice,
-//! and takes no memory. [`Rows`] keeps the rows of one that is not, and finds the row of a header
-//! by halves. Both promise what the definitions of `romfs_format` say; `specs/` has the words
-//! between (`Faults`, `Order`).
+//! and takes no memory. [`Rows`] keeps the rows of one that is not, in 28 bytes each, and finds the
+//! row of a header by halves, or by where it stands. Both promise what the definitions of
+//! `romfs_format` say; `specs/` has the words between (`Faults`, `Order`).
 #![tactic(auto)]
 
 mod check;
+mod kept_row;
 mod read;
 mod rows;
 

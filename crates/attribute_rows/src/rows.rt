@@ -1,21 +1,24 @@
 //! What is kept of a trailer.
 
-ghost use Rattle.std.specs.Prelude.{◌≡◌, ◌≤◌, [], length, nat_eq, IfOk, IfSome};
+ghost use Rattle.std.specs.Prelude.{◌≡◌, ◌+◌, ◌^◌, ◌<◌, ◌≤◌, [], length, nat_eq, slice_get, IfOk, IfSome};
 ghost use Rattle.romfs_format.specs.declared.limits.TheConstants.{HEAD_SIZE, MAX_MODE};
 ghost use Rattle.romfs_format.specs.declared.limits.TheConstants.{TRAILER_HEAD_SIZE};
 ghost use Rattle.romfs_format.specs.Trailer.{IsTrailerBroken, first_rows, row_at, row_count, rows};
 ghost use Rattle.romfs_format.specs.Trailer.{trailer_end};
+ghost use Rattle.attribute_rows.specs.Order.{position_at};
 
+use crate::kept_row::KeptRow;
 use crate::read::{row_of, trailer_of};
 use romfs_format::AttributeRow;
 use romfs_format::read::word;
 use std::alloc::{AllocError, Allocator};
 use std::marker::Model;
 
-/// The rows of an image's trailer, which rise by offset. A clause sees them as a list.
+/// The rows of an image's trailer, which rise by offset. A clause sees them as a list. Each takes
+/// 28 bytes.
 #[derive(Drop)]
 pub struct Rows<A: Allocator> {
-    rows: Vec<AttributeRow, A>,
+    rows: Vec<KeptRow, A>,
 }
 
 impl<A: Allocator> Model for Rows<A> {
@@ -43,7 +46,7 @@ impl<A: Allocator> Rows<A> {
     /// The rows of the trailer of an image, by all its bytes; none where it has no trailer. A
     /// trailer is not broken.
     ///
-    /// It takes 32 bytes for each row. The error comes only where memory was refused.
+    /// It takes 28 bytes for each row. The error comes only where memory was refused.
     pub fn of(alloc: A, bytes: &[u8]) -> Result<Rows<A>, AllocError>
         requires long { HEAD_SIZE ≤ length bytes.now }
         requires whole { ¬ IsTrailerBroken bytes.now }
@@ -71,24 +74,43 @@ impl<A: Allocator> Rows<A> {
         ensures value { result ≡ row_at self.now place }
         ensures mode { IfSome result (λ row. row.mode ≤ MAX_MODE) }
     {
-        let index = self.rows.partition_point(|row| row.place < place);
-        match self.rows.get(index) {
-            Some(row) if row.place == place => Some(*row),
+        self.get(self.position(place)?)
+    }
+
+    /// Where that row stands among all, counted from 0. It takes as many steps.
+    pub fn position(&self, place: u32) -> Option<u32>
+        ensures value { result ≡ position_at self.now place }
+        ensures small { IfSome result (λ position. position + 1 < 2 ^ 32) }
+    {
+        let position = self.rows.partition_point(|row| row.place() < place);
+        match self.rows.get(position) {
+            Some(row) if row.place() == place => Some(position as u32),
             _ => None,
         }
+    }
+
+    /// The row at a position, counted from 0; none behind the last.
+    pub fn get(&self, position: u32) -> Option<AttributeRow>
+        ensures value { result ≡ slice_get self.now position }
+        ensures mode { IfSome result (λ row. row.mode ≤ MAX_MODE) }
+    {
+        let kept = self.rows.get(position as usize)?;
+        Some(kept.row())
     }
 }
 
 // All rows of a trailer, in their order.
-fn rows_in<A: Allocator>(alloc: A, trailer: &[u8]) -> Result<Vec<AttributeRow, A>, AllocError>
+fn rows_in<A: Allocator>(alloc: A, trailer: &[u8]) -> Result<Vec<KeptRow, A>, AllocError>
     requires long { TRAILER_HEAD_SIZE ≤ length trailer.now }
     requires whole { trailer_end trailer.now ≤ length trailer.now }
-    ensures { IfOk result (λ found. found.items ≡ first_rows trailer.now (row_count trailer.now)) }
+    ensures all { IfOk result (λ found.
+        found.items ≡ first_rows trailer.now (row_count trailer.now)) }
+    ensures few { IfOk result (λ found. length found.items < 2 ^ 32) }
 {
     let count = word(trailer, 8);
     let mut rows = Vec::with_capacity(alloc, count as usize)?;
     for number in 0..count {
-        rows.push(row_of(trailer, number))?;
+        rows.push(KeptRow::of(row_of(trailer, number)))?;
     }
     Ok(rows)
 }

@@ -1,4 +1,4 @@
-use Rattle.std.proofs.Common.{◌≡◌, ◌∙◌, ap, sym, subst, ◌+◌, ◌≤◌, ℕ, arith, refl, ap}
+use Rattle.std.proofs.Common.{◌≡◌, ◌∙◌, ap, sym, subst, ◌+◌, ◌≤◌, arith, refl, ap}
 use Rattle.romfs_format.specs.Fields.{word}
 use Rattle.romfs_format.specs.Trailer.{AreRows, row_of}
 use Rattle.attribute_rows.proofs.Rising.{AreSoFar, more}

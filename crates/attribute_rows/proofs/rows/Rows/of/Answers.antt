@@ -1,4 +1,4 @@
-use Rattle.std.proofs.Common.{◌∙◌, ap, sym, subst}
+use Rattle.std.proofs.Common.{◌<◌, ◌^◌, ◌∙◌, ap, length, sym, subst}
 use Rattle.romfs_format.specs.Trailer.{first_rows, row_count}
 use Rattle.romfs_format.proofs.Trailers.{kept_trailer}
 use Rattle.attribute_rows.specs.Order.{AreOrdered}
@@ -9,5 +9,5 @@ pub invariant_of-result : goal.invariant_of-result
 invariant_of-result g c =
     let b = c.args.bytes.now in
     let kept = kept_trailer b c.in-Some.ensures.has c.requires.whole in
-    let is = c.in_ok-rows-in-Some.ensures ∙ ap (λ t. first_rows t (row_count t)) c.in-Some.ensures.bytes in
-    subst AreOrdered (sym is) (ordered _ _ _ kept.rows)
+    let is = c.in_ok-rows-in-Some.ensures.all ∙ ap (λ t. first_rows t (row_count t)) c.in-Some.ensures.bytes in
+    subst AreOrdered (sym is) (ordered _ _ _ kept.rows (subst (λ rows. length rows < 2 ^ 32) is c.in_ok-rows-in-Some.ensures.few))
