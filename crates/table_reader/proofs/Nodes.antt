@@ -1,13 +1,16 @@
 -- What a table's parts say of the node with a number. A number is held exactly where it is in use
 -- (`here`, `nowhere`), and a directory where the place is one (`found`, `not_found`); the others
 -- say of each reader that what it reads is what the stack says.
-use Rattle.std.proofs.Common.{◌≡◌, ◌∙◌, sym, ap, subst, ℕ, zero, suc, ◌<◌, ◌≤◌, inl, inr, List, [], ◌∷◌, length, map, Bool, true, false, ◌||◌, Option, Some, None, Bor, MatchOption, cond, refl, arith}
+use Rattle.std.proofs.Common.{◌≡◌, ◌∙◌, sym, ap, subst, ℕ, zero, suc, ◌+◌, ◌<◌, ◌≤◌, inl, inr, List, [], ◌∷◌, length, map, Bool, true, false, ◌||◌, Option, Some, None, Bor, MatchOption, cond, refl, arith}
 use Rattle.std.specs.Prelude.{slice_get, slice_range, find, is_some, unwrap_or}
 use Rattle.std.specs.List.{list_any, slice_index_or}
 use Rattle.std.specs.Option.{option_map, option_map_or, option_and_then}
 use Rattle.std.proofs.lemmas.Option.{slice_get_within, slice_get-get_or, slice_get_past, slice_get_cases, get_or_from_slice_get}
 use Rattle.romfs_reader.specs.Readers.{bytes_at, IsPart}
 use Rattle.romfs_format.specs.declared.attribute_row.AttributeRow.{AttributeRow}
+use Rattle.romfs_format.specs.Trailer.{row_at}
+use Rattle.attribute_rows.specs.Order.{position_at}
+use Rattle.attribute_rows.proofs.Search.{row_at_position}
 use Rattle.stack_model.specs.Listing.{Entry, Stacked, stacked}
 use Rattle.stack_model.specs.Numbers.{Place, Child, nodes, node_of, number_of, number, same_name, children, child}
 use Rattle.stack_model.specs.Attributes.{is_directory, is_directory_at, kind_at, blocks_of, mode_by, owner_by, row_in, attr_of}
@@ -21,7 +24,7 @@ use Rattle.table_reader.specs.declared.directory.Directory.{Directory}
 use Rattle.table_reader.specs.Rows.{Line, number_named}
 use Rattle.table_reader.specs.Directories.{HeldDirectories}
 use Rattle.table_reader.specs.Readers.{TellsNode, attr_at, parent_of, parent_at, child_of, child_at, rows_of, rows_at, data_of_number}
-use Rattle.table_reader.specs.Held.{held_at, kept_of, directory_held, row_held, brief_by, stamp_by, briefs_of, stamps_of, stamp_held, attr_held, HaveKeys, IsHeldDirectory, IsNode, IsTable}
+use Rattle.table_reader.specs.Held.{held_at, kept_of, directory_held, row_held, brief_by, stamp_by, briefs_of, row_number, row_numbers_of, row_told, attr_held, HaveKeys, IsHeldDirectory, IsNode, IsTable}
 
 -- the number of a place that has one
 number_is : (entries : List Entry) (n : ℕ) (p : Place) → node_of entries n ≡ Some p → number entries p ≡ n
@@ -99,22 +102,30 @@ no_row : (row : Option AttributeRow) → is_some row ≡ false → row ≡ None
 no_row None e = refl
 no_row (Some row) e = absurd (cc)
 
--- what is held, or not, of whose the nodes are says whose a node is that is held
-stamp_is : (rows : List (List AttributeRow)) (owner : Owner) (held : List Node) (n : ℕ) (node : Node) → held_at held n ≡ Some node
-    → stamp_held (stamps_of rows owner held) owner n ≡ stamp_by (row_held rows node) owner
-stamp_is rows owner held n node e = go (list_any has_row held) refl
+-- the row with the number of an offset's row is that offset's
+numbered_row : (xs : List AttributeRow) (p : ℕ) → held_at xs (option_map_or (λ k. k + 1) (position_at xs p) 0) ≡ row_at xs p
+numbered_row xs p = go (position_at xs p) ∙ sym (row_at_position xs p)
+  where
+    go : (o : Option ℕ) → held_at xs (option_map_or (λ k. k + 1) o 0) ≡ option_and_then (slice_get xs) o
+    go None = refl
+    go (Some k) = let e : k + 1 ≡ suc k = omega arith in rw e refl
+
+-- what is told of a node by where its row stands, or by nothing where no node has a row, is its row
+row_is : (rows : List (List AttributeRow)) (held : List Node) (n : ℕ) (node : Node) → held_at held n ≡ Some node
+    → row_told rows held (row_numbers_of rows held) n ≡ row_held rows node
+row_is rows held n node e = go (list_any has_row held) refl
   where
     has_row : Node → Bool
     has_row x = is_some (row_held rows x)
 
-    of_node : Node → Stamp
-    of_node x = stamp_by (row_held rows x) owner
+    told : Option ℕ → Option Node → Option AttributeRow
+    told number o = option_and_then (λ k. option_and_then (λ (x : Node). held_at (slice_index_or rows x.place.layer []) k) o) number
 
     go : (b : Bool) → list_any has_row held ≡ b
-        → stamp_held (cond b (map of_node held) []) owner n ≡ stamp_by (row_held rows node) owner
-    go true f = ap (λ o. unwrap_or o (stamp_by None owner)) (held_map of_node held n ∙ ap (option_map of_node) e)
-    go false f = ap (λ o. unwrap_or o (stamp_by None owner)) (held_nowhere {A = Stamp} n)
-        ∙ ap (λ r. stamp_by r owner) (sym (no_row (row_held rows node) (none_passes has_row held n node f e)))
+        → told (held_at (cond b (map (row_number rows) held) []) n) (held_at held n) ≡ row_held rows node
+    go true f = rw (held_map (row_number rows) held n, e) (numbered_row (slice_index_or rows node.place.layer []) node.place.header)
+    go false f = ap (λ o. told o (held_at held n)) (held_nowhere {A = ℕ} n)
+        ∙ sym (no_row (row_held rows node) (none_passes has_row held n node f e))
 
 module _ (stack : Stacked) (held : List Node) (directories : HeldDirectories) (blocks : ℕ) (t : IsTable stack held directories blocks) where
   abbrev layers : List (List ℕ)
@@ -172,7 +183,7 @@ module _ (stack : Stacked) (held : List Node) (directories : HeldDirectories) (b
 
   -- the attributes made of what is held in brief, and of whose the node is, are those of its number
   pub attr_is : (n : ℕ) (brief : Brief) (stamp : Stamp) → held_at (briefs_of rows held) n ≡ Some brief
-      → stamp ≡ stamp_held (stamps_of rows owner held) owner n → Some (attr_held n brief stamp) ≡ attr_at stack n
+      → stamp ≡ stamp_by (row_told rows held (row_numbers_of rows held) n) owner → Some (attr_held n brief stamp) ≡ attr_at stack n
   attr_is n brief stamp e s = go (held_at held n) refl
     where
       of_node : Node → Brief
@@ -183,7 +194,7 @@ module _ (stack : Stacked) (held : List Node) (directories : HeldDirectories) (b
       go (Some node) f =
           let same : Some brief ≡ Some (of_node node) = sym e ∙ held_map of_node held n ∙ ap (option_map of_node) f in
           let is : brief ≡ of_node node = cc in
-          rw (is, s ∙ stamp_is rows owner held n node f) (attr_here n node f)
+          rw (is, s ∙ ap (λ r. stamp_by r owner) (row_is rows held n node f)) (attr_here n node f)
 
   -- what is not held in brief has no attributes
   pub attr_none : (n : ℕ) → held_at (briefs_of rows held) n ≡ None → None ≡ attr_at stack n

@@ -1,8 +1,9 @@
 -- What a table holds, and what of it agrees with the listing of its layers.
-use Rattle.std.specs.Prelude.{◌≡◌, ℕ, zero, suc, ◌≤◌, List, [], length, map, slice_get, slice_range, All, Bool, Option, Some, None, is_some, unwrap_or, true, if◌then◌else◌}
-use Rattle.std.specs.List.{list_any}
+use Rattle.std.specs.Prelude.{◌≡◌, ℕ, zero, suc, ◌+◌, ◌≤◌, List, [], length, map, slice_get, slice_range, All, Bool, Option, Some, None, is_some, true, if◌then◌else◌}
+use Rattle.std.specs.List.{list_any, slice_index_or}
 use Rattle.std.specs.Option.{option_map_or, option_and_then}
 use Rattle.romfs_format.specs.declared.attribute_row.AttributeRow.{AttributeRow}
+use Rattle.attribute_rows.specs.Order.{position_at}
 use Rattle.romfs_reader.specs.Readers.{bytes_at, IsPart}
 use Rattle.stack_model.specs.Listing.{Entry, IsListing, Stacked, stacked}
 use Rattle.stack_model.specs.Numbers.{Place, nodes, number, parent}
@@ -59,16 +60,28 @@ stamp_by given owner = record {
 abbrev pub briefs_of : List (List AttributeRow) → List Node → List Brief
 briefs_of rows held = map (λ node. brief_by (row_held rows node) node) held
 
--- whose nodes are, and when they were changed, where any of them has a row; else nothing
-abbrev pub stamps_of : List (List AttributeRow) → Owner → List Node → List Stamp
-stamps_of rows owner held =
+-- where the node's row stands among those of its layer, counted from 0, if it has one
+abbrev pub position_held : List (List AttributeRow) → Node → Option ℕ
+position_held rows node =
+    position_at (slice_index_or rows node.place.layer []) node.place.header
+
+-- the same, counted from 1; 0 where it has none
+abbrev pub row_number : List (List AttributeRow) → Node → ℕ
+row_number rows node = option_map_or (λ k. k + 1) (position_held rows node) 0
+
+-- the row numbers of nodes, where any of them has a row; else nothing
+abbrev pub row_numbers_of : List (List AttributeRow) → List Node → List ℕ
+row_numbers_of rows held =
     if list_any (λ node. is_some (row_held rows node)) held
-    then map (λ node. stamp_by (row_held rows node) owner) held
+    then map (row_number rows) held
     else []
 
--- what is held of the node with a number, or else the same without a row
-abbrev pub stamp_held : List Stamp → Owner → ℕ → Stamp
-stamp_held stamps owner n = unwrap_or (held_at stamps n) (stamp_by None owner)
+-- the row that its number tells of the node with a number, among those of the node's layer
+abbrev pub row_told : List (List AttributeRow) → List Node → List ℕ → ℕ → Option AttributeRow
+row_told rows held row_numbers n =
+    option_and_then (λ k.
+    option_and_then (λ node. held_at (slice_index_or rows node.place.layer []) k)
+    (held_at held n)) (held_at row_numbers n)
 
 -- the attributes of the node with a number
 abbrev pub attr_held : ℕ → Brief → Stamp → Attr
@@ -151,13 +164,13 @@ pub record AreNotedUpTo (held : List Node) (directories : HeldDirectories) (filt
   pub each : (n : ℕ) (d : Directory) → n ≤ last → directory_held held directories n ≡ Some d
       → All (IsNoted filter n) (slice_range directories.keys d.rows_start d.rows_end)
 
--- what a table holds: the attributes of its nodes are held once more, with what rows say, and all
--- keys are noted
-pub record IsHeld (stack : Stacked) (held : List Node) (briefs : List Brief) (stamps : List Stamp)
+-- what a table holds: the attributes of its nodes are held once more, with the modes that rows say;
+-- of each node it is held where its row stands; and all keys are noted
+pub record IsHeld (stack : Stacked) (held : List Node) (briefs : List Brief) (row_numbers : List ℕ)
     (directories : HeldDirectories) (filter : List Bool) (blocks : ℕ) : Type 0 where
   pub table : IsTable stack held directories blocks
   pub briefs_are : briefs ≡ briefs_of stack.rows held
-  pub stamps_are : stamps ≡ stamps_of stack.rows stack.owner held
+  pub row_numbers_are : row_numbers ≡ row_numbers_of stack.rows held
   pub noted : AreNotedUpTo held directories filter (length held)
 
 -- some listing of the layers makes it a table

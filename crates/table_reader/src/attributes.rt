@@ -1,11 +1,12 @@
 //! What is known of nodes beside their headers: rows of attributes, and an owner.
 
-ghost use Rattle.std.specs.Prelude.{◌≡◌, [], map, IfOk, is_some};
+ghost use Rattle.std.specs.Prelude.{◌≡◌, ◌+◌, ◌<◌, ◌^◌, [], map, IfOk, IfSome, is_some};
 ghost use Rattle.std.specs.List.{list_any};
 ghost use Rattle.node_attr.specs.declared.owner.TheConstants.Owner.{ROOT};
 ghost use Rattle.stack_model.specs.Attributes.{mode_by, row_in};
 ghost use Rattle.table_reader.specs.Readers.{placed};
-ghost use Rattle.table_reader.specs.Held.{row_held, brief_by, stamp_by, briefs_of, stamps_of};
+ghost use Rattle.table_reader.specs.Held.{row_held, brief_by, stamp_by, briefs_of};
+ghost use Rattle.table_reader.specs.Held.{position_held, row_number, row_numbers_of};
 
 use crate::node::{Brief, Node, Stamp};
 use attribute_rows::Rows;
@@ -53,37 +54,34 @@ pub(crate) fn briefs_of<A: Allocator>(
     Ok(briefs)
 }
 
-// Whose nodes are, and when they were changed, in the same order; nothing where none has a row.
-pub(crate) fn stamps_of<A: Allocator>(
+// The row numbers of nodes, in the same order; nothing where none has a row.
+pub(crate) fn row_numbers_of<A: Allocator>(
     alloc: A,
     nodes: &[Node],
     rows: &[Rows<A>],
-    owner: Owner,
-) -> Result<Vec<Stamp, A>, AllocError>
-    ensures { IfOk result (λ stamps. stamps.items ≡ stamps_of rows.now owner nodes.now) }
+) -> Result<Vec<u32, A>, AllocError>
+    ensures { IfOk result (λ numbers. numbers.items ≡ row_numbers_of rows.now nodes.now) }
 {
     if have_row(nodes, rows) {
-        all_stamps(alloc, nodes, rows, owner)
+        all_row_numbers(alloc, nodes, rows)
     } else {
         Ok(Vec::new(alloc))
     }
 }
 
 // The same where some node has a row.
-fn all_stamps<A: Allocator>(
+fn all_row_numbers<A: Allocator>(
     alloc: A,
     nodes: &[Node],
     rows: &[Rows<A>],
-    owner: Owner,
-) -> Result<Vec<Stamp, A>, AllocError>
-    ensures { IfOk result (λ stamps. stamps.items
-        ≡ map (λ node. stamp_by (row_held rows.now node) owner) nodes.now) }
+) -> Result<Vec<u32, A>, AllocError>
+    ensures { IfOk result (λ numbers. numbers.items ≡ map (row_number rows.now) nodes.now) }
 {
-    let mut stamps = Vec::with_capacity(alloc, nodes.len())?;
+    let mut numbers = Vec::with_capacity(alloc, nodes.len())?;
     for node in nodes {
-        stamps.push(stamp_by(row_of(rows, node.place), owner))?;
+        numbers.push(row_number(rows, node))?;
     }
-    Ok(stamps)
+    Ok(numbers)
 }
 
 // Whether any of these nodes has a row.
@@ -96,6 +94,25 @@ fn have_row<A: Allocator>(nodes: &[Node], rows: &[Rows<A>]) -> bool
         }
     }
     false
+}
+
+// Where the row of a node stands among those of its layer, counted from 1; 0 where it has none.
+fn row_number<A: Allocator>(rows: &[Rows<A>], node: &Node) -> u32
+    ensures { result ≡ row_number rows.now node.now }
+{
+    match position_of(rows, node) {
+        Some(position) => position + 1,
+        None => 0,
+    }
+}
+
+// The same, counted from 0.
+fn position_of<A: Allocator>(rows: &[Rows<A>], node: &Node) -> Option<u32>
+    ensures value { result ≡ position_held rows.now node.now }
+    ensures small { IfSome result (λ position. position + 1 < 2 ^ 32) }
+{
+    let of_layer = rows.get(node.place.layer as usize)?;
+    of_layer.position(node.place.header)
 }
 
 // The row of a place among those of its layer.

@@ -4,17 +4,18 @@ ghost use Rattle.std.specs.Prelude.{◌≡◌, ◌≤◌, ◌+◌, ◌*◌, ⊤,
 ghost use Rattle.name_lookup.specs.Names.{Rise, place_of};
 ghost use Rattle.name_lookup.specs.Keyed.{AreKeyed};
 ghost use Rattle.name_lookup.specs.Noted.{IsNoted};
-ghost use Rattle.table_reader.specs.Held.{attr_held, stamp_held, held_at, directory_held};
+ghost use Rattle.table_reader.specs.Held.{attr_held, row_told, held_at, directory_held};
 ghost use Rattle.table_reader.specs.Held.{HaveKeys, AreNotedUpTo};
 ghost use Rattle.table_reader.specs.Rows.{names};
 
-use crate::attributes::stamp_by;
 use crate::directory::{Directories, Directory};
 use crate::guess::Guess;
 use crate::node::{Brief, Node, Stamp};
 use crate::row::Row;
+use attribute_rows::Rows;
 use name_lookup::{Guesses, KeyFilter, find};
-use node_attr::{Attr, Owner};
+use node_attr::Attr;
+use romfs_format::AttributeRow;
 use romfs_reader::Kind;
 use std::alloc::{AllocError, Allocator};
 
@@ -37,14 +38,29 @@ pub(crate) fn numbered<T>(all: &[T], number: u64) -> Option<&T>
     all.get((number - 1) as usize)
 }
 
-// Whose the node with this number is, and when it was changed.
-pub(crate) fn stamp_at(stamps: &[Stamp], owner: Owner, number: u64) -> Stamp
-    ensures { result ≡ stamp_held stamps.now owner number }
+// The row of the node with this number: it has the node's row number among those of its layer.
+pub(crate) fn row_told<A: Allocator>(
+    rows: &[Rows<A>],
+    nodes: &[Node],
+    row_numbers: &[u32],
+    number: u64,
+) -> Option<AttributeRow>
+    ensures { result ≡ row_told rows.now nodes.now row_numbers.now number }
 {
-    match numbered(stamps, number) {
-        Some(stamp) => *stamp,
-        None => stamp_by(None, owner),
+    let row_number = *numbered(row_numbers, number)?;
+    let node = node_at(nodes, number)?;
+    let of_layer = rows.get(node.place.layer as usize)?;
+    row_numbered(of_layer, row_number)
+}
+
+// The row with this number among those of a layer, counted from 1.
+fn row_numbered<A: Allocator>(rows: &Rows<A>, row_number: u32) -> Option<AttributeRow>
+    ensures { result ≡ held_at rows.now row_number }
+{
+    if row_number == 0 {
+        return None;
     }
+    rows.get(row_number - 1)
 }
 
 // The attributes of a node with this number, which has these in brief, and this stamp.

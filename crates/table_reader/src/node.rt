@@ -33,7 +33,7 @@ pub(crate) struct Brief {
     pub(crate) rdev: u32,
 }
 
-/// Whose a node is, and when it was changed last.
+/// Whose a node is, and when it was changed last. No table holds it: the node's row says it.
 #[derive(Clone, Copy, Debug)]
 pub(crate) struct Stamp {
     pub(crate) seconds: u64,

@@ -8,13 +8,13 @@ ghost use Rattle.table_reader.specs.Stacked.{Listed, listed_once, IsTableWith};
 ghost use Rattle.table_reader.specs.Held.{IsSomeTable};
 ghost use Rattle.table_reader.specs.Readers.{TellsNode, attr_at, parent_at, child_at, rows_at, data_of_number};
 
-use crate::attributes::{Attributes, briefs_of, stamps_of};
+use crate::attributes::{Attributes, briefs_of, row_numbers_of, stamp_by};
 use crate::directory::{Directories, Directory};
 use crate::guess::Guess;
 use crate::lookup::{
-    Hints, attr_of, directory_at, hints_of, node_at, numbered, place_of, stamp_at,
+    Hints, attr_of, directory_at, hints_of, node_at, numbered, place_of, row_told,
 };
-use crate::node::{Brief, Node, Stamp};
+use crate::node::{Brief, Node};
 use crate::row::Row;
 use attribute_rows::Rows;
 use node_attr::{Attr, Owner};
@@ -26,8 +26,8 @@ use std::marker::Model;
 ///
 /// A clause sees the layers, their listing, the layers' rows of attributes, and whom nodes without
 /// a row belong to. Each node and row takes at most 113 bytes beside a name of more than 22 (16 of
-/// them for guesses of where names stand), a directory 32 more, and each node 24 more where any has
-/// a row of attributes, beside the 32 of the row. No reader takes memory, and each answers for
+/// them for guesses of where names stand), a directory 32 more, and each node 4 more where any has
+/// a row of attributes, beside the 28 of the row. No reader takes memory, and each answers for
 /// every number: 1 is the root, and a number that is not in use has nothing.
 ///
 /// ```text
@@ -42,17 +42,18 @@ use std::marker::Model;
 /// together; beside each row lies the key by which its name is found (`name_lookup`), where a guess
 /// does not tell the row. A node keeps where its data lie, so no answer parses a header, and only a
 /// directory keeps more: where its rows lie, and which directory is above. Attributes lie once more
-/// in lists of their own, since most requests ask for nothing else of a node. Rows of attributes
-/// are sought once, when these lists are made.
+/// in a list of their own, since most requests ask for nothing else of a node. Rows of attributes
+/// are sought once, when the table is made: a node keeps where its own stands.
 #[derive(Drop)]
 pub struct Table<A: Allocator> {
     images: Vec<Image<A>, A>,
     nodes: Vec<Node, A>,
     // The attributes of the nodes, in the same order.
     briefs: Vec<Brief, A>,
-    // Whose the nodes are, in the same order; none where no node has a row of attributes.
-    stamps: Vec<Stamp, A>,
-    // The rows of attributes of each layer, which clauses see. No answer reads them.
+    // Where the row of attributes of each node stands among those of its layer, counted from 1, in
+    // the same order; 0 without one. Empty where no node has a row.
+    row_numbers: Vec<u32, A>,
+    // The rows of attributes of each layer.
     rows: Vec<Rows<A>, A>,
     owner: Owner,
     directories: Directories<A>,
@@ -64,8 +65,6 @@ pub struct Table<A: Allocator> {
 const _: () = prove!(size_of::<Node>() <= 40);
 
 const _: () = prove!(size_of::<Brief>() <= 16);
-
-const _: () = prove!(size_of::<Stamp>() <= 24);
 
 const _: () = prove!(size_of::<Node>() + size_of::<Row<Global>>() + size_of::<u64>() <= 80);
 
@@ -92,8 +91,8 @@ impl<A: Allocator> Model for Table<A> {
           rows = held.rows.items;
           owner = held.owner;
         })
-        held.nodes.items held.briefs.items held.stamps.items held.directories held.hints.filter
-        held.blocks };
+        held.nodes.items held.briefs.items held.row_numbers.items held.directories
+        held.hints.filter held.blocks };
 }
 
 impl<A: Allocator + Copy> Table<A> {
@@ -115,12 +114,12 @@ impl<A: Allocator + Copy> Table<A> {
         let hints = hints_of(alloc, &nodes, &directories)?;
         let Attributes { rows, owner } = attributes;
         let briefs = briefs_of(alloc, &nodes, &rows)?;
-        let stamps = stamps_of(alloc, &nodes, &rows, owner)?;
+        let row_numbers = row_numbers_of(alloc, &nodes, &rows)?;
         Ok(Table {
             images,
             nodes,
             briefs,
-            stamps,
+            row_numbers,
             rows,
             owner,
             directories,
@@ -225,8 +224,8 @@ impl<A: Allocator> Table<A> {
         ensures { result ≡ attr_at self.now number }
     {
         let brief = numbered(&self.briefs, number)?;
-        let stamp = stamp_at(&self.stamps, self.owner, number);
-        Some(attr_of(number, brief, stamp))
+        let row = row_told(&self.rows, &self.nodes, &self.row_numbers, number);
+        Some(attr_of(number, brief, stamp_by(row, self.owner)))
     }
 
     /// The data of a regular file, or the target of a symbolic link; empty where the number is

@@ -16,7 +16,7 @@ invariant_of-result-2 g c =
     record {
       table = record { listing = table.listing; are = table.are; blocks_are = table.blocks_are };
       briefs_are = rw (c.deref-2.ensures.value, c.deref-3.ensures.value) at c.in_ok-briefs.ensures;
-      stamps_are = rw (c.deref-4.ensures.value, c.deref-5.ensures.value) at c.in_ok-stamps.ensures;
+      row_numbers_are = rw (c.deref-4.ensures.value, c.deref-5.ensures.value) at c.in_ok-row_numbers.ensures;
       noted = rw c.deref.ensures.value at c.in_ok-hints.ensures.noted;
     }
 

@@ -1,7 +1,0 @@
-use Rattle.std.proofs.Common.{◌≡◌, map, take}
-use Rattle.table_reader.specs.Held.{row_held, stamp_by}
-use Rattle.table_reader.proofs.attributes.all_stamps.Given as goal
-
--- the nodes so far have their stamps
-abbrev pub invariant-loop-node : goal.invariant-loop-node
-invariant-loop-node g l = l.stamps.items ≡ map (λ node. stamp_by (row_held l.rows node) l.owner) (take l.node-index l.nodes)
