@@ -81,7 +81,7 @@ impl<A: Allocator + Copy> Check for Image<A> {
 
     /// Checks that bytes are an image as `check_as` does, and gives the rows of its attribute
     /// trailer beside it: none where it has no trailer, or the profile is one without attributes.
-    /// They take 32 bytes each.
+    /// They take 28 bytes each.
     #[tactic(auto, using(romfs_format::proofs::Faults::profile_sound))]
     fn check_with_rows(
         alloc: A,
