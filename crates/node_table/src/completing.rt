@@ -47,7 +47,7 @@ pub(crate) fn blocks_of<A: Allocator>(images: &[Image<A>]) -> u64
 }
 
 // Type and permissions.
-fn mode_of(kind: Kind, exec: bool) -> u32
+fn mode_of(kind: Kind, exec: bool) -> u16
     ensures { result ≡ mode_of kind exec }
 {
     match kind {

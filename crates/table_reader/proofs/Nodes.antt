@@ -112,19 +112,19 @@ numbered_row xs p = go (position_at xs p) ∙ sym (row_at_position xs p)
 
 -- what is told of a node by where its row stands, or by nothing where no node has a row, is its row
 row_is : (rows : List (List AttributeRow)) (held : List Node) (n : ℕ) (node : Node) → held_at held n ≡ Some node
-    → row_told rows held (row_numbers_of rows held) n ≡ row_held rows node
+    → row_told rows (row_numbers_of rows held) node.place.layer n ≡ row_held rows node
 row_is rows held n node e = go (list_any has_row held) refl
   where
     has_row : Node → Bool
     has_row x = is_some (row_held rows x)
 
-    told : Option ℕ → Option Node → Option AttributeRow
-    told number o = option_and_then (λ k. option_and_then (λ (x : Node). held_at (slice_index_or rows x.place.layer []) k) o) number
+    told : Option ℕ → Option AttributeRow
+    told number = option_and_then (held_at (slice_index_or rows node.place.layer [])) number
 
     go : (b : Bool) → list_any has_row held ≡ b
-        → told (held_at (cond b (map (row_number rows) held) []) n) (held_at held n) ≡ row_held rows node
+        → told (held_at (cond b (map (row_number rows) held) []) n) ≡ row_held rows node
     go true f = rw (held_map (row_number rows) held n, e) (numbered_row (slice_index_or rows node.place.layer []) node.place.header)
-    go false f = ap (λ o. told o (held_at held n)) (held_nowhere {A = ℕ} n)
+    go false f = ap told (held_nowhere {A = ℕ} n)
         ∙ sym (no_row (row_held rows node) (none_passes has_row held n node f e))
 
 module _ (stack : Stacked) (held : List Node) (directories : HeldDirectories) (blocks : ℕ) (t : IsTable stack held directories blocks) where
@@ -183,7 +183,7 @@ module _ (stack : Stacked) (held : List Node) (directories : HeldDirectories) (b
 
   -- the attributes made of what is held in brief, and of whose the node is, are those of its number
   pub attr_is : (n : ℕ) (brief : Brief) (stamp : Stamp) → held_at (briefs_of rows held) n ≡ Some brief
-      → stamp ≡ stamp_by (row_told rows held (row_numbers_of rows held) n) owner → Some (attr_held n brief stamp) ≡ attr_at stack n
+      → stamp ≡ stamp_by (row_told rows (row_numbers_of rows held) brief.layer n) owner → Some (attr_held n brief stamp) ≡ attr_at stack n
   attr_is n brief stamp e s = go (held_at held n) refl
     where
       of_node : Node → Brief
@@ -194,7 +194,12 @@ module _ (stack : Stacked) (held : List Node) (directories : HeldDirectories) (b
       go (Some node) f =
           let same : Some brief ≡ Some (of_node node) = sym e ∙ held_map of_node held n ∙ ap (option_map of_node) f in
           let is : brief ≡ of_node node = cc in
-          rw (is, s ∙ ap (λ r. stamp_by r owner) (row_is rows held n node f)) (attr_here n node f)
+          let layer : brief.layer ≡ node.place.layer = ap (λ (b : Brief). b.layer) is in
+          rw (
+            is,
+            s ∙ ap (λ l. stamp_by (row_told rows (row_numbers_of rows held) l n) owner) layer
+                ∙ ap (λ r. stamp_by r owner) (row_is rows held n node f),
+          ) (attr_here n node f)
 
   -- what is not held in brief has no attributes
   pub attr_none : (n : ℕ) → held_at (briefs_of rows held) n ≡ None → None ≡ attr_at stack n

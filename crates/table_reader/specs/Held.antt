@@ -38,13 +38,14 @@ directory_held held directories n = option_and_then (kept_of directories) (held_
 abbrev pub row_held : List (List AttributeRow) → Node → Option AttributeRow
 row_held rows node = row_in rows (placed node.place)
 
--- in brief the attributes of a node that has this row or none
+-- in brief the attributes of a node that has this row or none, and its layer
 abbrev pub brief_by : Option AttributeRow → Node → Brief
 brief_by row node = record {
   size = node.part.len;
-  mode = mode_by row node.mode;
   nlink = node.nlink;
   rdev = node.rdev;
+  mode = mode_by row node.mode;
+  layer = node.place.layer;
 }
 
 -- whose the node of a row is, and when it was changed; without a row it is this owner's
@@ -76,12 +77,10 @@ row_numbers_of rows held =
     then map (row_number rows) held
     else []
 
--- the row that its number tells of the node with a number, among those of the node's layer
-abbrev pub row_told : List (List AttributeRow) → List Node → List ℕ → ℕ → Option AttributeRow
-row_told rows held row_numbers n =
-    option_and_then (λ k.
-    option_and_then (λ node. held_at (slice_index_or rows node.place.layer []) k)
-    (held_at held n)) (held_at row_numbers n)
+-- the row of the node with a number, among those of its layer: the one that its row number tells
+abbrev pub row_told : List (List AttributeRow) → List ℕ → ℕ → ℕ → Option AttributeRow
+row_told rows row_numbers layer n =
+    option_and_then (held_at (slice_index_or rows layer [])) (held_at row_numbers n)
 
 -- the attributes of the node with a number
 abbrev pub attr_held : ℕ → Brief → Stamp → Attr

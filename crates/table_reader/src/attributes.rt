@@ -125,7 +125,9 @@ fn row_of<A: Allocator>(rows: &[Rows<A>], place: Place) -> Option<AttributeRow>
 
 // A mode of which a row says all bits but the type.
 fn mode_by(row: Option<AttributeRow>, mode: u32) -> u32
-    ensures { result ≡ mode_by row mode }
+    requires { mode < 2 ^ 16 }
+    ensures value { result ≡ mode_by row mode }
+    ensures small { result < 2 ^ 16 }
 {
     match row {
         None => mode,
@@ -139,9 +141,10 @@ fn brief_by(row: Option<AttributeRow>, node: &Node) -> Brief
 {
     Brief {
         size: node.part.len,
-        mode: mode_by(row, node.mode),
         nlink: node.nlink,
         rdev: node.rdev,
+        mode: mode_by(row, u32::from(node.mode)) as u16,
+        layer: node.place.layer,
     }
 }
 

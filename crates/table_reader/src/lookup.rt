@@ -38,18 +38,17 @@ pub(crate) fn numbered<T>(all: &[T], number: u64) -> Option<&T>
     all.get((number - 1) as usize)
 }
 
-// The row of the node with this number: it has the node's row number among those of its layer.
+// The row of the node with this number, which is in this layer: the one that its row number tells.
 pub(crate) fn row_told<A: Allocator>(
     rows: &[Rows<A>],
-    nodes: &[Node],
     row_numbers: &[u32],
+    layer: u16,
     number: u64,
 ) -> Option<AttributeRow>
-    ensures { result ≡ row_told rows.now nodes.now row_numbers.now number }
+    ensures { result ≡ row_told rows.now row_numbers.now layer number }
 {
     let row_number = *numbered(row_numbers, number)?;
-    let node = node_at(nodes, number)?;
-    let of_layer = rows.get(node.place.layer as usize)?;
+    let of_layer = rows.get(layer as usize)?;
     row_numbered(of_layer, row_number)
 }
 
@@ -74,7 +73,7 @@ pub(crate) fn attr_of(number: u64, brief: &Brief, stamp: Stamp) -> Attr
         blocks: (size + 511) / 512,
         seconds: stamp.seconds,
         nanoseconds: stamp.nanoseconds,
-        mode: brief.mode,
+        mode: u32::from(brief.mode),
         nlink: brief.nlink,
         uid: stamp.uid,
         gid: stamp.gid,

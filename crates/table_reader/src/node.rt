@@ -14,7 +14,7 @@ pub struct Node {
     /// Where its data lie in the image of its layer.
     pub part: Part,
     /// Type and permissions, as the header says them; 0 until the node is completed.
-    pub mode: u32,
+    pub mode: u16,
     pub nlink: u32,
     /// The numbers of a device; until the node is completed, its header's spec.info.
     pub rdev: u32,
@@ -24,13 +24,14 @@ pub struct Node {
 
 /// The attributes of a node but for its number and its [`Stamp`], in 16 bytes: four nodes' lie in a
 /// line of the processor's cache, where requests for attributes in any order find more of them than
-/// of nodes. The mode is the row's, where there is one.
+/// of nodes. The mode is the row's, where there is one, and the layer is the one whose rows tell it.
 #[derive(Clone, Copy, Debug)]
 pub(crate) struct Brief {
     pub(crate) size: u32,
-    pub(crate) mode: u32,
     pub(crate) nlink: u32,
     pub(crate) rdev: u32,
+    pub(crate) mode: u16,
+    pub(crate) layer: u16,
 }
 
 /// Whose a node is, and when it was changed last. No table holds it: the node's row says it.

@@ -224,7 +224,7 @@ impl<A: Allocator> Table<A> {
         ensures { result ≡ attr_at self.now number }
     {
         let brief = numbered(&self.briefs, number)?;
-        let row = row_told(&self.rows, &self.nodes, &self.row_numbers, number);
+        let row = row_told(&self.rows, &self.row_numbers, brief.layer, number);
         Some(attr_of(number, brief, stamp_by(row, self.owner)))
     }
 

@@ -12,4 +12,4 @@ pub returns : goal.returns
 returns g c = rw (c.attr_of.ensures, ← c.self.view_is) (attr_is _ _ _ _ c.self.invariant.table c.args.number _ _
     (rw (c.deref.ensures.value, c.self.invariant.briefs_are) at c.in_ok-brief.ensures)
     (c.stamp_by.ensures ∙ ap (λ r. stamp_by r c.self.inside.owner)
-    (rw (c.deref-2.ensures.value, c.deref-3.ensures.value, c.deref-4.ensures.value, c.self.invariant.row_numbers_are) at c.row_told-row.ensures)))
+    (rw (c.deref-2.ensures.value, c.deref-3.ensures.value, c.self.invariant.row_numbers_are) at c.row_told-row.ensures)))
