@@ -24,7 +24,7 @@ pub struct Node {
 
 /// The attributes of a node but for its number and its [`Stamp`], in 16 bytes: four nodes' lie in a
 /// line of the processor's cache, where requests for attributes in any order find more of them than
-/// of nodes. The mode is the row's, where there is one, and the layer is the one whose rows tell it.
+/// of nodes. The mode is the row's, where there is one; the row is among those of the layer.
 #[derive(Clone, Copy, Debug)]
 pub(crate) struct Brief {
     pub(crate) size: u32,
