@@ -7,7 +7,7 @@ use Rattle.romfs_format.specs.declared.head.Kind.TheVariants.{SymLink}
 use Rattle.romfs_format.specs.declared.limits.TheConstants.{HEAD_SIZE, MAX_TARGET_SIZE}
 use Rattle.romfs_format.specs.Fields.{word, root, ended, name, name_field, text_at, if_within, text_end, header_bytes, kind, size, data_at}
 use Rattle.kept_image.specs.Footprint.{Agrees, IsKeptText, IsKeptTarget, IsClosed}
-use Rattle.kept_image.proofs.Fields.{word_same}
+use Rattle.held_image.proofs.Fields.{word_same}
 use Rattle.kept_image.proofs.Names.{field_at, name_ends}
 
 -- the text before the first zero byte is that of any list that is the same up to it

@@ -7,10 +7,10 @@ use Rattle.std.proofs.lemmas.Bool.{cases_lt, cases_eq}
 use Rattle.std.proofs.lemmas.List.{get_or_append_left, get_or-append_right, get_or_at, get_or_default}
 use Rattle.std.proofs.lemmas.List.Elements.{Contains-get_or}
 use Rattle.kept_image.specs.declared.pieces.Piece.{Piece}
-use Rattle.kept_image.specs.Kept.{byte_of, filled, IsKept}
+use Rattle.held_image.specs.Blocks.{byte_of, filled, IsKept}
 use Rattle.kept_image.specs.Pieces.{HasBlock, AreRight, IsPacked, IsFilled, IsSortedOut}
-use Rattle.kept_image.proofs.Blocks.{byte_kept, byte_none}
-use Rattle.kept_image.proofs.Fronts.{filled_at}
+use Rattle.held_image.proofs.Runs.{byte_kept, byte_none}
+use Rattle.held_image.proofs.Fronts.{filled_at}
 
 -- a number stands among the blocks, or it does not
 find_block : (blocks : List ℕ) (q : ℕ)

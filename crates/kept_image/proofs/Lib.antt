@@ -1,6 +1,3 @@
-pub mod Blocks
-pub mod Fields
-pub mod Fronts
 pub mod Names
 pub mod Collecting
 pub mod Joining

@@ -11,7 +11,7 @@ use Rattle.kept_image.specs.declared.pieces.Piece.{Piece}
 use Rattle.kept_image.specs.Pieces.{HasBlock, HasRow}
 use Rattle.kept_image.specs.Reads.{HasBytesAt, IsReadAt, IsEnded, IsUnended, IsEndIn, IsHeadAt, IsHeadRead, IsAdded, AreAdded}
 use Rattle.kept_image.specs.Walk.{HasText, HasTarget, IsTargetAdded, HasAddedTarget, IsVisit, HasVisited}
-use Rattle.kept_image.proofs.Fields.{word_same}
+use Rattle.held_image.proofs.Fields.{word_same}
 use Rattle.kept_image.proofs.Names.{name_ends}
 
 -- a row that has the bytes of xs

@@ -16,7 +16,7 @@ use Rattle.romfs_format.specs.Profiles.{reads_attributes}
 use Rattle.romfs_format.specs.Rules.{StartsWith, magic, HasNoRoot, Breaks, BreaksHeader, rule_number, stage, IsNamedBefore, IsFault, IsSound, IsFaultOf}
 use Rattle.kept_image.specs.Footprint.{Agrees, is_same}
 use Rattle.kept_image.specs.Gathered.{IsGatheredOf}
-use Rattle.kept_image.proofs.Fields.{word_same}
+use Rattle.held_image.proofs.Fields.{word_same}
 use Rattle.kept_image.proofs.Alike.{Alike, alike, alike_sym, text_alike, volume_text}
 use Rattle.kept_image.proofs.Likeness.{header_rules, no_root_goes}
 

@@ -25,8 +25,8 @@ use Rattle.kept_image.specs.Reads.{AreWithin, HasBytesAt, IsReadAt, AreAdded}
 use Rattle.kept_image.specs.Footprint.{IsClosed, is_same, reach}
 use Rattle.kept_image.specs.Gathered.{IsGathered, IsReach}
 use Rattle.kept_image.specs.Walk.{HasText, HasTarget, IsVisit, HasVisited, HasFront, HasPushed, GoesDown, IsDone, IsWalking, IsUnderWay, HasWalked}
-use Rattle.kept_image.specs.Kept.{IsFront}
-use Rattle.kept_image.proofs.Fields.{word_same}
+use Rattle.held_image.specs.Blocks.{IsFront}
+use Rattle.held_image.proofs.Fields.{word_same}
 use Rattle.kept_image.proofs.Names.{name_ends}
 
 -- how many bytes are looked at, by the first of them

@@ -1,4 +1,3 @@
-pub mod Kept
 pub mod Pieces
 pub mod Reads
 pub mod Footprint

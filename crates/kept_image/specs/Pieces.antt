@@ -2,7 +2,7 @@
 use Rattle.std.specs.Prelude.{◌≡◌, ℕ, ◌+◌, ◌*◌, ◌/◌, ◌<◌, ◌⊎◌, List, get_or, Contains}
 use Rattle.std.specs.List.Sorted.{IsNonDecreasingBy}
 use Rattle.kept_image.specs.declared.pieces.Piece.{Piece}
-use Rattle.kept_image.specs.Kept.{IsKept, byte_of}
+use Rattle.held_image.specs.Blocks.{IsKept, byte_of}
 
 -- some piece is this block
 pub record HasBlock (pieces : List Piece) (block : ℕ) : Type 0 where

@@ -15,11 +15,12 @@ ghost use Rattle.kept_image.specs.Gathered.{IsGathered, IsReach};
 ghost use Rattle.kept_image.specs.Walk.{HasFront, HasPushed, IsUnderWay, HasWalked};
 
 use crate::fault::GatherFault;
-use crate::kept::{Kept, text_in};
 use crate::packing::pack;
 use crate::pieces::Piece;
 use crate::visit::{keep_row, visit};
 use crate::window::{Window, read};
+use held_image::Kept;
+use held_image::blocks::text_in;
 use image_bytes::Contents;
 use romfs_format::Kind;
 use romfs_format::limits::{HEAD_SIZE, SUMMED_SIZE};

@@ -3,22 +3,21 @@
 //! - [`gather`] reads what the rules, the tree and the table of an image look at: its first bytes,
 //!   the headers that it leads to, their names and the targets of symbolic links. It judges
 //!   nothing.
-//! - [`Kept`] holds what was read. A clause sees a list of bytes, with zeros where nothing was
-//!   kept, and the readers are those that read slices elsewhere.
+//! - [`Kept`], of `held_image`, holds what was read. A clause sees a list of bytes, with zeros
+//!   where nothing was kept.
 //! - [`laws`] says that such a list is sound, or breaks a rule, as the image does: what an image is
 //!   refused for depends on these bytes alone.
 //!
 //! `specs/` says what is looked at (`Footprint`) and what was gathered (`Gathered`); the other
-//! definitions are those of the layers between: blocks in order (`Kept`) and as they are read
-//! (`Pieces`), reads (`Reads`), the walk (`Walk`). Where the bytes are known, as those in memory
-//! are, a contract says that what is kept has their bytes at all that the rules look at. Of a file
-//! it says nothing: what was kept is then all that is known of it. The crate stands on
-//! `image_bytes` for bytes, and on `romfs_format`.
+//! definitions are those of the layers between: blocks as they are read (`Pieces`), reads (`Reads`),
+//! the walk (`Walk`). Where the bytes are known, as those in memory are, a contract says that what
+//! is kept has their bytes at all that the rules look at. Of a file it says nothing: what was kept
+//! is then all that is known of it. The crate stands on `image_bytes` for bytes, and on
+//! `held_image`.
 #![tactic(auto)]
 
 mod fault;
 mod gathering;
-mod kept;
 pub mod laws;
 mod packing;
 mod pieces;
@@ -29,4 +28,4 @@ mod window;
 
 pub use fault::GatherFault;
 pub use gathering::gather;
-pub use kept::Kept;
+pub use held_image::Kept;

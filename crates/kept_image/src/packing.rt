@@ -2,11 +2,12 @@
 
 ghost use Rattle.std.specs.Prelude.{◌≡◌, ◌-◌, ◌<◌, ◌≤◌, length, get_or, IsTrue, IsFalse, IfOk};
 ghost use Rattle.std.specs.List.Sorted.{IsNonDecreasingBy};
+ghost use Rattle.held_image.specs.declared.blocks.TheConstants.{BLOCK_SIZE};
 ghost use Rattle.kept_image.specs.declared.pieces.Piece.{Piece};
 ghost use Rattle.kept_image.specs.Pieces.{IsFilled, IsPacked};
 
-use crate::kept::Kept;
-use crate::pieces::{BLOCK_SIZE, Piece, sort};
+use crate::pieces::{Piece, sort};
+use held_image::{BLOCK_SIZE, Kept};
 use std::alloc::{AllocError, Allocator};
 
 /// The numbers of blocks, rising, and the bytes of these blocks.

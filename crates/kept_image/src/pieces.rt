@@ -5,12 +5,11 @@
 //! orders together take n log n steps in the blocks that were added, in whatever order they come.
 
 ghost use Rattle.std.specs.Prelude.{◌≡◌, ◌+◌, ◌/◌, ◌<◌, ◌≤◌, ◌^◌, length, OnOk};
+ghost use Rattle.held_image.specs.declared.blocks.TheConstants.{BLOCK_SIZE};
 ghost use Rattle.kept_image.specs.Pieces.{IsFewer, IsSortedOut, IsOneMore, HasRow};
 
+use held_image::BLOCK_SIZE;
 use std::alloc::{AllocError, Allocator};
-
-/// The bytes of a block. Headers, and the names behind them, are whole blocks.
-pub const BLOCK_SIZE: usize = 16;
 
 /// The fewest blocks that room is made for.
 const LEAST_ROOM: usize = 64;

@@ -6,6 +6,7 @@
 //! to it.
 
 use crate::{GatherFault, gather};
+use held_image::read::word;
 use image_bytes::{Contents, Unread};
 use std::alloc::Allocator;
 use std::cell::Cell;
@@ -126,7 +127,7 @@ impl Contents for Slow {
 /// What is asked of what was kept.
 #[derive(Clone, Copy, Debug, PartialEq, Eq)]
 struct Seen {
-    size: u32,
+    size: usize,
     words: [u32; 6],
     reads: u32,
 }
@@ -138,11 +139,13 @@ fn look_at<A: Allocator + Copy>(
     at: [u32; 6],
 ) -> Result<Seen, GatherFault> {
     let kept = gather(alloc, source)?;
-    let size = kept.size();
+    let image = kept.held();
+    let size = image.len();
     let mut words = [0; 6];
     for i in 0..6 {
-        if at[i] < size && 4 <= size - at[i] {
-            words[i] = kept.word(at[i]);
+        let place = at[i] as usize;
+        if place < size && 4 <= size - place {
+            words[i] = word(&image, place);
         }
     }
     Ok(Seen {

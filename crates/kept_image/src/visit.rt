@@ -11,8 +11,9 @@ ghost use Rattle.kept_image.specs.Reads.{AreWithin, IsCause, IsHeld, IsReadAt, I
 ghost use Rattle.kept_image.specs.Walk.{HasAddedTarget, HasVisited};
 
 use crate::fault::GatherFault;
-use crate::pieces::{BLOCK_SIZE, Piece, add_row};
+use crate::pieces::{Piece, add_row};
 use crate::window::{Window, note_used, read};
+use held_image::BLOCK_SIZE;
 use image_bytes::Contents;
 use romfs_format::Kind;
 use romfs_format::limits::{HEAD_SIZE, MAX_TARGET_SIZE};

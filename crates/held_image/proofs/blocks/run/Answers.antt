@@ -1,6 +1,6 @@
 use Rattle.std.proofs.Common.{arith}
-use Rattle.kept_image.proofs.Blocks.{no_run, run_is}
-use Rattle.kept_image.proofs.kept.run.Goals as goal
+use Rattle.held_image.proofs.Runs.{no_run, run_is}
+use Rattle.held_image.proofs.blocks.run.Goals as goal
 
 pub returns-then-position-blocks : goal.returns-then-position-blocks
 returns-then-position-blocks c = no_run _ _ c.requires _ _ c.rank-position.ensures (λ l. absurd (omega arith))

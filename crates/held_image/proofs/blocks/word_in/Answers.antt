@@ -1,6 +1,6 @@
 use Rattle.std.proofs.Common.{◌∙◌, arith}
-use Rattle.kept_image.proofs.Fronts.{word_of_run, word_of_bytes}
-use Rattle.kept_image.proofs.kept.word_in.Goals as goal
+use Rattle.held_image.proofs.Fronts.{word_of_run, word_of_bytes}
+use Rattle.held_image.proofs.blocks.word_in.Goals as goal
 
 pub returns-then-near-ge4 : goal.returns-then-near-ge4
 returns-then-near-ge4 c =
@@ -9,4 +9,4 @@ returns-then-near-ge4 c =
 pub returns : goal.returns
 returns c = c.read_u32-2.ensures
     ∙ word_of_bytes c.args.size _ _ c.args.at c.requires.at _ _ _ _ c.byte_in.ensures c.byte_in-2.ensures
-        c.byte_in-3.ensures c.byte_in-4.ensures
+    c.byte_in-3.ensures c.byte_in-4.ensures

@@ -4,7 +4,7 @@ use Rattle.std.proofs.Common.{◌≡◌, ◌≢◌, ◌∙◌, sym, ap, ℕ, zer
 use Rattle.std.proofs.lemmas.List.{get_or-drop, get_or-take}
 use Rattle.std.proofs.lemmas.Bool.{cases_lt}
 use Rattle.std.proofs.lemmas.Bool.Decides.{nat_tests}
-use Rattle.kept_image.specs.Kept.{byte_of, Rises, IsKept, IsRank, AreInRow, IsRun}
+use Rattle.held_image.specs.Blocks.{byte_of, Rises, IsKept, IsRank, AreInRow, IsRun}
 
 here_then : (b q x y : ℕ) → b ≡ q → (if b == q then x else y) ≡ x
 here_then b q x y e = grind (arith, nat_tests)

@@ -1,9 +1,9 @@
 use Rattle.std.proofs.Common.{◌≡◌, ◌∙◌, sym, ap, subst, ◌+◌, arith}
 use Rattle.std.proofs.lemmas.List.{take_rest}
-use Rattle.kept_image.specs.Kept.{IsFront}
+use Rattle.held_image.specs.Blocks.{IsFront}
 use Rattle.romfs_format.specs.Fields.{word}
-use Rattle.kept_image.proofs.Fronts.{front_more, word_front}
-use Rattle.kept_image.proofs.kept.head_in.Goals as goal
+use Rattle.held_image.proofs.Fronts.{front_more, word_front}
+use Rattle.held_image.proofs.blocks.head_in.Goals as goal
 
 pub returns : goal.returns
 returns c = λ a e f.

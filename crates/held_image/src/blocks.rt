@@ -1,50 +1,27 @@
-//! What is kept of an image, and reading in it.
+//! Blocks that are kept of an image, and reading in them.
 //!
 //! The numbers of the blocks that are kept rise, and their bytes stand one block after another: so
 //! bytes that lie together in the image lie together here, and a name is a slice. A block is looked
 //! up by halves.
 
-ghost use Rattle.std.specs.Prelude.{◌≡◌, ◌+◌, ◌*◌, ◌/◌, ◌^◌, ◌<◌, ◌≤◌, length, take, drop, slice_index, vec_len, min, ℕ, List, IfSome};
+ghost use Rattle.std.specs.Prelude.{◌≡◌, ◌+◌, ◌*◌, ◌/◌, ◌^◌, ◌<◌, ◌≤◌, ◌%◌, length, take, drop, get_or, slice_index, min, ℕ, List, IfSome};
 ghost use Rattle.std.specs.Option.{option_map};
 ghost use Rattle.romfs_format.specs.declared.limits.TheConstants.{HEAD_SIZE};
-ghost use Rattle.romfs_format.specs.Fields.{word as word_of, text_at as text_of, text_end, ended, name_field as field_of};
+ghost use Rattle.romfs_format.specs.Fields.{word as word_of, text_at as text_of, text_end, ended, name_field as field_of, word_sum};
 ghost use Rattle.romfs_format.specs.Heads.{head_of, name_of};
-ghost use Rattle.kept_image.specs.Kept.{Rises, IsRank, AreInRow, IsRun, IsKept, IsFront, filled, byte_of};
+ghost use Rattle.held_image.specs.Blocks.{Rises, IsRank, AreInRow, IsRun, IsKept, IsFront, filled, byte_of};
 
-use crate::pieces::BLOCK_SIZE;
 use byteorder::{BigEndian, ByteOrder};
 use memchr::memchr;
 use romfs_format::head::Head;
 use romfs_format::limits::{HEAD_SIZE, NAME_FIELD_SIZE};
-use romfs_format::read::{cleared, kind_of, padded, word};
-use std::alloc::Allocator;
-use std::marker::Model;
+use romfs_format::read::{cleared, kind_of, padded, word, word_sum};
+
+/// The bytes of a block. Headers, and the names behind them, are whole blocks.
+pub const BLOCK_SIZE: usize = 16;
 
 /// How many blocks a run has at most: as many as a header and its name can reach into.
 const RUN_BLOCKS: usize = 18;
-
-/// What is kept of an image: some of its blocks of 16 bytes. A clause sees a list of bytes, those
-/// of the blocks at their places and zeros between. The list is as long as the full size says, or
-/// as the image where that is shorter; 16 bytes at least, where there are so many.
-#[derive(Drop)]
-pub struct Kept<A: Allocator> {
-    size: u32,
-    /// The numbers of the blocks, in rising order.
-    blocks: Vec<u32, A>,
-    /// The bytes of the blocks, one block behind the other.
-    bytes: Vec<u8, A>,
-}
-
-impl<A: Allocator> Model for Kept<A> {
-    ghost use Rattle.std.specs.Prelude.{List, ℕ};
-    ghost use Rattle.kept_image.specs.Kept.{IsKept, filled};
-
-    ghost Value = { List ℕ };
-
-    ghost view = { λ kept. filled kept.size kept.blocks.items kept.bytes.items };
-
-    ghost invariant = { λ kept. IsKept kept.blocks.items kept.bytes.items };
-}
 
 /// How many blocks have a number below this one.
 fn rank(blocks: &[u32], block: u32) -> usize
@@ -113,7 +90,7 @@ fn byte_in(blocks: &[u32], bytes: &[u8], at: u32) -> u8
 }
 
 /// The big-endian word at a place.
-fn word_in(blocks: &[u32], bytes: &[u8], size: u32, at: u32) -> u32
+pub(crate) fn word_in(blocks: &[u32], bytes: &[u8], size: u32, at: u32) -> u32
     requires kept { IsKept blocks.now bytes.now }
     requires at { at + 4 ≤ size }
     ensures { result ≡ word_of (filled size blocks.now bytes.now) at }
@@ -156,7 +133,7 @@ fn end_in(near: &[u8], room: usize) -> Option<usize>
 }
 
 /// The name whose field begins at a place, by the bytes from there on.
-pub(crate) fn text_in(near: &[u8], at: u32, size: u32) -> Option<&[u8]>
+pub fn text_in(near: &[u8], at: u32, size: u32) -> Option<&[u8]>
     requires { at ≤ size }
     ensures value { (a : List ℕ) → length a ≡ size → IsFront a at 256 near.now →
         option_map (λ text. text.now) result ≡ text_of a at }
@@ -216,8 +193,18 @@ fn head_in(near: &[u8], at: u32, size: u32) -> Head
     head_with(at, word(near, 0), word(near, 4), word(near, 8), name_len)
 }
 
+/// The byte at a place, of an image of this size.
+#[tactic(auto, using(crate::proofs::Fronts::filled_at))]
+pub(crate) fn byte_of_blocks(blocks: &[u32], bytes: &[u8], size: u32, at: u32) -> u8
+    requires kept { IsKept blocks.now bytes.now }
+    requires at { at < size }
+    ensures { result ≡ get_or (filled size blocks.now bytes.now) at 0 }
+{
+    byte_in(blocks, bytes, at)
+}
+
 /// The header at a place, of an image of this size.
-fn head_of_blocks(blocks: &[u32], bytes: &[u8], size: u32, at: u32) -> Head
+pub(crate) fn head_of_blocks(blocks: &[u32], bytes: &[u8], size: u32, at: u32) -> Head
     requires kept { IsKept blocks.now bytes.now }
     requires inside { at + HEAD_SIZE ≤ size }
     ensures { result ≡ head_of (filled size blocks.now bytes.now) at }
@@ -228,6 +215,22 @@ fn head_of_blocks(blocks: &[u32], bytes: &[u8], size: u32, at: u32) -> Head
     }
     let name = run(blocks, bytes, at + HEAD_SIZE as u32);
     let name_len = name_len_in(name, at, size);
+    head_in_blocks(blocks, bytes, size, at, name_len)
+}
+
+/// The same, by the length of its name.
+pub(crate) fn head_in_blocks(
+    blocks: &[u32],
+    bytes: &[u8],
+    size: u32,
+    at: u32,
+    name_len: u32,
+) -> Head
+    requires kept { IsKept blocks.now bytes.now }
+    requires inside { at + HEAD_SIZE ≤ size }
+    requires name { name_len ≡ length (name_of (filled size blocks.now bytes.now) at) }
+    ensures { result ≡ head_of (filled size blocks.now bytes.now) at }
+{
     let first = word_in(blocks, bytes, size, at);
     let spec = word_in(blocks, bytes, size, at + 4);
     let data_size = word_in(blocks, bytes, size, at + 8);
@@ -235,7 +238,12 @@ fn head_of_blocks(blocks: &[u32], bytes: &[u8], size: u32, at: u32) -> Head
 }
 
 /// The name whose field begins at a place, of an image of this size.
-fn text_of_blocks<'a>(blocks: &[u32], bytes: &'a [u8], size: u32, at: u32) -> Option<&'a [u8]>
+pub(crate) fn text_of_blocks<'a>(
+    blocks: &[u32],
+    bytes: &'a [u8],
+    size: u32,
+    at: u32,
+) -> Option<&'a [u8]>
     requires kept { IsKept blocks.now bytes.now }
     requires at { at ≤ size }
     ensures value { option_map (λ text. text.now) result
@@ -245,55 +253,31 @@ fn text_of_blocks<'a>(blocks: &[u32], bytes: &'a [u8], size: u32, at: u32) -> Op
     text_in(run(blocks, bytes, at), at, size)
 }
 
-impl<A: Allocator> Kept<A> {
-    /// The blocks of an image of this size.
-    #[tactic(auto, using(crate::proofs::Fronts::filled_long))]
-    pub(crate) fn new(size: u32, blocks: Vec<u32, A>, bytes: Vec<u8, A>) -> Kept<A>
-        requires { IsKept blocks.items bytes.items }
-        ensures bytes { result ≡ filled size blocks.items bytes.items }
-        ensures size { length result ≡ size }
-    {
-        Kept {
-            size,
-            blocks,
-            bytes,
-        }
+/// The sum of the whole words of so many bytes from a place on, of an image of this size.
+#[tactic(auto, using(crate::proofs::Sums::run_part))]
+pub(crate) fn sum_in(blocks: &[u32], bytes: &[u8], size: u32, at: u32, len: u32) -> u32
+    requires kept { IsKept blocks.now bytes.now }
+    requires within { at + len ≤ size }
+    ensures { result ≡ word_sum (take len (drop at (filled size blocks.now bytes.now))) % 2 ^ 32 }
+{
+    let near = run(blocks, bytes, at);
+    if near.len() >= len as usize {
+        return word_sum(&near[..len as usize]);
     }
+    sum_of_words(blocks, bytes, size, at, len)
+}
 
-    /// How many bytes the list has.
-    #[tactic(auto, using(crate::proofs::Fronts::filled_long))]
-    pub fn size(&self) -> u32
-        ensures { result ≡ length self.now }
-    {
-        self.size
+/// The same, word by word.
+fn sum_of_words(blocks: &[u32], bytes: &[u8], size: u32, at: u32, len: u32) -> u32
+    requires kept { IsKept blocks.now bytes.now }
+    requires within { at + len ≤ size }
+    ensures { result ≡ word_sum (take len (drop at (filled size blocks.now bytes.now))) % 2 ^ 32 }
+{
+    let mut sum: u32 = 0;
+    let mut done: u32 = 0;
+    while len - done >= 4 {
+        sum = sum.wrapping_add(word_in(blocks, bytes, size, at + done));
+        done += 4;
     }
-
-    /// The big-endian word at a place.
-    #[tactic(auto, using(crate::proofs::Fronts::filled_long))]
-    pub fn word(&self, at: u32) -> u32
-        requires { at + 4 ≤ length self.now }
-        ensures { result ≡ word_of self.now at }
-    {
-        word_in(&self.blocks, &self.bytes, self.size, at)
-    }
-
-    /// The name whose field begins at a place; none where it has no end, or its padding ends beyond
-    /// the image.
-    #[tactic(auto, using(crate::proofs::Fronts::filled_long))]
-    pub fn text_at(&self, at: u32) -> Option<&[u8]>
-        requires { at ≤ length self.now }
-        ensures value { option_map (λ text. text.now) result ≡ text_of self.now at }
-        ensures within { IfSome result (λ text. text_end at text.now ≤ length self.now) }
-    {
-        text_of_blocks(&self.blocks, &self.bytes, self.size, at)
-    }
-
-    /// The header at a place.
-    #[tactic(auto, using(crate::proofs::Fronts::filled_long))]
-    pub fn head_at(&self, at: u32) -> Head
-        requires { at + HEAD_SIZE ≤ length self.now }
-        ensures { result ≡ head_of self.now at }
-    {
-        head_of_blocks(&self.blocks, &self.bytes, self.size, at)
-    }
+    sum
 }

@@ -7,8 +7,8 @@ use Rattle.std.proofs.lemmas.List.FromFn.{get_or-map-range_with_len, length-map-
 use Rattle.memchr.specs.Find.{IsFirstByte, is_byte}
 use Rattle.byteorder.specs.Endian.{big_number}
 use Rattle.romfs_format.specs.Fields.{word, ended, name_field}
-use Rattle.kept_image.specs.Kept.{byte_of, filled, IsRun, IsFront}
-use Rattle.kept_image.proofs.Fields.{big_same, word_same, ended_none, ended_at}
+use Rattle.held_image.specs.Blocks.{byte_of, filled, IsRun, IsFront}
+use Rattle.held_image.proofs.Fields.{big_same, word_same, ended_none, ended_at}
 
 pub filled_long : (size : ℕ) (blocks bytes : List ℕ) → length (filled size blocks bytes) ≡ size
 unfolding filled

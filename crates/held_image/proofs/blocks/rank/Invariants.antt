@@ -1,5 +1,5 @@
 use Rattle.std.proofs.Common.{◌≤◌, ◌<◌, ◌-◌, ℕ, length, get_or}
-use Rattle.kept_image.proofs.kept.rank.Given as goal
+use Rattle.held_image.proofs.blocks.rank.Given as goal
 
 -- the blocks below low are below the block, and those from high on are not
 abbrev pub invariant-loop-low : goal.invariant-loop-low

@@ -1,6 +1,6 @@
 use Rattle.std.proofs.Common.{◌∙◌, sym}
-use Rattle.kept_image.proofs.Fronts.{ends_found, ends_nowhere, ends_behind}
-use Rattle.kept_image.proofs.kept.end_in.Goals as goal
+use Rattle.held_image.proofs.Fronts.{ends_found, ends_nowhere, ends_behind}
+use Rattle.held_image.proofs.blocks.end_in.Goals as goal
 
 pub returns-then-is_some-clause-value : goal.returns-then-is_some-clause-value
 returns-then-is_some-clause-value c = λ a at e f.

@@ -1,0 +1,5 @@
+pub mod Fields
+pub mod Runs
+pub mod Fronts
+pub mod Sums
+pub mod Views

@@ -1,0 +1,15 @@
+-- The list of bytes of an image that is held.
+use Rattle.std.specs.Prelude.{ℕ, List, ⊤}
+use Rattle.held_image.specs.declared.held.Form.{Form}
+use Rattle.held_image.specs.declared.held.Form.TheVariants.{Whole, Sparse}
+use Rattle.held_image.specs.Blocks.{IsKept, filled}
+
+-- all bytes, or those of the blocks and zeros between
+abbrev pub bytes_of : Form → List ℕ
+bytes_of (Whole bytes) = bytes.now
+bytes_of (Sparse size blocks bytes) = filled size blocks.now bytes.now
+
+-- blocks that are held are in order, and whole
+abbrev pub IsHeld : Form → Type 0
+IsHeld (Whole bytes) = ⊤
+IsHeld (Sparse size blocks bytes) = IsKept blocks.now bytes.now

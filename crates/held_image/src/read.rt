@@ -1,0 +1,151 @@
+//! Fields of an image that is held.
+
+ghost use Rattle.std.specs.Prelude.{◌≡◌, ◌+◌, ◌<◌, ◌≤◌, ◌%◌, ◌^◌, ◌↔◌, IfSome, IsTrue, length, take, drop, get_or};
+ghost use Rattle.std.specs.Option.{option_map};
+ghost use Rattle.romfs_format.specs.declared.limits.TheConstants.{HEAD_SIZE};
+ghost use Rattle.romfs_format.specs.Fields.{root, word, text_end, text_at, word_sum};
+ghost use Rattle.romfs_format.specs.Heads.{head_of, name_of};
+ghost use Rattle.romfs_format.specs.Rules.{StartsWith};
+
+use crate::blocks::{
+    byte_of_blocks, head_in_blocks, head_of_blocks, sum_in, text_of_blocks, word_in,
+};
+use crate::held::{Form, Held};
+use romfs_format::limits::HEAD_SIZE;
+use romfs_format::{Head, read as fields};
+
+/// The byte at a place.
+#[inline(always)]
+#[tactic(auto, using(crate::proofs::Fronts::filled_long))]
+pub fn byte_at(image: &Held<'_>, at: usize) -> u8
+    requires { at < length image.now }
+    ensures { result ≡ get_or image.now at 0 }
+{
+    match image.form {
+        Form::Whole(bytes) => bytes[at],
+        Form::Sparse {
+            size,
+            blocks,
+            bytes,
+        } => byte_of_blocks(blocks, bytes, size, at as u32),
+    }
+}
+
+/// Whether an image begins with some bytes.
+pub fn starts_with(image: &Held<'_>, bytes: &[u8]) -> bool
+    requires { length bytes.now ≤ length image.now }
+    ensures { IsTrue result ↔ StartsWith image.now bytes.now }
+{
+    for at in 0..bytes.len() {
+        if byte_at(image, at) != bytes[at] {
+            return false;
+        }
+    }
+    true
+}
+
+/// The big-endian word at a place.
+#[inline(always)]
+#[tactic(auto, using(crate::proofs::Fronts::filled_long))]
+pub fn word(image: &Held<'_>, at: usize) -> u32
+    requires { at + 4 ≤ length image.now }
+    ensures { result ≡ word image.now at }
+{
+    match image.form {
+        Form::Whole(bytes) => fields::word(bytes, at),
+        Form::Sparse {
+            size,
+            blocks,
+            bytes,
+        } => word_in(blocks, bytes, size, at as u32),
+    }
+}
+
+/// The name whose field begins at a place of the accessible bytes; none where it has no end, or its
+/// padding ends beyond them.
+#[inline(always)]
+#[tactic(auto, using(crate::proofs::Fronts::filled_long))]
+pub fn text_at<'a>(image: &Held<'a>, at: usize) -> Option<&'a [u8]>
+    requires at { at ≤ length image.now }
+    requires small { length image.now < 2 ^ 32 }
+    ensures value { option_map (λ text. text.now) result ≡ text_at image.now at }
+    ensures within { IfSome result (λ text. text_end at text.now ≤ length image.now) }
+{
+    match image.form {
+        Form::Whole(bytes) => fields::text_at(bytes, at),
+        Form::Sparse {
+            size,
+            blocks,
+            bytes,
+        } => text_of_blocks(blocks, bytes, size, at as u32),
+    }
+}
+
+/// The sum of the whole words of so many bytes from a place on.
+#[tactic(auto, using(crate::proofs::Fronts::filled_long))]
+pub fn sum(image: &Held<'_>, at: usize, len: usize) -> u32
+    requires { at + len ≤ length image.now }
+    ensures { result ≡ word_sum (take len (drop at image.now)) % 2 ^ 32 }
+{
+    match image.form {
+        Form::Whole(bytes) => {
+            let rest = &bytes[at..];
+            fields::word_sum(&rest[..len])
+        }
+        Form::Sparse {
+            size,
+            blocks,
+            bytes,
+        } => sum_in(blocks, bytes, size, at as u32, len as u32),
+    }
+}
+
+/// The header at a place.
+#[inline(always)]
+#[tactic(auto, using(crate::proofs::Fronts::filled_long))]
+pub fn head_at(image: &Held<'_>, at: u32) -> Head
+    requires inside { at + HEAD_SIZE ≤ length image.now }
+    requires small { length image.now < 2 ^ 32 }
+    ensures { result ≡ head_of image.now at }
+{
+    match image.form {
+        Form::Whole(bytes) => fields::head_at(bytes, at),
+        Form::Sparse {
+            size,
+            blocks,
+            bytes,
+        } => head_of_blocks(blocks, bytes, size, at),
+    }
+}
+
+/// The same, with the length of its name, which is known.
+#[inline(always)]
+#[tactic(auto, using(crate::proofs::Fronts::filled_long))]
+pub fn head_named(image: &Held<'_>, at: u32, name_len: u32) -> Head
+    requires inside { at + HEAD_SIZE ≤ length image.now }
+    requires small { length image.now < 2 ^ 32 }
+    requires name { name_len ≡ length (name_of image.now at) }
+    ensures { result ≡ head_of image.now at }
+{
+    match image.form {
+        Form::Whole(bytes) => fields::head_named(bytes, at, name_len),
+        Form::Sparse {
+            size,
+            blocks,
+            bytes,
+        } => head_in_blocks(blocks, bytes, size, at, name_len),
+    }
+}
+
+/// Where the root stands.
+#[tactic(auto, unfolding(romfs_format::specs::Fields::root))]
+pub fn root_of(image: &Held<'_>) -> u32
+    requires long { HEAD_SIZE ≤ length image.now }
+    requires small { length image.now < 2 ^ 32 }
+    ensures { result ≡ root image.now }
+{
+    match text_at(image, HEAD_SIZE) {
+        None => 0,
+        Some(name) => (HEAD_SIZE + fields::padded(name.len() + 1)) as u32,
+    }
+}
