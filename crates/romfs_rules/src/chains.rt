@@ -12,9 +12,10 @@ ghost use Rattle.romfs_rules.specs.Leads.{AreStarts, LeadsOn, Adds};
 ghost use Rattle.romfs_rules.specs.InChains.{AreChains};
 
 use crate::lead::{first_below, next_of};
-use crate::slot::is_fresh;
+use crate::slot::{is_fresh, no_marks};
 use crate::volume::Volume;
-use romfs_format::read::{cleared, word};
+use held_image::read::word;
+use romfs_format::read::cleared;
 use slot_sets::SlotSet;
 use std::alloc::{AllocError, Allocator};
 
@@ -49,7 +50,7 @@ pub(crate) fn find_chains<A: Allocator + Copy>(
 fn mark_root_chain<A: Allocator + Copy>(alloc: A, volume: &Volume) -> Result<SlotSet<A>, AllocError>
     ensures { IfOk result (AreInRootChain volume.now.bytes.now) }
 {
-    let mut marks = SlotSet::new(alloc, volume.bytes.len() / 16)?;
+    let mut marks = no_marks(alloc, volume)?;
     let mut at = cleared(word(volume.bytes, volume.root + 4)) as usize;
     while is_fresh(volume, at, &marks) {
         marks.insert(at / 16);
@@ -68,7 +69,7 @@ fn mark_elsewhere<A: Allocator + Copy>(
     ensures { IfOk result (AreElsewhere volume.now.bytes.now) }
 {
     let mut walk = ChainWalk {
-        marks: SlotSet::new(alloc, volume.bytes.len() / 16)?,
+        marks: no_marks(alloc, volume)?,
         todo: seeds(alloc, volume, root_chain)?,
     };
     walk.finish(volume)?;

@@ -14,7 +14,7 @@ ghost use Rattle.romfs_rules.specs.Depth.{IsTooDeep, NotesDeep, waiting, LeadsDo
 
 use crate::lead::{first_below, first_of, next_of};
 use crate::member::is_dotted;
-use crate::slot::is_fresh;
+use crate::slot::{is_fresh, no_marks};
 use crate::volume::Volume;
 use romfs_format::limits::MAX_NAMES;
 use romfs_format::rule::Rule;
@@ -32,7 +32,7 @@ pub(crate) fn find_deep<A: Allocator + Copy>(
         (λ deep. IsLeast (BreaksHeader Usual volume.now.bytes.now Rule.TooDeep) deep) }
 {
     let mut walk = Descent {
-        marks: SlotSet::new(alloc, volume.bytes.len() / 16)?,
+        marks: no_marks(alloc, volume)?,
         todo: Vec::new(alloc),
     };
     walk.find_deep(volume)

@@ -17,8 +17,9 @@ ghost use Rattle.romfs_rules.specs.Ends.{HasEnds, AreWalkedEnds, KnowsEnd, Passe
 
 use crate::slot::{is_hard_link, is_inside};
 use crate::volume::Volume;
+use held_image::read::word;
 use romfs_format::head::{End, Kind};
-use romfs_format::read::{cleared, kind_of, word};
+use romfs_format::read::{cleared, kind_of};
 use slot_sets::{SlotSet, SlotWords};
 use std::alloc::{AllocError, Allocator};
 

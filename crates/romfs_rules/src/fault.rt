@@ -1,9 +1,8 @@
 //! The first rule that an image breaks.
 
-ghost use Rattle.std.specs.Prelude.{◌≡◌, ◌≤◌, false, length, IfOk, IsTrue};
-ghost use Rattle.romfs_format.specs.declared.limits.TheConstants.{HEAD_SIZE};
+ghost use Rattle.std.specs.Prelude.{◌≡◌, false, IfOk, IsTrue};
 ghost use Rattle.romfs_format.specs.Fields.{root as root_of};
-ghost use Rattle.romfs_format.specs.Profiles.{asks_sums};
+ghost use Rattle.romfs_format.specs.Profiles.{asks_sums, reads_attributes};
 ghost use Rattle.romfs_rules.specs.InChains.{AreChains};
 ghost use Rattle.romfs_rules.specs.SameNames.{HaveSameNamesIfAlone};
 ghost use Rattle.romfs_rules.specs.Twice.{AreTwice};
@@ -22,7 +21,8 @@ use crate::targets::mark_targets;
 use crate::twice::find_twice;
 use crate::volume::{Volume, image_of, volume_fault};
 use attribute_rows::trailer_fault;
-use romfs_format::read::{root_of, word};
+use held_image::Held;
+use held_image::read::{root_of, word};
 use romfs_format::{ImageFault, Profile};
 use std::alloc::{AllocError, Allocator};
 
@@ -43,27 +43,51 @@ pub fn first_fault<A: Allocator + Copy>(
 ) -> Result<Option<ImageFault>, AllocError>
     ensures { IfOk result (IsFaultOf profile bytes.now) }
 {
-    match volume_fault(bytes) {
+    let fault = fault_to_depth(alloc, &Held::whole(bytes), profile)?;
+    Ok(fault_with_attributes(bytes, profile, fault))
+}
+
+/// The same of an image that is held, whole or by what is kept of it, under a profile without
+/// attributes: their trailer stands behind the full size, where nothing is kept.
+pub fn first_fault_held<A: Allocator + Copy>(
+    alloc: A,
+    image: &Held<'_>,
+    profile: Profile,
+) -> Result<Option<ImageFault>, AllocError>
+    requires plain { ¬ IsTrue (reads_attributes profile) }
+    ensures { IfOk result (IsFaultOf profile image.now) }
+{
+    fault_to_depth(alloc, image, profile)
+}
+
+// The fault of an image, whatever its attributes.
+fn fault_to_depth<A: Allocator + Copy>(
+    alloc: A,
+    image: &Held<'_>,
+    profile: Profile,
+) -> Result<Option<ImageFault>, AllocError>
+    ensures { IfOk result (IsFaultToDepth profile image.now) }
+{
+    match volume_fault(image) {
         Some(fault) => Ok(Some(fault)),
         None => {
-            let accessible = image_of(bytes, word(bytes, 8) as usize);
+            let accessible = image_of(image, word(image, 8) as usize);
             let volume = Volume {
-                bytes: accessible,
-                root: root_of(accessible) as usize,
+                bytes: &accessible,
+                root: root_of(&accessible) as usize,
             };
-            let fault = fault_in(alloc, &volume, profile)?;
-            Ok(fault_with_attributes(bytes, profile, fault))
+            fault_in(alloc, &volume, profile)
         }
     }
 }
 
 // The fault of an image, where that before its attributes are looked at is known.
+#[tactic(auto, using(crate::proofs::Verdict::long_enough))]
 fn fault_with_attributes(
     bytes: &[u8],
     profile: Profile,
     fault: Option<ImageFault>,
 ) -> Option<ImageFault>
-    requires long { HEAD_SIZE ≤ length bytes.now }
     requires before { IsFaultToDepth profile bytes.now fault }
     ensures { IsFaultOf profile bytes.now result }
 {

@@ -15,9 +15,10 @@ ghost use Rattle.romfs_format.specs.Rules.{HasBadSum, BreaksHeader, rule_number}
 ghost use Rattle.romfs_rules.specs.Judge.{KeepsBefore, KeepsHeaderRules, IsFirstRule, IsFirstRuleBelow, IsFirstAt};
 
 use crate::volume::Volume;
+use held_image::read::{sum, text_at, word};
 use romfs_format::head::{End, Kind};
 use romfs_format::limits::{HEAD_SIZE, MAX_MAJOR, MAX_TARGET_SIZE};
-use romfs_format::read::{header_bytes, kind_of, padded, text_at, word, word_sum};
+use romfs_format::read::{kind_of, padded};
 use romfs_format::rule::{ImageFault, Profile, Rule};
 use std::marker::Model;
 
@@ -258,12 +259,13 @@ fn is_device(volume: &Volume, at: usize) -> bool
 }
 
 // Whether the words of a header, its name and the padding do not sum to 0.
+#[tactic(auto, unfolding(romfs_format::specs::Fields::header_bytes))]
 fn is_sum_bad(volume: &Volume, at: usize) -> bool
     requires inside { at + HEAD_SIZE ≤ length volume.now.bytes.now }
     ensures { IsTrue result ↔ HasBadSum volume.now.bytes.now at }
 {
     match text_at(volume.bytes, at + HEAD_SIZE) {
         None => at == volume.root,
-        Some(name) => word_sum(header_bytes(volume.bytes, at, name)) != 0,
+        Some(name) => sum(volume.bytes, at, HEAD_SIZE + padded(name.len() + 1)) != 0,
     }
 }

@@ -30,4 +30,4 @@ mod targets;
 mod twice;
 mod volume;
 
-pub use fault::first_fault;
+pub use fault::{first_fault, first_fault_held};

@@ -11,9 +11,10 @@ ghost use Rattle.romfs_rules.specs.InChains.{AreChains};
 
 use crate::chains::Chains;
 use crate::volume::Volume;
+use held_image::read::{byte_at, text_at, word};
 use romfs_format::head::Kind;
 use romfs_format::limits::HEAD_SIZE;
-use romfs_format::read::{is_dot_name, kind_of, text_at, word};
+use romfs_format::read::{is_dot_name, kind_of};
 use std::alloc::Allocator;
 
 /// Whether a header is named `.` or `..`.
@@ -113,5 +114,5 @@ fn begins_with_dot(volume: &Volume, at: usize) -> bool
     requires inside { IsInside volume.now.bytes.now at }
     ensures { IsDotted volume.now.bytes.now at → IsTrue result }
 {
-    at + HEAD_SIZE < volume.bytes.len() && volume.bytes[at + HEAD_SIZE] == b'.'
+    at + HEAD_SIZE < volume.bytes.len() && byte_at(volume.bytes, at + HEAD_SIZE) == b'.'
 }

@@ -13,8 +13,9 @@ ghost use Rattle.romfs_rules.specs.Names.{kept_name, kept_names, AreClassesOf, A
 
 use crate::volume::Volume;
 use duplicate_keys::{NumberedName, classes, hash_of, seen_once};
+use held_image::read::text_at;
 use romfs_format::limits::HEAD_SIZE;
-use romfs_format::read::{is_dot_name, text_at};
+use romfs_format::read::is_dot_name;
 use std::alloc::{AllocError, Allocator};
 
 /// The classes of headers by their names and what these are mixed to, each a number of a header,

@@ -15,7 +15,7 @@ use crate::lead::{first_of, next_of};
 use crate::member::opens;
 use crate::names::{have_hashes_apart, name_classes_by};
 use crate::plain_header::plain_hash;
-use crate::slot::is_fresh;
+use crate::slot::{is_fresh, no_marks};
 use crate::volume::Volume;
 use slot_sets::SlotSet;
 use std::alloc::{AllocError, Allocator};
@@ -39,7 +39,7 @@ pub(crate) fn is_plain_image<A: Allocator + Copy>(
     ensures { IfOk result (λ plain. IsTrue plain → KeepsPlainly volume.now.bytes.now) }
 {
     let mut walk = Walk {
-        marks: SlotSet::new(alloc, volume.bytes.len() / 16)?,
+        marks: no_marks(alloc, volume)?,
         todo: Vec::new(alloc),
         heads: Vec::new(alloc),
         hashes: Vec::new(alloc),

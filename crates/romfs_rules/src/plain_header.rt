@@ -14,9 +14,10 @@ use crate::plain::Folder;
 use crate::slot::is_inside;
 use crate::volume::Volume;
 use duplicate_keys::hash_of;
+use held_image::read::{text_at, word};
 use romfs_format::head::Kind;
 use romfs_format::limits::{HEAD_SIZE, MAX_NAMES};
-use romfs_format::read::{cleared, is_dot_name, kind_of, text_at, word};
+use romfs_format::read::{cleared, is_dot_name, kind_of};
 
 /// What the name is mixed to of a header in the chain of a directory, if the header breaks no rule
 /// by its own bytes; none where it may break some.

@@ -1,16 +1,24 @@
 //! Headers and their slots.
 
-ghost use Rattle.std.specs.Prelude.{◌≡◌, ◌<◌, ◌/◌, ◌⊎◌, ◌↔◌, ◌^◌, false, length, IsTrue};
+ghost use Rattle.std.specs.Prelude.{◌≡◌, ◌<◌, ◌/◌, ◌⊎◌, ◌↔◌, ◌^◌, false, length, replicate, IfOk, IsTrue};
 ghost use Rattle.romfs_format.specs.Fields.{IsInside};
 ghost use Rattle.romfs_format.specs.Links.{IsHardLink};
 ghost use Rattle.romfs_rules.specs.Marks.{IsMarked, IsFresh};
 
 use crate::volume::Volume;
+use held_image::read::word;
 use romfs_format::head::Kind;
 use romfs_format::limits::HEAD_SIZE;
-use romfs_format::read::{kind_of, word};
+use romfs_format::read::kind_of;
 use slot_sets::SlotSet;
-use std::alloc::Allocator;
+use std::alloc::{AllocError, Allocator};
+
+/// No marks, with room for one at each slot of an image.
+pub(crate) fn no_marks<A: Allocator>(alloc: A, volume: &Volume) -> Result<SlotSet<A>, AllocError>
+    ensures { IfOk result (λ marks. marks ≡ replicate (length volume.now.bytes.now / 16) false) }
+{
+    SlotSet::new(alloc, volume.bytes.len() / 16)
+}
 
 /// Whether a header lies in the image.
 pub(crate) fn is_inside(volume: &Volume, at: usize) -> bool

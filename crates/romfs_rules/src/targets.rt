@@ -9,9 +9,10 @@ ghost use Rattle.romfs_rules.specs.Targets.{AreTargets, IsClosed, FollowsLink};
 
 use crate::chains::Chains;
 use crate::member::is_some_member;
-use crate::slot::{is_fresh, is_hard_link};
+use crate::slot::{is_fresh, is_hard_link, no_marks};
 use crate::volume::Volume;
-use romfs_format::read::{cleared, word};
+use held_image::read::word;
+use romfs_format::read::cleared;
 use slot_sets::SlotSet;
 use std::alloc::{AllocError, Allocator};
 
@@ -24,7 +25,7 @@ pub(crate) fn mark_targets<A: Allocator + Copy>(
     requires chains { AreChains volume.now.bytes.now chains.now }
     ensures { IfOk result (AreTargets volume.now.bytes.now) }
 {
-    let mut marks = SlotSet::new(alloc, volume.bytes.len() / 16)?;
+    let mut marks = no_marks(alloc, volume)?;
     let mut from = 0;
     while let Some(slot) = chains.headers.next_from(from) {
         let at = slot * 16;

@@ -11,7 +11,7 @@ ghost use Rattle.romfs_rules.specs.Twice.{AreTwice, Counts, CountsBoth};
 
 use crate::chains::Chains;
 use crate::link::{first_link, next_link};
-use crate::slot::is_inside;
+use crate::slot::{is_inside, no_marks};
 use crate::volume::Volume;
 use slot_sets::{SlotSet, places_of};
 use std::alloc::{AllocError, Allocator};
@@ -39,8 +39,8 @@ fn mark_twice<A: Allocator + Copy>(
     ensures { IfOk result (λ marks.
         AreMarks volume.now.bytes.now (IsLinkedTwice volume.now.bytes.now) marks) }
 {
-    let mut once = SlotSet::new(alloc, volume.bytes.len() / 16)?;
-    let mut twice = SlotSet::new(alloc, volume.bytes.len() / 16)?;
+    let mut once = no_marks(alloc, volume)?;
+    let mut twice = no_marks(alloc, volume)?;
     count_links(volume, volume.root, chains, &mut once, &mut twice);
     let mut from = volume.root / 16 + 1;
     while let Some(slot) = chains.headers.next_from(from) {

@@ -1,21 +1,24 @@
 //! The rules of the volume header.
 
-ghost use Rattle.std.specs.Prelude.{◌≡◌, ◌≤◌, ◌↔◌, length, IfNone, IsTrue};
-ghost use Rattle.romfs_format.specs.Fields.{image, root as root_of, summed, word};
+ghost use Rattle.std.specs.Prelude.{◌≡◌, ◌≤◌, ◌%◌, ◌^◌, ◌↔◌, length, IfNone, IsTrue};
+ghost use Rattle.romfs_format.specs.declared.limits.TheConstants.{HEAD_SIZE};
+ghost use Rattle.romfs_format.specs.Fields.{image, root as root_of, summed, word, word_sum};
 ghost use Rattle.romfs_format.specs.Rules.{StartsWith, magic};
 ghost use Rattle.romfs_rules.specs.Marks.{IsVolumeImage};
 ghost use Rattle.romfs_rules.specs.Volumes.{IsVolumeFault, HoldsRoot};
 
+use held_image::Held;
+use held_image::read::{starts_with, sum, text_at, word};
 use romfs_format::head::Kind;
 use romfs_format::limits::{HEAD_SIZE, SUMMED_SIZE};
-use romfs_format::read::{kind_of, padded, text_at, word, word_sum};
+use romfs_format::read::{kind_of, padded};
 use romfs_format::rule::{ImageFault, Rule};
 
 /// An image that keeps the rules of the volume header.
 #[derive(Drop)]
 pub(crate) struct Volume<'v> {
     /// The accessible bytes.
-    pub(crate) bytes: &'v [u8],
+    pub(crate) bytes: &'v Held<'v>,
     /// Where the root's header stands.
     pub(crate) root: usize,
     ghost keeps: { IsVolumeImage bytes.now },
@@ -24,7 +27,7 @@ pub(crate) struct Volume<'v> {
 
 /// The first rule of the volume header that is broken.
 #[tactic(auto, unfolding(romfs_format::specs::Fields::root))]
-pub(crate) fn volume_fault(bytes: &[u8]) -> Option<ImageFault>
+pub(crate) fn volume_fault(bytes: &Held<'_>) -> Option<ImageFault>
     ensures fault { IsVolumeFault bytes.now result }
     ensures image { IfNone result (IsVolumeImage (image bytes.now)) }
     ensures sound { IfNone result (HoldsRoot bytes.now) }
@@ -49,20 +52,20 @@ pub(crate) fn volume_fault(bytes: &[u8]) -> Option<ImageFault>
         });
     }
     let image = image_of(bytes, full);
-    if word_sum(summed(image)) != 0 {
+    if front_sum(&image) != 0 {
         return Some(ImageFault {
             rule: Rule::BadSum,
             place: 12,
         });
     }
-    match text_at(image, HEAD_SIZE) {
+    match text_at(&image, HEAD_SIZE) {
         None => Some(ImageFault {
             rule: Rule::VolumeName,
             place: HEAD_SIZE as u32,
         }),
         Some(name) => {
             let root = HEAD_SIZE + padded(name.len() + 1);
-            if image.len() < root + HEAD_SIZE || kind_of(word(image, root)) != Kind::Directory {
+            if image.len() < root + HEAD_SIZE || kind_of(word(&image, root)) != Kind::Directory {
                 Some(ImageFault {
                     rule: Rule::NoRoot,
                     place: root as u32,
@@ -76,29 +79,26 @@ pub(crate) fn volume_fault(bytes: &[u8]) -> Option<ImageFault>
 
 /// The accessible bytes.
 #[tactic(auto, unfolding(romfs_format::specs::Fields::image))]
-pub(crate) fn image_of(bytes: &[u8], full: usize) -> &[u8]
+pub(crate) fn image_of<'a>(bytes: &Held<'a>, full: usize) -> Held<'a>
     requires full { full ≡ word bytes.now 8 }
     requires within { full ≤ length bytes.now }
-    ensures value { result.now ≡ image bytes.now }
-    ensures length { length result.now ≡ full }
+    ensures value { result ≡ image bytes.now }
+    ensures length { length result ≡ full }
 {
-    &bytes[..full]
+    bytes.first(full)
 }
 
-// What the checksum goes over.
-fn summed(image: &[u8]) -> &[u8]
-    ensures { result.now ≡ summed image.now }
+// The sum of what the checksum goes over.
+fn front_sum(image: &Held<'_>) -> u32
+    ensures { result ≡ word_sum (summed image.now) % 2 ^ 32 }
 {
-    if image.len() < SUMMED_SIZE {
-        image
-    } else {
-        &image[..SUMMED_SIZE]
-    }
+    sum(image, 0, SUMMED_SIZE.min(image.len()))
 }
 
 // Whether an image begins as each has to.
-fn is_magic(bytes: &[u8]) -> bool
+fn is_magic(bytes: &Held<'_>) -> bool
+    requires { HEAD_SIZE ≤ length bytes.now }
     ensures { IsTrue result ↔ StartsWith bytes.now magic }
 {
-    bytes.starts_with(b"-rom1fs-")
+    starts_with(bytes, b"-rom1fs-")
 }
