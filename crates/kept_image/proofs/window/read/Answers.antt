@@ -9,4 +9,4 @@ returns-clause-room g c =
     (omega (arith, c.min-count.ensures)) c.clear.ensures
     (c.copy_part.ensures
     ∙ ap (λ b. take c.min-count.result (drop (c.args.at - c.look_at.new.window.start) b)
-        ++ drop c.min-count.result c.clear.new.room) c.deref.ensures.value)
+    ++ drop c.min-count.result c.clear.new.room) c.deref.ensures.value)

@@ -1,0 +1,18 @@
+-- What was gathered of known bytes is judged as they are (judged_alike).
+use Rattle.std.proofs.Common.{ℕ, List, ◌↔◌, Some, None, IsTrue}
+use Rattle.romfs_format.specs.declared.rule.Profile.{Profile}
+use Rattle.romfs_format.specs.Profiles.{reads_attributes}
+use Rattle.romfs_format.specs.Rules.{IsSound}
+use Rattle.kept_image.specs.Gathered.{IsGathered}
+use Rattle.kept_image.proofs.Volumes.{same_fault}
+use Rattle.romfs_check.specs.declared.refusal.CheckFault.{CheckFault}
+use Rattle.romfs_check.specs.declared.refusal.CheckFault.TheVariants.{Broken, Memory}
+use Rattle.romfs_check.specs.Refusals.{IsRefusal}
+
+module _ (profile : Profile) (plain : ¬ IsTrue (reads_attributes profile)) (b a : List ℕ) (g : IsGathered (Some b) a) where
+  refused_alike : (fault : CheckFault) → IsRefusal profile a fault ↔ IsRefusal profile b fault
+  refused_alike (Broken fault) = (let s = same_fault profile plain b a g (Some fault) in (s.1, s.0))
+  refused_alike Memory = (λ x. x, λ x. x)
+
+  pub judged_alike : (IsSound profile a ↔ IsSound profile b) × ((fault : CheckFault) → IsRefusal profile a fault ↔ IsRefusal profile b fault)
+  judged_alike = (let s = same_fault profile plain b a g None in ((s.1, s.0), refused_alike))
