@@ -3,3 +3,4 @@ pub mod Runs
 pub mod Fronts
 pub mod Sums
 pub mod Views
+pub mod NameBytes

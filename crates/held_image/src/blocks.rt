@@ -253,6 +253,18 @@ pub(crate) fn text_of_blocks<'a>(
     text_in(run(blocks, bytes, at), at, size)
 }
 
+/// The name of the header at a place, of an image of this size; the empty one where it has no end.
+pub(crate) fn name_of_blocks<'a>(blocks: &[u32], bytes: &'a [u8], size: u32, at: u32) -> &'a [u8]
+    requires kept { IsKept blocks.now bytes.now }
+    requires inside { at + HEAD_SIZE ≤ size }
+    ensures { result.now ≡ name_of (filled size blocks.now bytes.now) at }
+{
+    match text_of_blocks(blocks, bytes, size, at + HEAD_SIZE as u32) {
+        Some(name) => name,
+        None => &[],
+    }
+}
+
 /// The sum of the whole words of so many bytes from a place on, of an image of this size.
 #[tactic(auto, using(crate::proofs::Sums::run_part))]
 pub(crate) fn sum_in(blocks: &[u32], bytes: &[u8], size: u32, at: u32, len: u32) -> u32

@@ -63,6 +63,13 @@ impl<'a> Held<'a> {
         }
     }
 
+    /// The same image, lent once more.
+    pub fn again(&self) -> Held<'a>
+        ensures { result ≡ self.now }
+    {
+        Held { form: self.form }
+    }
+
     /// How many bytes there are.
     #[inline(always)]
     #[tactic(auto, using(crate::proofs::Fronts::filled_long))]

@@ -1,6 +1,6 @@
 //! What is kept of an image.
 
-ghost use Rattle.std.specs.Prelude.{◌≡◌, ◌<◌, ◌^◌, length};
+ghost use Rattle.std.specs.Prelude.{◌≡◌, ◌<◌, ◌≤◌, ◌^◌, length, take};
 ghost use Rattle.held_image.specs.Blocks.{IsKept, filled};
 
 use crate::held::Held;
@@ -42,6 +42,20 @@ impl<A: Allocator> Kept<A> {
             size,
             blocks,
             bytes,
+        }
+    }
+
+    /// The first bytes alone, so many.
+    #[tactic(auto, using(crate::proofs::Fronts::filled_long, crate::proofs::Views::first_filled))]
+    pub fn first(self, count: u32) -> Kept<A>
+        requires { count ≤ length self }
+        ensures value { result ≡ take count self }
+        ensures length { length result ≡ count }
+    {
+        Kept {
+            size: count,
+            blocks: self.blocks,
+            bytes: self.bytes,
         }
     }
 

@@ -8,7 +8,7 @@ ghost use Rattle.romfs_format.specs.Heads.{head_of, name_of};
 ghost use Rattle.romfs_format.specs.Rules.{StartsWith};
 
 use crate::blocks::{
-    byte_of_blocks, head_in_blocks, head_of_blocks, sum_in, text_of_blocks, word_in,
+    byte_of_blocks, head_in_blocks, head_of_blocks, name_of_blocks, sum_in, text_of_blocks, word_in,
 };
 use crate::held::{Form, Held};
 use romfs_format::limits::HEAD_SIZE;
@@ -137,6 +137,25 @@ pub fn head_named(image: &Held<'_>, at: u32, name_len: u32) -> Head
     }
 }
 
+/// The name of the header at a place, whose length is known, so that its end is not sought in a
+/// slice. It is empty where it has no end.
+#[inline(always)]
+#[tactic(auto, using(crate::proofs::Fronts::filled_long))]
+pub fn name_of<'a>(image: &Held<'a>, at: u32, name_len: u32) -> &'a [u8]
+    requires inside { at + HEAD_SIZE ≤ length image.now }
+    requires name { name_len ≡ length (name_of image.now at) }
+    ensures { result.now ≡ name_of image.now at }
+{
+    match image.form {
+        Form::Whole(bytes) => name_in_slice(bytes, at, name_len),
+        Form::Sparse {
+            size,
+            blocks,
+            bytes,
+        } => name_of_blocks(blocks, bytes, size, at),
+    }
+}
+
 /// Where the root stands.
 #[tactic(auto, unfolding(romfs_format::specs::Fields::root))]
 pub fn root_of(image: &Held<'_>) -> u32
@@ -148,4 +167,16 @@ pub fn root_of(image: &Held<'_>) -> u32
         None => 0,
         Some(name) => (HEAD_SIZE + fields::padded(name.len() + 1)) as u32,
     }
+}
+
+/// The same of a slice.
+#[inline(always)]
+#[tactic(auto, using(crate::proofs::NameBytes::name_within))]
+fn name_in_slice(bytes: &[u8], at: u32, name_len: u32) -> &[u8]
+    requires inside { at + HEAD_SIZE ≤ length bytes.now }
+    requires name { name_len ≡ length (name_of bytes.now at) }
+    ensures { result.now ≡ name_of bytes.now at }
+{
+    let rest = &bytes[at as usize + HEAD_SIZE..];
+    &rest[..name_len as usize]
 }

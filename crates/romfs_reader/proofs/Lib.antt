@@ -9,7 +9,6 @@ pub mod Steps
 pub mod Readings
 pub mod Whole
 pub mod Pigeon
-pub mod NameBytes
 pub mod Paths
 pub mod Short
 pub mod Noting

@@ -16,7 +16,7 @@ use Rattle.romfs_reader.specs.Readers.{bytes_at, data_of_header, data_of_kind, I
 use Rattle.romfs_reader.specs.Walks.{places, chain_from, members_from, IsWalk, EndsWithin}
 use Rattle.romfs_reader.proofs.Keeps.{root_directory, not_data_outside, good}
 use Rattle.romfs_reader.proofs.Given.{From, from_inside, from_named, from_aligned, from_opened, used}
-use Rattle.romfs_reader.proofs.NameBytes.{text_bytes}
+use Rattle.held_image.proofs.NameBytes.{name_taken, name_within}
 use Rattle.romfs_reader.proofs.Chain.{IsStart, ends, listed}
 use Rattle.romfs_reader.proofs.Listing.{are_members, are_given}
 
@@ -51,19 +51,7 @@ given_place a i r h m g y e =
 -- a name is the bytes behind its header, as many as it has
 pub name_bytes : (a : List ℕ) (h : ℕ) → bytes_at a (h + 16) (length (name_of a h)) ≡ name_of a h
 unfolding bytes_at
-name_bytes a h = test (name a h) refl
-  where
-    test : (o : Option (List ℕ)) → o ≡ name a h → take (length (unwrap_or o [])) (drop (h + 16) a) ≡ unwrap_or o []
-    test None e = refl
-    test (Some n) e = (text_bytes a n (h + 16) (sym e)).1
-
--- and ends in the image, where its header does
-name_within : (a : List ℕ) (h : ℕ) → h + 16 ≤ length a → h + 16 + length (name_of a h) ≤ length a
-name_within a h l = test (name a h) refl
-  where
-    test : (o : Option (List ℕ)) → o ≡ name a h → h + 16 + length (unwrap_or o []) ≤ length a
-    test None e = omega arith
-    test (Some n) e = let t = (text_bytes a n (h + 16) (sym e)).0 in omega arith
+name_bytes a h = name_taken a h
 
 -- a header that is given has the fields at its offset, and lies in the image
 pub given_head : (a : List ℕ) (i : IsImage a) (head : Head) → IsGiven a head → IsHeadIn a head

@@ -13,8 +13,10 @@ ghost use Rattle.romfs_reader.specs.Images.{IsImage};
 ghost use Rattle.romfs_reader.specs.Readers.{IsGiven};
 ghost use Rattle.romfs_reader.specs.Ends.{AreEnds};
 
+use held_image::Held;
+use held_image::read::head_at;
 use romfs_format::head::{Head, Kind};
-use romfs_format::read::{cleared, head_at};
+use romfs_format::read::cleared;
 use std::alloc::{AllocError, Allocator};
 use std::collections::BTreeMap;
 use std::marker::Model;
@@ -22,7 +24,7 @@ use std::marker::Model;
 /// The ends of hard links of an image that were asked for, kept. A clause sees the image's bytes.
 #[derive(Drop)]
 pub struct Ends<'a, A: Allocator> {
-    image: &'a [u8],
+    image: Held<'a>,
     /// By the offset of a hard link, the offset where its chain ends.
     known: BTreeMap<u32, u32, A>,
 }
@@ -34,19 +36,22 @@ impl<'a, A: Allocator> Model for Ends<'a, A> {
 
     ghost Value = { List ℕ };
 
-    ghost view = { λ held. held.image.now };
+    ghost view = { λ held. held.image };
 
-    ghost invariant = { λ held. IsImage held.image.now × AreEnds held.image.now held.known };
+    ghost invariant = { λ held. IsImage held.image × AreEnds held.image held.known };
 }
 
 impl<'a, A: Allocator + Copy> Ends<'a, A> {
     /// No end is known at first.
-    pub(crate) fn new(alloc: A, image: &'a [u8]) -> Ends<'a, A>
+    pub(crate) fn new(alloc: A, image: &Held<'a>) -> Ends<'a, A>
         requires { IsImage image.now }
         ensures { result ≡ image.now }
     {
         let known = BTreeMap::new(alloc);
-        Ends { image, known }
+        Ends {
+            image: image.again(),
+            known,
+        }
     }
 
     /// The header that a hard link leads to, after any further hard links (romfs.rst, "spec.info").
@@ -60,16 +65,16 @@ impl<'a, A: Allocator + Copy> Ends<'a, A> {
         ensures given { IfOk result (λ end. IsGiven self.old end) }
         ensures same { self.new ≡ self.old }
     {
-        let end = end_from(self.image, &self.known, head);
+        let end = end_from(&self.image, &self.known, head);
         if cleared(head.spec) != end.offset {
-            note(self.image, &mut self.known, head, end.offset)?;
+            note(&self.image, &mut self.known, head, end.offset)?;
         }
         Ok(end)
     }
 }
 
 /// Where the chain of hard links from a header that is given ends, by the first end that is known.
-fn end_from<A: Allocator>(image: &[u8], known: &BTreeMap<u32, u32, A>, head: &Head) -> Head
+fn end_from<A: Allocator>(image: &Held<'_>, known: &BTreeMap<u32, u32, A>, head: &Head) -> Head
     requires image { IsImage image.now }
     requires given { IsGiven image.now head.now }
     requires known { AreEnds image.now known.now }
@@ -88,7 +93,7 @@ fn end_from<A: Allocator>(image: &[u8], known: &BTreeMap<u32, u32, A>, head: &He
 
 /// Notes the end of each hard link from a header that is given on, up to one whose end is known.
 fn note<A: Allocator + Copy>(
-    image: &[u8],
+    image: &Held<'_>,
     known: &mut BTreeMap<u32, u32, A>,
     head: &Head,
     end: u32,

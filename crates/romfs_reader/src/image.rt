@@ -15,6 +15,7 @@ use crate::members::Members;
 use crate::parts::{
     Part, bytes_in, bytes_within, data_in, data_part, end_of, members_of, name_in, place_at,
 };
+use held_image::Held;
 use romfs_format::limits::HEAD_SIZE;
 use romfs_format::read::{head_at, head_named, root_of, word};
 use romfs_format::{Head, Kind};
@@ -99,7 +100,7 @@ impl<A: Allocator> Image<A> {
         ensures given { (g : Head) → IsGiven self.now g → g.offset ≡ offset →
             (result ≡ Some g) ⊎ ((offset ≡ root_of self.now) × IsNone (name self.now offset)) }
     {
-        place_at(&self.bytes, self.root, offset)
+        place_at(&self.held(), self.root, offset)
     }
 
     /// The header at an offset in bytes at which this image gave one before, that header again.
@@ -141,7 +142,7 @@ impl<A: Allocator> Image<A> {
         ensures other { directory.now.kind ≢ Kind.Directory → result ≡ [] }
         ensures given { All (λ head. IsGiven self.now head) result }
     {
-        members_of(&self.bytes, self.root, directory)
+        members_of(&self.held(), self.root, directory)
     }
 
     /// The header that a hard link leads to, after any further hard links (romfs.rst, "spec.info").
@@ -153,7 +154,7 @@ impl<A: Allocator> Image<A> {
         ensures end { IsFinal self.now head.now.offset result.offset }
         ensures given { IsGiven self.now result }
     {
-        end_of(&self.bytes, head)
+        end_of(&self.held(), head)
     }
 
     /// Finds what `target` finds, for many headers: it keeps the ends of the hard links that it
@@ -163,7 +164,7 @@ impl<A: Allocator> Image<A> {
         A: Copy,
         ensures { result ≡ self.now }
     {
-        Ends::new(alloc, &self.bytes)
+        Ends::new(alloc, &self.held())
     }
 
     /// The name of a header, without its zero byte. It is empty for a root whose name has no end.
@@ -172,7 +173,7 @@ impl<A: Allocator> Image<A> {
         requires { IsGiven self.now head.now }
         ensures { result.now ≡ name_of self.now head.now.offset }
     {
-        name_in(&self.bytes, head)
+        name_in(&self.held(), head)
     }
 
     /// So many bytes from where the name of the header at an offset begins, without those that
@@ -204,7 +205,7 @@ impl<A: Allocator> Image<A> {
         requires { IsGiven self.now head.now }
         ensures { IsDataPart self.now head.now.offset result }
     {
-        data_part(&self.bytes, head)
+        data_part(&self.held(), head)
     }
 
     /// The bytes of a part that `data_part` gave.
@@ -214,5 +215,13 @@ impl<A: Allocator> Image<A> {
         ensures short { 16 + length result.now < 2 ^ 32 }
     {
         bytes_in(&self.bytes, part)
+    }
+
+    // The bytes, to be read.
+    fn held(&self) -> Held<'_>
+        ensures value { result ≡ self.now }
+        ensures sound { IsImage self.now }
+    {
+        Held::whole(&self.bytes)
     }
 }

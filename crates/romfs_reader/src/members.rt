@@ -10,9 +10,11 @@ ghost use Rattle.romfs_reader.specs.Readers.{passes_over};
 ghost use Rattle.romfs_reader.specs.Walks.{IsWalk, IsNextMember, members_from};
 
 use crate::parts::name_in;
+use held_image::Held;
+use held_image::read::{byte_at, head_at, word};
 use romfs_format::head::Head;
 use romfs_format::limits::HEAD_SIZE;
-use romfs_format::read::{cleared, head_at, is_dot_name, word};
+use romfs_format::read::{cleared, is_dot_name};
 use std::marker::Model;
 
 /// How many bytes a short name takes with its padding.
@@ -24,7 +26,7 @@ const PADDED: usize = 16;
 /// A step reads the headers up to the next member, and takes no memory.
 #[derive(Drop)]
 pub struct Members<'a> {
-    image: &'a [u8],
+    image: Held<'a>,
     root: u32,
     directory: u32,
     at: u32,
@@ -38,19 +40,19 @@ impl<'a> Model for Members<'a> {
 
     ghost use Rattle.romfs_reader.specs.Walks.{IsWalk, members_from};
 
-    ghost view = { λ m. members_from m.image.now m.directory m.at };
+    ghost view = { λ m. members_from m.image m.directory m.at };
 
-    ghost invariant = { λ m. IsWalk m.image.now m.root m.at };
+    ghost invariant = { λ m. IsWalk m.image m.root m.at };
 }
 
 impl<'a> Members<'a> {
     /// The members of a directory whose chain goes on at `at`.
-    pub(crate) fn new(image: &'a [u8], root: u32, directory: u32, at: u32) -> Members<'a>
+    pub(crate) fn new(image: &Held<'a>, root: u32, directory: u32, at: u32) -> Members<'a>
         requires { IsWalk image.now root at }
         ensures { result ≡ members_from image.now directory at }
     {
         Members {
-            image,
+            image: image.again(),
             root,
             directory,
             at,
@@ -66,7 +68,7 @@ impl<'a> Iterator for Members<'a> {
     ghost remaining = { item_count (λ left. left) };
 
     fn next(&mut self) -> Option<Head> {
-        match member_from(self.image, self.root, self.directory, self.at) {
+        match member_from(&self.image, self.root, self.directory, self.at) {
             None => {
                 self.at = 0;
                 None
@@ -81,7 +83,7 @@ impl<'a> Iterator for Members<'a> {
 
 /// Whether a header is passed over in the chain of a directory.
 #[tactic(auto, using(crate::proofs::Named::dotted))]
-fn is_passed_over(image: &[u8], root: u32, directory: u32, head: &Head) -> bool
+fn is_passed_over(image: &Held<'_>, root: u32, directory: u32, head: &Head) -> bool
     requires root { root ≡ root_of image.now }
     requires small { length image.now < 2 ^ 32 }
     requires head { head.now ≡ head_of image.now head.now.offset }
@@ -96,23 +98,27 @@ fn is_passed_over(image: &[u8], root: u32, directory: u32, head: &Head) -> bool
 
 /// Whether the first bytes of a header's name say that it is `.` or `..`: no end of a name is
 /// looked for. Each directory has such members, so that a walk meets many.
-fn begins_as_dots(image: &[u8], at: u32) -> bool
+fn begins_as_dots(image: &Held<'_>, at: u32) -> bool
     requires small { length image.now < 2 ^ 32 }
     requires inside { at + HEAD_SIZE ≤ length image.now }
     ensures { IsTrue result → HasDotName image.now at }
 {
-    let name = &image[at as usize + HEAD_SIZE..];
-    if name.len() < PADDED || name[0] != b'.' {
+    let name = at as usize + HEAD_SIZE;
+    if image.len() < name + PADDED {
         return false;
     }
-    if name[1] == 0 {
+    if byte_at(image, name) != b'.' {
+        return false;
+    }
+    let second = byte_at(image, name + 1);
+    if second == 0 {
         return true;
     }
-    name[1] == b'.' && name[2] == 0
+    second == b'.' && byte_at(image, name + 2) == 0
 }
 
 /// The first member from a place of a chain on.
-fn member_from(image: &[u8], root: u32, directory: u32, mut at: u32) -> Option<Head>
+fn member_from(image: &Held<'_>, root: u32, directory: u32, mut at: u32) -> Option<Head>
     requires { IsWalk image.now root at }
     ensures { IsNextMember image.now root directory at result }
 {

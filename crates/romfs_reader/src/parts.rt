@@ -8,9 +8,11 @@ ghost use Rattle.romfs_format.specs.Heads.{name_of, IsHeadIn};
 ghost use Rattle.romfs_reader.specs.Readers.{data_of_header, IsHeadAt, IsGiven, IsPart, IsDataPart, AreMembers, bytes_at};
 
 use crate::members::Members;
+use held_image::Held;
+use held_image::read::{head_at, name_of, text_at};
 use romfs_format::head::{Head, Kind};
 use romfs_format::limits::HEAD_SIZE;
-use romfs_format::read::{cleared, head_at, padded, text_at};
+use romfs_format::read::{cleared, padded};
 
 /// A part of an image's bytes: where it begins, from the image's first byte on, and how long it is.
 #[derive(Clone, Copy, Debug, PartialEq, Eq)]
@@ -21,7 +23,7 @@ pub struct Part {
 
 /// The header at an offset, if a header with an ended name can stand there.
 #[tactic(auto, using(crate::proofs::Named::some_name))]
-pub(crate) fn place_at(image: &[u8], root: u32, offset: u32) -> Option<Head>
+pub(crate) fn place_at(image: &Held<'_>, root: u32, offset: u32) -> Option<Head>
     requires image { IsImage image.now }
     requires root { root ≡ root_of image.now }
     ensures { IsHeadAt image.now offset result }
@@ -41,7 +43,7 @@ pub(crate) fn place_at(image: &[u8], root: u32, offset: u32) -> Option<Head>
 }
 
 /// The members of a header that is given.
-pub(crate) fn members_of<'a>(image: &'a [u8], root: u32, directory: &Head) -> Members<'a>
+pub(crate) fn members_of<'a>(image: &Held<'a>, root: u32, directory: &Head) -> Members<'a>
     requires image { IsImage image.now }
     requires root { root ≡ root_of image.now }
     requires given { IsGiven image.now directory.now }
@@ -60,7 +62,7 @@ pub(crate) fn members_of<'a>(image: &'a [u8], root: u32, directory: &Head) -> Me
 }
 
 /// Where the chain of hard links from a header that is given ends.
-pub(crate) fn end_of(image: &[u8], head: &Head) -> Head
+pub(crate) fn end_of(image: &Held<'_>, head: &Head) -> Head
     requires image { IsImage image.now }
     requires given { IsGiven image.now head.now }
     ensures end { IsFinal image.now head.now.offset result.offset }
@@ -83,15 +85,15 @@ pub(crate) fn bytes_within(image: &[u8], from: usize, len: usize) -> &[u8]
 }
 
 /// The name of a header.
-pub(crate) fn name_in<'a>(image: &'a [u8], head: &Head) -> &'a [u8]
+pub(crate) fn name_in<'a>(image: &Held<'a>, head: &Head) -> &'a [u8]
     requires { IsHeadIn image.now head.now }
     ensures { result.now ≡ name_of image.now head.now.offset }
 {
-    bytes_at(image, head.name_at, head.name_len)
+    name_of(image, head.offset, head.name_len)
 }
 
 /// Where the data of a header that is given lie.
-pub(crate) fn data_part(image: &[u8], head: &Head) -> Part
+pub(crate) fn data_part(image: &Held<'_>, head: &Head) -> Part
     requires image { IsImage image.now }
     requires given { IsGiven image.now head.now }
     ensures { IsDataPart image.now head.now.offset result }
@@ -123,7 +125,7 @@ pub(crate) fn data_in<'a>(image: &'a [u8], head: &Head) -> &'a [u8]
     requires given { IsGiven image.now head.now }
     ensures { result.now ≡ data_of_header image.now head.now.offset }
 {
-    bytes_in(image, data_part(image, head))
+    bytes_in(image, data_part(&Held::whole(image), head))
 }
 
 /// Whether a directory other than the root names its own header as the first, which says that it

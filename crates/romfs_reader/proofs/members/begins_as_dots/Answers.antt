@@ -1,16 +1,16 @@
-use Rattle.std.proofs.Common.{◌+◌, refl, drop}
+use Rattle.std.proofs.Common.{◌∙◌, sym, arith}
 use Rattle.std.proofs.lemmas.Bool.{eqb-true}
-use Rattle.std.proofs.lemmas.List.{take_rest}
-use Rattle.romfs_reader.proofs.Dots.{one_dot, two_dots}
+use Rattle.romfs_reader.proofs.Dots.{one_at, two_at}
 use Rattle.romfs_reader.proofs.members.begins_as_dots.Goals as goal
 
-pub returns-then-name-eq0 : goal.returns-then-name-eq0
-returns-then-name-eq0 c e =
-    one_dot c.args.image.now c.args.at (drop (c.args.at + 16) c.args.image.now) refl
-    (rw take_rest at c.if-name-lt-PADDED.false) (rw take_rest at c.if-name-ne46.false) (rw take_rest at c.if-name-eq0.true)
+pub returns-then-second-eq0 : goal.returns-then-second-eq0
+returns-then-second-eq0 c e =
+    let long = c.len.ensures in
+    one_at c.args.image.now c.args.at (omega arith) (sym c.byte_at.ensures ∙ c.if-byte_at-ne46.false)
+    (sym c.byte_at-second.ensures ∙ c.if-second-eq0.true)
 
-pub returns-then-name-eq46 : goal.returns-then-name-eq46
-returns-then-name-eq46 c e =
-    two_dots c.args.image.now c.args.at (drop (c.args.at + 16) c.args.image.now) refl
-    (rw take_rest at c.if-name-lt-PADDED.false) (rw take_rest at c.if-name-ne46.false) (rw take_rest at c.if-name-eq46.true)
-    (eqb-true _ _ (rw take_rest at e))
+pub returns-then-second-eq46 : goal.returns-then-second-eq46
+returns-then-second-eq46 c e =
+    let long = c.len.ensures in
+    two_at c.args.image.now c.args.at (omega arith) (sym c.byte_at.ensures ∙ c.if-byte_at-ne46.false)
+    (sym c.byte_at-second.ensures ∙ c.if-second-eq46.true) (sym c.byte_at-then-second-eq46.ensures ∙ eqb-true _ _ e)

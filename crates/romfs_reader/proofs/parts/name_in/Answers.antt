@@ -1,9 +1,5 @@
-use Rattle.std.proofs.Common.{◌∙◌}
-use Rattle.romfs_reader.proofs.Readings.{given_name}
+use Rattle.std.proofs.Common.{◌∙◌, sym, ap}
 use Rattle.romfs_reader.proofs.parts.name_in.Goals as goal
 
-pub bytes_at-requires : goal.bytes_at-requires
-bytes_at-requires c = (given_name c.args.image.now c.args.head.now c.requires).0
-
-pub returns : goal.returns
-returns c = c.bytes_at.ensures ∙ (given_name c.args.image.now c.args.head.now c.requires).1
+pub name_of-requires-clause-name : goal.name_of-requires-clause-name
+name_of-requires-clause-name c = ap (λ x. x.name_len) c.requires.is
