@@ -1,10 +1,11 @@
 -- What a client may be told: the reply that is defined; or, where its data are read, those that
 -- reads gave behind the same header, or EIO.
-use Rattle.std.specs.Prelude.{◌≡◌, ◌⊎◌, ◌<◌, ℕ, List, length, take, drop, true, Option, Some, None}
-use Rattle.image_bytes.specs.Sources.{Source, MayGive}
+use Rattle.std.specs.Prelude.{◌≡◌, ◌⊎◌, ◌<◌, ◌≤◌, ◌+◌, ◌-◌, ℕ, List, ◌++◌, length, take, drop, Bool, true, false, Option, Some, None, Result, OnOk, OnErr}
+use Rattle.image_bytes.specs.Sources.{Source, MayGive, MayLack}
 use Rattle.fuse_wire.specs.declared.errno.Errno.TheVariants.{EIO}
 use Rattle.fuse_wire.specs.declared.limits.TheConstants.{OUT_HEADER_SIZE}
 use Rattle.fuse_wire.specs.Replies.{error_reply}
+use Rattle.fuse_wire.specs.Appends.{Filled}
 
 -- what the data of a reply are read from, and from which place on
 pub record Reading : Type 0 where
@@ -17,14 +18,44 @@ pub record HasRead (reading : Reading) (defined bytes : List ℕ) : Type 0 where
   pub head : take OUT_HEADER_SIZE bytes ≡ take OUT_HEADER_SIZE defined
   pub given : MayGive reading.source reading.place (drop OUT_HEADER_SIZE bytes)
 
--- there are data, and a read of them failed
+-- there are data, and a read of them failed, or the source ends before they do
 pub record IsUnread (reading : Reading) (unique : ℕ) (defined bytes : List ℕ) : Type 0 where
   pub some : OUT_HEADER_SIZE < length defined
   pub is : bytes ≡ error_reply unique EIO
-  pub failed : reading.source.fails ≡ true
+  pub lacks : MayLack reading.source (reading.place + (length defined - OUT_HEADER_SIZE))
 
 -- what a request may be told whose reply is defined so, and whose data are read, or are not
 abbrev pub IsTold : Option Reading → ℕ → List ℕ → List ℕ → Type 0
 IsTold None unique defined bytes = bytes ≡ defined
 IsTold (Some reading) unique defined bytes =
     HasRead reading defined bytes ⊎ IsUnread reading unique defined bytes
+
+-- the data of a reply are read from this source, from this place on
+abbrev pub read_from : Source → ℕ → Option Reading
+read_from source place = Some (record { source = source; place = place })
+
+-- the call appends what may be told in the place of a reply; or, where there is no room for it and
+-- none is got, nothing
+abbrev pub AppendsTold : {E : Type 0} → Result (Unit {0}) E → Filled → Filled → Option Reading → ℕ
+    → List ℕ → Type 0
+AppendsTold result before after reading unique defined =
+    OnOk result ((told : List ℕ) × IsTold reading unique defined told
+    × (after.items ≡ before.items ++ told))
+    × OnErr result (after.items ≡ before.items)
+    × OnErr result (before.room < length before.items + length defined)
+    × (before.room ≤ after.room)
+
+-- behind what stood is what may be told in the place of a reply
+abbrev pub TakesTold : Option Reading → ℕ → List ℕ → List ℕ → List ℕ → Type 0
+TakesTold reading unique defined old new =
+    (told : List ℕ) × IsTold reading unique defined told × (new ≡ old ++ told)
+
+-- behind what stood are n bytes. Where it is true, they may be given from the place on; where it is
+-- false, there are some, and the source may lack them
+pub record Fills (source : Source) (place n : ℕ) (full : Bool) (old new : List ℕ) : Type 0 where
+  pub filled : List ℕ
+  pub long : length filled ≡ n
+  pub behind : new ≡ old ++ filled
+  pub given : full ≡ true → MayGive source place filled
+  pub some : full ≡ false → 0 < n
+  pub lacks : full ≡ false → MayLack source (place + n)

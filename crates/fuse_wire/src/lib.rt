@@ -7,7 +7,8 @@
 //! that a stream is cut in one way, [`examples`] what each opcode asks. Framing and reading take no
 //! memory, and a few steps for each byte; names are borrowed. What appends asks for memory at most
 //! once, for the replies' growth, and leaves them as they were where that is refused; where there
-//! is room nothing fails. The crate stands on `node_attr`, `byteorder`, `memchr`.
+//! is room nothing fails. [`put_read`] alone reads: the data of a reply, from an image's bytes. The
+//! crate stands on `node_attr`, `image_bytes`, `byteorder`, `memchr`.
 #![tactic(auto)]
 
 mod body;
@@ -20,6 +21,7 @@ pub mod laws;
 pub mod limits;
 pub mod opcode;
 mod put;
+mod read;
 mod replies;
 pub mod reply;
 pub mod request;
@@ -35,6 +37,7 @@ pub use put::{
     put_entry, put_error, put_head, put_init, put_negative_entry, put_open, put_short_direntplus,
     put_statfs, set_data_head,
 };
+pub use read::put_read;
 pub use replies::Replies;
 pub use reply::{Dirent, InitOut};
 pub use request::{Op, Request, glance};

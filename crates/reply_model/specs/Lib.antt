@@ -4,6 +4,7 @@ pub mod Rows
 pub mod Services
 pub mod Refusals
 pub mod Replies
+pub mod Readings
 pub mod Moves
 pub mod Streams
 pub mod Examples

@@ -1,5 +1,6 @@
 use Rattle.std.proofs.Common.{rules, arith}
 use Rattle.image_bytes.proofs.Rooms.{filled_more}
+use Rattle.image_bytes.proofs.Given.{given_more}
 use Rattle.image_bytes.proofs.filling.fill.Goals as goal
 
 pub loop-done-preserved : goal.loop-done-preserved
@@ -7,4 +8,6 @@ loop-done-preserved g c = record {
   within = search rules;
   at = filled_more _ _ _ _ _ _ _ c.loop-done.invariant.within (omega (arith, c.in_ok-count.ensures.bound)) c.loop-done.invariant.at
       c.in_ok-count.ensures.bytes;
+  given = given_more (g.S.Contents.source c.args.source.now) _ _ _ _ _ _ c.loop-done.invariant.within (omega (arith, c.in_ok-count.ensures.bound)) c.loop-done.invariant.given
+      c.in_ok-count.ensures.given.0;
 }

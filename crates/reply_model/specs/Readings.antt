@@ -1,0 +1,54 @@
+-- What the data of replies are read from: pread(2) at the place where a file's data lie in its image.
+use Rattle.std.specs.Prelude.{ℕ, ◌+◌, List, [], ◌∷◌, slice_get, Option, None}
+use Rattle.std.specs.Option.{option_map, option_map_or, option_and_then}
+use Rattle.image_bytes.specs.Sources.{Source}
+use Rattle.romfs_format.specs.Fields.{name, data_at}
+use Rattle.fuse_wire.specs.Requests.{NodeOp, Op, Asked, at_node, read}
+use Rattle.fuse_wire.specs.Told.{Reading}
+use Rattle.stack_model.specs.Listing.{Stacked}
+use Rattle.stack_model.specs.Numbers.{Place, node_of}
+use Rattle.stack_model.specs.Attributes.{layer_of}
+
+-- where the data of a place begin in its layer
+abbrev pub data_start : List (List ℕ) → Place → ℕ
+data_start layers p = option_map_or (data_at p.1) (name (layer_of layers p) p.1) 0
+
+-- a stack, and beside it what the data of its layers are read from, the lowest first; those of a
+-- layer that has no source are held
+pub record Sourced : Type 0 where
+  pub stack : Stacked
+  pub sources : List Source
+
+-- a stack whose layers are all held
+abbrev pub in_memory : Stacked → Sourced
+in_memory stack = record { stack = stack; sources = [] }
+
+module _ (by : Sourced) where
+  -- data from an offset on, of the file at a place, are read from its layer's source
+  abbrev pub data_reading : ℕ → Place → Option Reading
+  data_reading offset p =
+      option_map
+      (λ source. record { source = source; place = data_start by.stack.layers p + offset })
+      (slice_get by.sources p.0)
+
+  -- what the data are read from that a request about the node at a place is answered; only a READ
+  -- reads any
+  abbrev pub reading_at : NodeOp → Place → Option Reading
+  reading_at (read offset size) p = data_reading offset p
+  reading_at _ p = None
+
+  -- the same of a request about the node with this number
+  abbrev pub reading_in : ℕ → Op → Option Reading
+  reading_in node (at_node op) =
+      option_and_then (reading_at op) (node_of by.stack.entries node)
+  reading_in node _ = None
+
+-- what the data of the reply to a request are read from, if they are
+abbrev pub reading_from : Stacked → List Source → Asked → Option Reading
+reading_from stack [] q = None
+reading_from stack (source ∷ sources) q =
+    reading_in (record { stack = stack; sources = source ∷ sources }) q.node q.op
+
+-- the same, over a stack with its sources
+abbrev pub reading_of : Sourced → Asked → Option Reading
+reading_of by q = reading_from by.stack by.sources q
