@@ -63,6 +63,7 @@ module _ {A : Type 0} (stack : Stacked) (agreed : Agreement) (n offset size : �
             (is_too_small form size (rows_after stack.entries p offset)) directory large
             (sym (cut_same stack false form good n offset size p is directory l listed) ∙ whole_rows);
         data_is = bytes;
+        reads_are = λ sources. refl;
         moves_are = gives_by_entries l false listed.entries_are;
         sized = whole false l listed small;
       }
@@ -75,6 +76,7 @@ module _ {A : Type 0} (stack : Stacked) (agreed : Agreement) (n offset size : �
             (is_too_small form size (rows_after stack.entries p offset)) directory large
             (sym (cut_same stack true form good n offset size p is directory l listed) ∙ whole_rows);
         data_is = bytes;
+        reads_are = λ sources. refl;
         moves_are = gives_by_entries l true listed.entries_are
             ∙ moves_same stack true form good n offset size p is directory l listed;
         sized = whole true l listed small;

@@ -6,3 +6,4 @@ pub mod Listed
 pub mod Decided
 pub mod Writing
 pub mod Moving
+pub mod Reading

@@ -56,6 +56,7 @@ module _ {A : Type 0} (stack : Stacked) (agreed : Agreement) (n : ℕ) (name : L
     taken = free (kind_at stack.layers p) (is_itself agreed.export name) (nat_lt MAX_NAME_SIZE (length name)) agreed.lasting
         (looked_up stack.entries agreed.export p name) c kind short found;
     data_is = rw found refl;
+    reads_are = λ sources. refl;
     sized = tt;
     moves_are = rw found refl;
   }

@@ -6,13 +6,15 @@ use Rattle.fuse_wire.specs.declared.errno.Errno.{Errno}
 use Rattle.fuse_wire.specs.declared.errno.Errno.TheVariants.{ENOENT, ESTALE}
 use Rattle.fuse_wire.specs.declared.forget.Forget.{Forget}
 use Rattle.fuse_wire.specs.Requests.{NodeOp, Asked}
+use Rattle.image_bytes.specs.Sources.{Source}
+use Rattle.fuse_wire.specs.Told.{Reading}
 use Rattle.fuse_wire.specs.Reads.{items_of}
 use Rattle.fuse_wire.specs.Structures.{init_out, entry_out, negative_entry_out, attr_out, open_out, statfs_out}
 use Rattle.romfs_format.specs.declared.head.Kind.{Kind}
 use Rattle.stack_model.specs.Attributes.{kind_at, is_directory_at}
 use Rattle.stack_model.specs.Numbers.{Place, number, node_of}
 use Rattle.stack_model.specs.Listing.{Stacked}
-use Rattle.table_reader.specs.Readers.{attr_at}
+use Rattle.table_reader.specs.Readers.{attr_at, placed}
 use Rattle.reply_model.specs.declared.moves.Move.{Move}
 use Rattle.reply_model.specs.declared.session.Agreement.{Agreement}
 use Rattle.reply_model.specs.declared.session.Session.{Session}
@@ -21,8 +23,10 @@ use Rattle.reply_model.specs.Lookups.{is_itself, looked_up}
 use Rattle.reply_model.specs.Refusals.{refusal_in, refused_at}
 use Rattle.reply_model.specs.Replies.{answer, answer_at}
 use Rattle.reply_model.specs.Moves.{moved, gives_at, take_back}
+use Rattle.reply_model.specs.Readings.{Sourced, sourced, data_reading, reading_at, reading_in}
 use Rattle.fuse_answer.specs.declared.outcome.Answer.{Answer}
-use Rattle.fuse_answer.specs.declared.outcome.Answer.TheVariants.{Done, Terms, Entry, NoEntry, Attributes, Opened, Data, Totals, Rows, Forgotten, AllForgotten}
+use Rattle.fuse_answer.specs.declared.outcome.FilePart.{FilePart}
+use Rattle.fuse_answer.specs.declared.outcome.Answer.TheVariants.{Done, Terms, Entry, NoEntry, Attributes, Opened, Target, Data, Totals, Rows, Forgotten, AllForgotten}
 use Rattle.fuse_answer.specs.Listings.{listed_data, listed_moves, IsWhole}
 
 -- the data of an answer
@@ -33,11 +37,17 @@ answer_data stack (Entry attr) = entry_out attr
 answer_data stack NoEntry = negative_entry_out
 answer_data stack (Attributes attr) = attr_out attr
 answer_data stack (Opened flags) = open_out flags
-answer_data stack (Data bytes) = bytes.now
+answer_data stack (Target bytes) = bytes.now
+answer_data stack (Data part) = part.bytes.now
 answer_data stack (Totals blocks nodes) = statfs_out blocks nodes
 answer_data stack (Rows listing) = listed_data stack listing
 answer_data stack (Forgotten forget) = []
 answer_data stack (AllForgotten items) = []
+
+-- what they are read from
+abbrev pub answer_reading : {A : Type 0} → Sourced → Answer A → Option Reading
+answer_reading by (Data part) = data_reading by part.offset (placed part.node.now.place)
+answer_reading by _ = None
 
 -- what is taken back of the nodes that are in use
 abbrev pub taken_back : Stacked → List Forget → List Move
@@ -69,9 +79,15 @@ abbrev pub TellsEntry : {A : Type 0} → Stacked → ℕ → Result (Answer A) E
 TellsEntry stack node result =
     MatchOption (attr_at stack node) (result ≡ Err ENOENT) (λ attr. result ≡ Ok (Entry attr))
 
+-- its bytes are no more than a reply's header can say, and begin where a file may have some
+abbrev pub IsInFile : FilePart → Type 0
+IsInFile part =
+    (16 + length part.bytes.now < 2 ^ 32) × (0 < length part.bytes.now → part.offset < 2 ^ 32)
+
 -- its data has a length that a reply's header can say
 abbrev pub IsSized : {A : Type 0} → Stacked → Answer A → Type 0
-IsSized stack (Data bytes) = 16 + length bytes.now < 2 ^ 32
+IsSized stack (Target bytes) = 16 + length bytes.now < 2 ^ 32
+IsSized stack (Data part) = IsInFile part
 IsSized stack (Rows listing) = IsWhole listing
 IsSized stack _ = Unit {0}
 
@@ -80,6 +96,8 @@ pub record IsAnswerAt {A : Type 0} (stack : Stacked) (agreed : Agreement) (op : 
     (a : Answer A) : Type 0 where
   pub taken : refused_at stack agreed op p ≡ None
   pub data_is : answer_data stack a ≡ answer_at stack agreed op p
+  pub reads_are : (sources : List Source)
+      → answer_reading (sourced stack sources) a ≡ reading_at (sourced stack sources) op p
   pub sized : IsSized stack a
   pub moves_are : answer_moves stack a ≡ gives_at stack agreed op p
 
@@ -96,6 +114,8 @@ pub record IsAnswer {A : Type 0} (stack : Stacked) (fresh : Bool) (agreed : Agre
     (a : Answer A) : Type 0 where
   pub taken : refusal_in stack fresh agreed q.node q.op ≡ None
   pub data_is : answer_data stack a ≡ answer stack agreed q.node q.op
+  pub reads_are : (sources : List Source)
+      → answer_reading (sourced stack sources) a ≡ reading_in (sourced stack sources) q.node q.op
   pub sized : IsSized stack a
   pub moves_are : answer_moves stack a ≡ moved stack agreed q.node q.op
 

@@ -1,13 +1,19 @@
 -- What a call leaves of replies or of a vector that it appends to, and of balances.
-use Rattle.std.specs.Prelude.{◌≡◌, ◌+◌, ◌<◌, ◌≤◌, ◌^◌, ℤ, unsigned_abs, List, ◌++◌, length, Result, OnOk, OnErr, vec_len, vec_capacity}
+use Rattle.std.specs.Prelude.{◌≡◌, ◌+◌, ◌<◌, ◌≤◌, ◌^◌, ℤ, unsigned_abs, List, ◌++◌, length, map, Result, OnOk, OnErr, vec_len, vec_capacity}
 use Rattle.std.specs.List.{All}
 use Rattle.std.specs.declared.vec.Vec.{Vec}
+use Rattle.image_bytes.specs.Sources.{Source}
+use Rattle.fuse_wire.specs.Appends.{Filled}
+use Rattle.fuse_wire.specs.Told.{AppendsTold}
 use Rattle.fuse_wire.specs.Requests.{Asked}
 use Rattle.stack_model.specs.Listing.{Stacked}
 use Rattle.reply_model.specs.declared.moves.Move.{Move}
 use Rattle.reply_model.specs.declared.session.Session.{Session}
 use Rattle.reply_model.specs.Moves.{moves}
+use Rattle.reply_model.specs.Replies.{reply}
+use Rattle.reply_model.specs.Readings.{Sourced, sourced, reading_of}
 use Rattle.lookup_balances.specs.Balances.{IsMoved}
+use Rattle.fuse_answer.specs.declared.served.Served.{Served}
 
 -- the call appends exactly these; or, where the vector has no room for them and gets none, nothing
 abbrev pub Puts : {X A E : Type 0} → Result (Unit {0}) E → Vec X A → Vec X A → List X → Type 0
@@ -29,6 +35,17 @@ Grows {X = X} result before after appended =
 -- no move is of more lookups than 64 bits say
 abbrev pub AreSmall : List Move → Type 0
 AreSmall moves = All (λ m. unsigned_abs m.amount ≤ 2 ^ 64) moves
+
+-- the stack of a table, and what its files may give
+abbrev pub sourced_by : {A D : Type 0} → (D → Source) → Served A D → Sourced
+sourced_by source served = sourced served.table.now (map source served.files.now)
+
+-- what may be told as the reply to a request is appended; or, where there is no room for it,
+-- nothing
+abbrev pub PutsReply : {E : Type 0} → Sourced → Session → Asked → Result (Unit {0}) E → Filled
+    → Filled → Type 0
+PutsReply by s q result before after =
+    AppendsTold result before after (reading_of by q) q.unique (reply by.stack s q)
 
 -- what a request over a stack moves is appended; or, where there is no room for it, nothing
 abbrev pub PutsMoves : {A E : Type 0} → Stacked → Session → Asked → Result (Unit {0}) E → Vec Move A

@@ -19,10 +19,12 @@ mod node;
 mod outcome;
 mod replies;
 mod rows;
+mod served;
 mod sessions;
 mod write;
 
 pub use move_list::moves;
 pub use replies::{answer, answer_and_move};
 pub use reply_model::{Move, Session};
+pub use served::Served;
 pub use sessions::after;

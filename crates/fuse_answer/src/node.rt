@@ -1,11 +1,11 @@
 //! Requests about one node.
 
-ghost use Rattle.std.specs.Prelude.{◌≡◌, take, drop};
+ghost use Rattle.std.specs.Prelude.{◌≡◌, ◌<◌, ◌≤◌, length, take, drop};
 ghost use Rattle.fuse_wire.specs.Requests.{getattr, readlink, open_file, opendir, read};
 ghost use Rattle.reply_model.specs.Services.{opendir_flags};
 ghost use Rattle.fuse_answer.specs.Answers.{DecidesAt, TellsKind};
 
-use crate::outcome::Answer;
+use crate::outcome::{Answer, FilePart};
 use fuse_wire::Errno;
 use fuse_wire::flags::{FOPEN_CACHE_DIR, FOPEN_KEEP_CACHE};
 use fuse_wire::limits::MAX_DATA_SIZE;
@@ -39,7 +39,7 @@ pub(crate) fn read_link<'a, A: Allocator>(
     ensures { DecidesAt table.now agreed number readlink result }
 {
     match kind_of(table, number)? {
-        Kind::SymLink => Ok(Answer::Data(table.bytes(number))),
+        Kind::SymLink => Ok(Answer::Target(table.bytes(number))),
         _ => Err(Errno::EINVAL),
     }
 }
@@ -92,10 +92,15 @@ pub(crate) fn read<'a, A: Allocator>(
 ) -> Result<Answer<'a, A>, Errno>
     ensures { DecidesAt table.now agreed number (read offset size) result }
 {
-    match kind_of(table, number)? {
-        Kind::Regular if size <= MAX_DATA_SIZE => {
-            Ok(Answer::Data(part(table.bytes(number), offset, size)))
-        }
+    let Some(node) = table.node(number) else {
+        return Err(Errno::ESTALE);
+    };
+    match node.kind {
+        Kind::Regular if size <= MAX_DATA_SIZE => Ok(Answer::Data(FilePart {
+            node,
+            offset,
+            bytes: part(table.bytes(number), offset, size),
+        })),
         Kind::Directory => Err(Errno::EISDIR),
         _ => Err(Errno::EINVAL),
     }
@@ -127,7 +132,9 @@ fn opendir_flags(lasting: bool) -> u32
 // The bytes from the offset on, at most as many as the size.
 #[inline(always)]
 fn part(bytes: &[u8], offset: u64, size: u32) -> &[u8]
-    ensures { result.now ≡ take size (drop offset bytes.now) }
+    ensures bytes { result.now ≡ take size (drop offset bytes.now) }
+    ensures near { 0 < length result.now → offset < length bytes.now }
+    ensures few { length result.now ≤ length bytes.now }
 {
     if offset >= bytes.len() as u64 {
         return &[];

@@ -4,6 +4,18 @@ use crate::listing::Listing;
 use fuse_wire::forget::{Forget, Forgets};
 use fuse_wire::{Attr, InitOut};
 use std::alloc::Allocator;
+use table_reader::Node;
+
+/// Some of a file's data.
+#[derive(Clone, Copy)]
+pub(crate) struct FilePart<'a> {
+    /// The file.
+    pub node: &'a Node,
+    /// How many of its bytes stand before them.
+    pub offset: u64,
+    /// The bytes, as the table holds them.
+    pub bytes: &'a [u8],
+}
 
 /// What a request is answered that is not refused.
 #[derive(Drop)]
@@ -20,8 +32,10 @@ pub(crate) enum Answer<'a, A: Allocator> {
     Attributes(Attr),
     /// A file or directory that was opened, with these flags.
     Opened(u32),
-    /// Bytes of a file, or a link's target.
-    Data(&'a [u8]),
+    /// A link's target.
+    Target(&'a [u8]),
+    /// Bytes of a file.
+    Data(FilePart<'a>),
     /// The blocks and the nodes of the whole tree.
     Totals { blocks: u64, nodes: u64 },
     /// Rows of a directory.

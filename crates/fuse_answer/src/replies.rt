@@ -1,23 +1,24 @@
 //! One request's reply.
 
 ghost use Rattle.fuse_wire.specs.Reads.{asked_of, op_said};
-ghost use Rattle.fuse_wire.specs.Appends.{Appends};
 ghost use Rattle.reply_model.specs.Moves.{moves};
-ghost use Rattle.reply_model.specs.Replies.{is_silent, reply};
+ghost use Rattle.reply_model.specs.Replies.{is_silent};
 ghost use Rattle.fuse_answer.specs.Answers.{Decides};
 ghost use Rattle.std.specs.Prelude.{◌≡◌, ◌^◌};
 ghost use Rattle.lookup_balances.specs.Balances.{AreWithin};
-ghost use Rattle.fuse_answer.specs.Puts.{AddsMoves};
+ghost use Rattle.fuse_answer.specs.Puts.{AddsMoves, PutsReply, sourced_by};
 
 use crate::balances::add_answer_moves;
 use crate::decide::decide;
 use crate::outcome::Answer;
 use crate::rows::put_rows_and_move;
+use crate::served::Served;
 use crate::write::write;
 use fuse_wire::{Errno, Op, Replies, Request, opcode, put_error};
+use image_bytes::Contents;
 use reply_model::Session;
 use std::alloc::{AllocError, Allocator};
-use table_reader::{Guess, Table};
+use table_reader::Guess;
 
 // A request, the session before it, and a guess of the row that it finds.
 #[derive(Clone, Copy)]
@@ -28,26 +29,22 @@ struct InSession<'r, 'b> {
 }
 
 /// Appends the reply to a request: nothing for FORGET, BATCH_FORGET and INTERRUPT, else a header
-/// with the data of the answer, or with the error that refuses the request.
+/// with the data of the answer, or with the error that refuses the request. Data that stay in a
+/// file are read into the reply; where they cannot be had whole, it is EIO's.
 ///
 /// The session is the one before the request ([`after`](crate::after) says the next). `AllocError`
 /// comes only where there was no room for the reply and none was got; all is then as before.
-pub fn answer<A: Allocator, O: Allocator>(
-    table: &Table<A>,
+pub fn answer<A: Allocator, D: Contents, O: Allocator>(
+    served: Served<'_, A, D>,
     session: Session,
     request: &Request<'_>,
     out: &mut Replies<O>,
 ) -> Result<(), AllocError>
-    ensures { Appends result out.old out.new
-        (reply table.now session (asked_of request.now)) }
+    ensures { PutsReply (sourced_by D.source served.entry) session (asked_of request.now) result
+        out.old out.new }
 {
-    tell(
-        table,
-        session,
-        request,
-        &decide(table, session, request, Guess::Unknown),
-        out,
-    )
+    let decided = decide(served.table, session, request, Guess::Unknown);
+    tell(served, session, request, &decided, out)
 }
 
 /// Appends the reply to a request, as [`answer`] does, and adds what the request gives and takes to
@@ -59,8 +56,8 @@ pub fn answer<A: Allocator, O: Allocator>(
 /// `AllocError` comes only where there was no room for the reply and none was got; the replies and
 /// the balances are then as before.
 #[inline(always)]
-pub fn answer_and_move<A: Allocator, O: Allocator>(
-    table: &Table<A>,
+pub fn answer_and_move<A: Allocator, D: Contents, O: Allocator>(
+    served: Served<'_, A, D>,
     session: Session,
     request: &Request<'_>,
     guess: Guess,
@@ -68,9 +65,9 @@ pub fn answer_and_move<A: Allocator, O: Allocator>(
     balances: &mut [i128],
 ) -> Result<(), AllocError>
     requires { AreWithin (2 ^ 123) balances.old }
-    ensures reply { Appends result out.old out.new
-        (reply table.now session (asked_of request.now)) }
-    ensures moves { AddsMoves (moves table.now session (asked_of request.now)) result
+    ensures reply { PutsReply (sourced_by D.source served.entry) session (asked_of request.now)
+        result out.old out.new }
+    ensures moves { AddsMoves (moves served.entry.table.now session (asked_of request.now)) result
         balances.old balances.new }
 {
     let asked = InSession {
@@ -79,32 +76,32 @@ pub fn answer_and_move<A: Allocator, O: Allocator>(
         guess,
     };
     match request.op {
-        Op::Lookup { .. } => settle(table, asked, out, balances),
-        Op::Getattr => settle(table, asked, out, balances),
-        Op::Open { .. } => settle(table, asked, out, balances),
-        Op::Read { .. } => settle(table, asked, out, balances),
-        Op::Flush => settle(table, asked, out, balances),
-        Op::Release => settle(table, asked, out, balances),
-        Op::Forget { .. } => settle(table, asked, out, balances),
-        Op::Readdirplus { .. } => settle(table, asked, out, balances),
-        _ => settle(table, asked, out, balances),
+        Op::Lookup { .. } => settle(served, asked, out, balances),
+        Op::Getattr => settle(served, asked, out, balances),
+        Op::Open { .. } => settle(served, asked, out, balances),
+        Op::Read { .. } => settle(served, asked, out, balances),
+        Op::Flush => settle(served, asked, out, balances),
+        Op::Release => settle(served, asked, out, balances),
+        Op::Forget { .. } => settle(served, asked, out, balances),
+        Op::Readdirplus { .. } => settle(served, asked, out, balances),
+        _ => settle(served, asked, out, balances),
     }
 }
 
 // The same. It is laid out anew at each call: for the requests that are asked most there is code of
 // their own, in which nothing is left of what other requests are answered.
 #[inline(always)]
-fn settle<A: Allocator, O: Allocator>(
-    table: &Table<A>,
+fn settle<A: Allocator, D: Contents, O: Allocator>(
+    served: Served<'_, A, D>,
     asked: InSession<'_, '_>,
     out: &mut Replies<O>,
     balances: &mut [i128],
 ) -> Result<(), AllocError>
     requires { AreWithin (2 ^ 123) balances.old }
-    ensures reply { Appends result out.old out.new
-        (reply table.now asked.entry.session (asked_of asked.entry.request.now)) }
+    ensures reply { PutsReply (sourced_by D.source served.entry) asked.entry.session
+        (asked_of asked.entry.request.now) result out.old out.new }
     ensures moves { AddsMoves
-        (moves table.now asked.entry.session (asked_of asked.entry.request.now)) result
+        (moves served.entry.table.now asked.entry.session (asked_of asked.entry.request.now)) result
         balances.old balances.new }
 {
     let InSession {
@@ -112,39 +109,39 @@ fn settle<A: Allocator, O: Allocator>(
         request,
         guess,
     } = asked;
-    let decided = decide(table, session, request, guess);
+    let decided = decide(served.table, session, request, guess);
     // rows are added to balances as they are put; no request without a reply has any, which nothing
     // says here
     if let Ok(Answer::Rows(rows)) = &decided {
         if !is_silent(&request.op) {
-            return put_rows_and_move(table, request.unique, rows, out, balances);
+            return put_rows_and_move(served.table, request.unique, rows, out, balances);
         }
     }
-    tell(table, session, request, &decided, out)?;
+    tell(served, session, request, &decided, out)?;
     if let Ok(answer) = decided {
-        add_answer_moves(table, &answer, balances);
+        add_answer_moves(served.table, &answer, balances);
     }
     Ok(())
 }
 
 // Appends the reply to a request on which this was decided.
 #[inline(always)]
-fn tell<A: Allocator, O: Allocator>(
-    table: &Table<A>,
+fn tell<A: Allocator, D: Contents, O: Allocator>(
+    served: Served<'_, A, D>,
     session: Session,
     request: &Request<'_>,
     decided: &Result<Answer<'_, A>, Errno>,
     out: &mut Replies<O>,
 ) -> Result<(), AllocError>
-    requires { Decides table.now session (asked_of request.now) decided.now }
-    ensures { Appends result out.old out.new
-        (reply table.now session (asked_of request.now)) }
+    requires { Decides served.table.now session (asked_of request.now) decided.now }
+    ensures { PutsReply (sourced_by D.source served.entry) session (asked_of request.now) result
+        out.old out.new }
 {
     if is_silent(&request.op) {
         return Ok(());
     }
     match decided {
-        Ok(answer) => write(table, request.unique, answer, out),
+        Ok(answer) => write(served, request.unique, answer, out),
         Err(errno) => put_error(out, request.unique, *errno),
     }
 }

@@ -19,9 +19,13 @@ pub record Sourced : Type 0 where
   pub stack : Stacked
   pub sources : List Source
 
+-- the same, of its parts
+abbrev pub sourced : Stacked → List Source → Sourced
+sourced stack sources = record { stack = stack; sources = sources }
+
 -- a stack whose layers are all held
 abbrev pub in_memory : Stacked → Sourced
-in_memory stack = record { stack = stack; sources = [] }
+in_memory stack = sourced stack []
 
 module _ (by : Sourced) where
   -- data from an offset on, of the file at a place, are read from its layer's source
@@ -47,7 +51,7 @@ module _ (by : Sourced) where
 abbrev pub reading_from : Stacked → List Source → Asked → Option Reading
 reading_from stack [] q = None
 reading_from stack (source ∷ sources) q =
-    reading_in (record { stack = stack; sources = source ∷ sources }) q.node q.op
+    reading_in (sourced stack (source ∷ sources)) q.node q.op
 
 -- the same, over a stack with its sources
 abbrev pub reading_of : Sourced → Asked → Option Reading

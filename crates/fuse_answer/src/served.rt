@@ -1,0 +1,34 @@
+//! What requests are answered over.
+
+ghost use Rattle.std.specs.Prelude.{◌≡◌, []};
+
+use image_bytes::InMemory;
+use std::alloc::{AllocError, Allocator};
+use table_reader::Table;
+
+/// The table of a stack, and beside it the files in which its layers' data stay, the lowest first.
+///
+/// The data of a layer that has a file here are read from it when they are asked for; of any other
+/// layer they are those that the table holds.
+pub struct Served<'a, A: Allocator, D> {
+    pub table: &'a Table<A>,
+    pub files: &'a [D],
+}
+
+impl<'a, A: Allocator, D> Clone for Served<'a, A, D> {
+    fn clone(&self) -> Result<Self, AllocError> {
+        Ok(*self)
+    }
+}
+
+impl<'a, A: Allocator, D> Copy for Served<'a, A, D> {}
+
+impl<'a, A: Allocator> Served<'a, A, InMemory<'a>> {
+    /// A table that holds all data.
+    pub fn held(table: &'a Table<A>) -> Self
+        ensures table { result.table.now ≡ table.now }
+        ensures files { result.files.now ≡ [] }
+    {
+        Served { table, files: &[] }
+    }
+}
