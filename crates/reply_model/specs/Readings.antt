@@ -4,10 +4,12 @@ use Rattle.std.specs.Option.{option_map, option_map_or, option_and_then}
 use Rattle.image_bytes.specs.Sources.{Source}
 use Rattle.romfs_format.specs.Fields.{name, data_at}
 use Rattle.fuse_wire.specs.Requests.{NodeOp, Op, Asked, at_node, read}
-use Rattle.fuse_wire.specs.Told.{Reading}
+use Rattle.fuse_wire.specs.Told.{Reading, IsTold}
 use Rattle.stack_model.specs.Listing.{Stacked}
 use Rattle.stack_model.specs.Numbers.{Place, node_of}
 use Rattle.stack_model.specs.Attributes.{layer_of}
+use Rattle.reply_model.specs.declared.session.Session.{Session}
+use Rattle.reply_model.specs.Replies.{reply}
 
 -- where the data of a place begin in its layer
 abbrev pub data_start : List (List ℕ) → Place → ℕ
@@ -56,3 +58,7 @@ reading_from stack (source ∷ sources) q =
 -- the same, over a stack with its sources
 abbrev pub reading_of : Sourced → Asked → Option Reading
 reading_of by q = reading_from by.stack by.sources q
+
+-- these bytes may be told as the reply to a request in a session
+abbrev pub IsReplyOver : Sourced → Session → Asked → List ℕ → Type 0
+IsReplyOver by s q bytes = IsTold (reading_of by q) q.unique (reply by.stack s q) bytes

@@ -1,7 +1,7 @@
--- Jobs in batches, and pieces in the order of their numbers. `all_told` and `all_moved` are the
+-- Jobs in batches, and pieces in the order of their numbers. `all_in` and `all_moved` are the
 -- main lemmas: pieces that each say what their batch says, say together what all jobs say. The
 -- first lemmas are the numbers of batches.
-use Rattle.std.proofs.Common.{lt_of_not-le, mul-le-mul_right, ◌≡◌, ℕ, zero, suc, ◌+◌, ◌-◌, ◌*◌, ◌/◌, ◌<◌, ◌≤◌, List, [], ◌∷◌, ◌++◌, length, take, drop, sym, ap, ◌∙◌, arith, map}
+use Rattle.std.proofs.Common.{lt_of_not-le, mul-le-mul_right, ◌≡◌, ℕ, zero, suc, ◌+◌, ◌-◌, ◌*◌, ◌/◌, ◌<◌, ◌≤◌, List, [], ◌∷◌, ◌++◌, length, take, drop, sym, ap, subst, ◌∙◌, arith, map}
 use mathlib.Core.Logic.{dite}
 use native.Mathlib.Decide.{dec_le}
 use Rattle.std.specs.List.{All, flat_map, range_with_len}
@@ -57,23 +57,25 @@ tail_is : (x y : ℕ) (xs ys : List ℕ) → x ∷ xs ≡ y ∷ ys → xs ≡ ys
 tail_is x y xs ys e = cc
 
 module _ {P X : Type 0} (number : P → ℕ) (size : ℕ) (jobs : List X) where
-  -- what pieces in the order of their numbers say of their batches is what all jobs say
-  pub all_told : {Y : Type 0} (put : P → List Y) (told : X → List Y) (l : List P) (k n : ℕ) → map number l ≡ range_with_len k n
-      → All (λ p. put p ≡ flat_map told (part size jobs (number p))) l → length jobs ≤ (k + n) * size
-      → flat_map put l ≡ flat_map told (drop (k * size) jobs)
-  all_told put told [] k zero same each h = sym (ap (flat_map told) (nothing_left size jobs k h))
-  all_told put told [] k (suc n) same each h = absurd (cc)
-  all_told put told (p ∷ l) k zero same each h = absurd (cc)
-  all_told put told (p ∷ l) k (suc n) same each h =
+  -- pieces that each stand in a relation to their batch stand together in it to all jobs, where it goes over to lists put together
+  pub all_in : {Y : Type 0} (Is : List X → List Y → Type 0) (none : Is [] [])
+      (on : (xs ys : List X) (a b : List Y) → Is xs a → Is ys b → Is (xs ++ ys) (a ++ b)) (put : P → List Y) (l : List P) (k n : ℕ)
+      → map number l ≡ range_with_len k n
+      → All (λ p. Is (part size jobs (number p)) (put p)) l → length jobs ≤ (k + n) * size
+      → Is (drop (k * size) jobs) (flat_map put l)
+  all_in Is none on put [] k zero same each h = subst (λ xs. Is xs []) (sym (nothing_left size jobs k h)) none
+  all_in Is none on put [] k (suc n) same each h = absurd (cc)
+  all_in Is none on put (p ∷ l) k zero same each h = absurd (cc)
+  all_in Is none on put (p ∷ l) k (suc n) same each h =
       let first = head_is (number p) k (map number l) (range_with_len (k + 1) n) same in
       let rest = tail_is (number p) k (map number l) (range_with_len (k + 1) n) same in
       let further = ap (λ (m : ℕ). m * size) (let z : k + suc n ≡ k + 1 + n = omega arith in z) in
-      let own = All-head (λ p. put p ≡ flat_map told (part size jobs (number p))) p l each
-      ∙ ap (λ (m : ℕ). flat_map told (part size jobs m)) first in
-      let others = all_told put told l (k + 1) n rest (All-tail (λ p. put p ≡ flat_map told (part size jobs (number p))) p l each)
+      let own = subst (λ (m : ℕ). Is (part size jobs m) (put p)) first
+      (All-head (λ p. Is (part size jobs (number p)) (put p)) p l each) in
+      let others = all_in Is none on put l (k + 1) n rest (All-tail (λ p. Is (part size jobs (number p)) (put p)) p l each)
       (omega arith) in
-      ap (λ ys. ys ++ flat_map put l) own ∙ ap (λ ys. flat_map told (part size jobs k) ++ ys) others
-      ∙ sym (ap (flat_map told) (next_part size jobs k) ∙ flat_map-append told (part size jobs k) (drop ((k + 1) * size) jobs))
+      subst (λ xs. Is xs (flat_map put (p ∷ l))) (sym (next_part size jobs k))
+      (on (part size jobs k) (drop ((k + 1) * size) jobs) (put p) (flat_map put l) own others)
 
   -- what they move is what all jobs move
   pub all_moved : (put : P → List Move) (told : X → List Move) (node : ℕ) (l : List P) (k n : ℕ) → map number l ≡ range_with_len k n

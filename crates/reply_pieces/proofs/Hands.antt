@@ -1,7 +1,7 @@
 -- Pieces and the hands that drew their numbers. A worker's pieces have the numbers of its hand; so
 -- have those of joined hands (`both_all`), and of the last hand each number once. So `every_batch`
 -- answers all, and `rounds` makes a round of it.
-use Rattle.std.proofs.Common.{◌≡◌, ℕ, zero, suc, nat_lt, cond, lt-ltb, le-ltb, lt_of_not-le, append-nil, Option, Some, None, ◌^◌, ◌+◌, ◌*◌, ◌<◌, ◌≤◌, max, List, [], ◌∷◌, ◌++◌, length, drop, sym, ap, subst, ◌∙◌, arith, Result, Ok, Err, IfOk, Vec}
+use Rattle.std.proofs.Common.{◌≡◌, ℕ, zero, suc, nat_lt, cond, lt-ltb, le-ltb, lt_of_not-le, append-nil, Option, Some, None, ◌^◌, ◌+◌, ◌*◌, ◌<◌, ◌≤◌, max, List, [], ◌∷◌, ◌++◌, length, drop, sym, ap, subst, refl, ◌∙◌, arith, Result, Ok, Err, IfOk, Vec}
 use Rattle.fuse_wire.specs.Appends.{Filled}
 use Rattle.std.specs.List.{All, flat_map, range_with_len}
 use mathlib.Core.Logic.{dite}
@@ -17,19 +17,20 @@ use Rattle.draw_board.specs.Counter.{draw_answer}
 use Rattle.draw_board.specs.Hands.{positions, seen_below, total_of}
 use Rattle.draw_board.specs.Positions.{Unites, numbers, times}
 use Rattle.draw_board.proofs.Numbers.{all_numbers, both_numbers}
-use Rattle.stack_model.specs.Listing.{Stacked}
+use Rattle.reply_model.specs.Readings.{Sourced}
 use Rattle.reply_model.specs.declared.moves.Move.{Move}
 use Rattle.reply_model.specs.Moves.{balance}
 use Rattle.lookup_balances.specs.Balances.{weight}
 use Rattle.reply_pieces.specs.declared.pieces.Rounded.{Rounded}
 use Rattle.reply_pieces.specs.declared.pieces.Piece.{Piece}
 use Rattle.reply_pieces.specs.Batches.{AreEachOnce, AreLight, AreOrdered, IsJoined, IsPiece, batch_of, batches, numbers_of}
-use Rattle.reply_pieces.specs.Jobs.{IsRounded, Job, moved_by, reply_to}
+use Rattle.reply_pieces.specs.Jobs.{AreReplied, IsRounded, Job, moved_by}
 use Rattle.reply_pieces.specs.Spread.{AnswerAll}
 use Rattle.reply_pieces.specs.Sums.{AreSums}
 use Rattle.reply_pieces.specs.Workers.{AreBoth, AreOf, AreWhole, HasAll, HasWorked, IsLast, WorksAlone, begins, gives, works, takes}
-use Rattle.reply_pieces.proofs.Batched.{all_moved, all_told, reaches_end, weight_all}
+use Rattle.reply_pieces.proofs.Batched.{all_in, all_moved, reaches_end, weight_all}
 use Rattle.reply_pieces.proofs.Each.{in_order, one}
+use Rattle.reply_pieces.proofs.Told.{both_replied}
 
 -- a number stands in two lists as often as in the one and in the other
 pub times-append : (x : ℕ) (xs ys : List ℕ) → times x (xs ++ ys) ≡ times x xs + times x ys
@@ -139,57 +140,60 @@ module _ {A : Type 0} where
   light_both (Ok v) (Ok x) (Ok y) m p q =
       subst AreLight (sym m) (All-append (λ (p : Piece A). weight p.moves.items ≤ 2 ^ 104) x.items y.items p q)
 
-  module _ (stack : Stacked) (jobs : List Job) (size : ℕ) where
+  module _ (by : Sourced) (jobs : List Job) (size : ℕ) where
     -- what a batch is answered with is a piece of its number
-    pub piece_of : (rounded : Rounded A) (piece : Piece A) (js : List Job) → IsRounded stack js rounded
+    pub piece_of : (rounded : Rounded A) (piece : Piece A) (js : List Job) → IsRounded by js rounded
         → js ≡ batch_of size piece.number jobs
-        → piece.bytes ≡ rounded.bytes → piece.moves ≡ rounded.moves → IsPiece stack jobs size piece
+        → piece.bytes ≡ rounded.bytes → piece.moves ≡ rounded.moves → IsPiece by jobs size piece
     piece_of rounded piece js told is bytes moves = record {
-      replies = ap (λ (v : Filled). v.items) bytes ∙ told.replies ∙ ap (flat_map (reply_to stack)) is;
-      sums = subst (λ (v : Vec Move A). AreSums (flat_map (moved_by stack) (batch_of size piece.number jobs)) v.items) (sym moves)
-          (subst (λ (bs : List Job). AreSums (flat_map (moved_by stack) bs) rounded.moves.items) is told.sums);
+      replies = subst (λ (v : Filled). AreReplied by (batch_of size piece.number jobs) v.items) (sym bytes)
+          (subst (λ (bs : List Job). AreReplied by bs rounded.bytes.items) is told.replies);
+      sums = subst (λ (v : Vec Move A). AreSums (flat_map (moved_by by.stack) (batch_of size piece.number jobs)) v.items) (sym moves)
+          (subst (λ (bs : List Job). AreSums (flat_map (moved_by by.stack) bs) rounded.moves.items) is told.sums);
     }
 
     -- the pieces in order move what all jobs move
-    pub all_move : (pieces ordered : List (Piece A)) (node : ℕ) → 1 ≤ size → All (IsPiece stack jobs size) pieces
+    pub all_move : (pieces ordered : List (Piece A)) (node : ℕ) → 1 ≤ size → All (IsPiece by jobs size) pieces
         → ((x : ℕ) → times x (numbers_of pieces) ≡ times x (range_with_len 0 (batches size (length jobs)))) → AreOrdered pieces ordered
-        → balance node (flat_map (λ (p : Piece A). p.moves.items) ordered) ≡ balance node (flat_map (moved_by stack) jobs)
+        → balance node (flat_map (λ (p : Piece A). p.moves.items) ordered) ≡ balance node (flat_map (moved_by by.stack) jobs)
     all_move pieces ordered node some each once o =
-        all_moved number size jobs (λ (p : Piece A). p.moves.items) (moved_by stack) node ordered 0 (batches size (length jobs))
+        all_moved number size jobs (λ (p : Piece A). p.moves.items) (moved_by by.stack) node ordered 0 (batches size (length jobs))
         (ordered_numbers pieces ordered (batches size (length jobs)) once o)
-        (All-weaker (IsPiece stack jobs size) _ (λ p is. is.sums.each node) ordered
-        (All-permutation (IsPiece stack jobs size) pieces ordered o.same each))
-        (all_reached jobs size some) ∙ ap (λ (js : List Job). balance node (flat_map (moved_by stack) js)) (all_jobs jobs size)
+        (All-weaker (IsPiece by jobs size) _ (λ p is. is.sums.each node) ordered
+        (All-permutation (IsPiece by jobs size) pieces ordered o.same each))
+        (all_reached jobs size some) ∙ ap (λ (js : List Job). balance node (flat_map (moved_by by.stack) js)) (all_jobs jobs size)
 
     -- the pieces in order reply to all jobs, and move what these move
-    pub whole : (pieces : List (Piece A)) → 1 ≤ size → All (IsPiece stack jobs size) pieces
+    pub whole : (pieces : List (Piece A)) → 1 ≤ size → All (IsPiece by jobs size) pieces
         → ((x : ℕ) → times x (numbers_of pieces) ≡ times x (range_with_len 0 (batches size (length jobs))))
-        → AreWhole stack jobs size pieces
+        → AreWhole by jobs size pieces
     whole pieces some each once = record {
       once = once;
-      replies = λ ordered o. (all_told number size jobs (λ (p : Piece A). p.bytes.items) (reply_to stack) ordered 0
+      replies = λ ordered o. (subst (λ (js : List Job). AreReplied by js (flat_map (λ (p : Piece A). p.bytes.items) ordered))
+          (all_jobs jobs size)
+          (all_in number size jobs (AreReplied by) refl (both_replied by) (λ (p : Piece A). p.bytes.items) ordered 0
           (batches size (length jobs))
           (ordered_numbers pieces ordered (batches size (length jobs)) once o)
-          (All-weaker (IsPiece stack jobs size) _ (λ p is. is.replies) ordered
-          (All-permutation (IsPiece stack jobs size) pieces ordered o.same each))
-          (all_reached jobs size some) ∙ ap (flat_map (reply_to stack)) (all_jobs jobs size));
+          (All-weaker (IsPiece by jobs size) _ (λ p is. is.replies) ordered
+          (All-permutation (IsPiece by jobs size) pieces ordered o.same each))
+          (all_reached jobs size some)));
       moves = λ ordered o node. all_move pieces ordered node some each once o;
     }
 
     -- jobs without a batch want no piece
-    pub no_batch : (pieces : List (Piece A)) → pieces ≡ [] → batches size (length jobs) ≡ 0 → AnswerAll stack jobs size pieces
-    no_batch pieces none no_number = subst (AnswerAll stack jobs size) (sym none) (record {
+    pub no_batch : (pieces : List (Piece A)) → pieces ≡ [] → batches size (length jobs) ≡ 0 → AnswerAll by jobs size pieces
+    no_batch pieces none no_number = subst (AnswerAll by jobs size) (sym none) (record {
       once = λ x. ap (λ (n : ℕ). times x (range_with_len 0 n)) (sym no_number);
-      answered = All-nil (IsPiece stack jobs size);
+      answered = All-nil (IsPiece by jobs size);
       light = All-nil (λ (p : Piece A). weight p.moves.items ≤ 2 ^ 104);
     })
 
     -- pieces that are put in order come to the round of all jobs
-    pub rounds : (pieces : List (Piece A)) (rounded : Rounded A) → 1 ≤ size → All (IsPiece stack jobs size) pieces
+    pub rounds : (pieces : List (Piece A)) (rounded : Rounded A) → 1 ≤ size → All (IsPiece by jobs size) pieces
         → ((x : ℕ) → times x (numbers_of pieces) ≡ times x (range_with_len 0 (batches size (length jobs)))) → IsJoined pieces rounded
-        → IsRounded stack jobs rounded
+        → IsRounded by jobs rounded
     rounds pieces rounded some each once joined = record {
-      replies = joined.bytes ∙ (whole pieces some each once).replies joined.ordered joined.order;
+      replies = subst (AreReplied by jobs) (sym joined.bytes) ((whole pieces some each once).replies joined.ordered joined.order);
       sums = record {
         ascending = joined.moves.ascending;
         each = λ node. (joined.moves.each node ∙ all_move pieces joined.ordered node some each once joined.order);
@@ -199,8 +203,8 @@ module _ {A : Type 0} where
 
     module _ {B : Type 0} (board : Board B) where
       -- a worker whose hand had drawn nothing has the pieces of its hand
-      pub fresh_all : (old new : Hand) (pieces : List (Piece A)) → positions old ≡ [] → HasWorked stack jobs size board old new pieces
-          → HasAll stack jobs size board new pieces
+      pub fresh_all : (old new : Hand) (pieces : List (Piece A)) → positions old ≡ [] → HasWorked by jobs size board old new pieces
+          → HasAll by jobs size board new pieces
       fresh_all old new pieces fresh w = record {
         of_hand = record {
           told = λ x. ap (times x) (w.told ∙ ap (numbers (total_of board)) (sym (w.drawn ∙ ap (λ (ps : List ℕ). ps ++ w.added) fresh)));
@@ -211,34 +215,34 @@ module _ {A : Type 0} where
 
       -- the pieces of two hands are those of the hand that they become
       pub both_of : (mine others new : Hand) (xs ys : List (Piece A)) → Unites (positions mine) (positions others) (positions new)
-          → AreOf stack jobs size board mine xs → AreOf stack jobs size board others ys → AreOf stack jobs size board new (xs ++ ys)
+          → AreOf by jobs size board mine xs → AreOf by jobs size board others ys → AreOf by jobs size board new (xs ++ ys)
       both_of mine others new xs ys u a b = record {
         told = λ x. (let e = parts_told x xs ys in let f = a.told x in let g = b.told x in
             let h = both_numbers (total_of board) x (positions mine) (positions others) (positions new) u in omega arith);
-        answered = All-append (IsPiece stack jobs size) xs ys a.answered b.answered;
+        answered = All-append (IsPiece by jobs size) xs ys a.answered b.answered;
       }
 
       -- and where both have all theirs, it has all of its own
       pub both_all : {E : Type 0} (mine others new : Hand) (r a b : Result (Vec (Piece A) A) E) → Unites (positions mine) (positions others)
           (positions new)
           → seen_below new ≡ max (seen_below mine) (seen_below others) → IfOk r (λ v. AreBoth a b v.items)
-          → IfOk a (λ v. HasAll stack jobs size board mine v.items) → IfOk b (λ v. HasAll stack jobs size board others v.items)
-          → IfOk r (λ v. HasAll stack jobs size board new v.items)
+          → IfOk a (λ v. HasAll by jobs size board mine v.items) → IfOk b (λ v. HasAll by jobs size board others v.items)
+          → IfOk r (λ v. HasAll by jobs size board new v.items)
       both_all mine others new (Err e) a b u s m p q = tt
       both_all mine others new (Ok v) (Err e) b u s m p q = absurd m
       both_all mine others new (Ok v) (Ok x) (Err e) u s m p q = absurd m
-      both_all mine others new (Ok v) (Ok x) (Ok y) u s m p q = subst (HasAll stack jobs size board new) (sym m) (record {
+      both_all mine others new (Ok v) (Ok x) (Ok y) u s m p q = subst (HasAll by jobs size board new) (sym m) (record {
         of_hand = both_of mine others new x.items y.items u p.of_hand q.of_hand;
         every = (let e = p.every in omega arith);
       })
 
       -- a hand that works alone has its pieces, and has seen all drawn, if there was a call
-      pub alone : {hand : Hand} {pieces : List (Piece A)} {calls : ℕ} → WorksAlone stack jobs size board hand pieces calls
-          → AreOf stack jobs size board hand pieces × (0 < calls → total_of board ≤ seen_below hand)
+      pub alone : {hand : Hand} {pieces : List (Piece A)} {calls : ℕ} → WorksAlone by jobs size board hand pieces calls
+          → AreOf by jobs size board hand pieces × (0 < calls → total_of board ≤ seen_below hand)
       alone (begins {hand = hand} fresh) = (
         record {
           told = λ x. ap (λ (ps : List ℕ). times x (numbers (total_of board) ps)) (sym fresh);
-          answered = All-nil (IsPiece stack jobs size);
+          answered = All-nil (IsPiece by jobs size);
         },
         λ none. absurd (omega arith),
       )
@@ -254,7 +258,7 @@ module _ {A : Type 0} where
           told = λ x. (let e = parts_told x pieces more in let f = h.0.told x in let g = ap (times x) d.told in
               let i = ap (λ (ps : List ℕ). times x (numbers (total_of board) ps)) d.drawn in
               let j = numbers_told (total_of board) x (positions old) d.added in omega arith);
-          answered = All-append (IsPiece stack jobs size) pieces more h.0.answered d.answered;
+          answered = All-append (IsPiece by jobs size) pieces more h.0.answered d.answered;
         },
         λ some. d.every,
       )
@@ -265,7 +269,7 @@ module _ {A : Type 0} where
           )
 
       -- once the last hand is closed each number stands once
-      pub closed : (hand : Hand) (pieces : List (Piece A)) (draws : ℕ) → AreOf stack jobs size board hand pieces
+      pub closed : (hand : Hand) (pieces : List (Piece A)) (draws : ℕ) → AreOf by jobs size board hand pieces
           → total_of board ≤ seen_below hand
           → IsLast hand draws → (x : ℕ) → times x (numbers_of pieces) ≡ times x (range_with_len 0 (total_of board))
       closed hand pieces draws are every last x =
@@ -275,8 +279,8 @@ module _ {A : Type 0} where
       -- and each batch is answered once
       pub every_batch : {E : Type 0} (r : Result (Vec (Piece A) A) E) (hand : Hand) (draws : ℕ)
           → total_of board ≡ batches size (length jobs)
-          → IfOk r (λ v. HasAll stack jobs size board hand v.items) → IfOk r (λ v. AreLight v.items) → IsLast hand draws
-          → IfOk r (λ v. AnswerAll stack jobs size v.items)
+          → IfOk r (λ v. HasAll by jobs size board hand v.items) → IfOk r (λ v. AreLight v.items) → IsLast hand draws
+          → IfOk r (λ v. AnswerAll by jobs size v.items)
       every_batch (Err e) hand draws same all light last = tt
       every_batch (Ok v) hand draws same all light last = record {
         once = λ x. (closed hand v.items draws all.of_hand all.every last x ∙ ap (λ (n : ℕ). times x (range_with_len 0 n)) same);

@@ -6,26 +6,25 @@ use Rattle.std.specs.Prelude.{slice_index}
 use Rattle.std.proofs.lemmas.List.{map-append}
 use Rattle.std.specs.List.{AllByRecursion, flat_map}
 use Rattle.fuse_wire.specs.Reads.{asked_of}
-use Rattle.fuse_wire.specs.Requests.{asked}
+use Rattle.fuse_wire.specs.Requests.{Asked, asked}
 use Rattle.fuse_wire.specs.Stream.{BeginsMessage, IsMessage, IsRest}
 use Rattle.stack_model.specs.Listing.{Stacked}
 use Rattle.reply_model.specs.declared.moves.Move.{Move}
 use Rattle.reply_model.specs.declared.session.Session.{Session}
 use Rattle.reply_model.specs.Moves.{balance, moves}
-use Rattle.reply_model.specs.Replies.{reply}
+use Rattle.reply_model.specs.Readings.{IsReplyOver, Sourced}
 use Rattle.reply_model.specs.Sessions.{session_after}
-use Rattle.reply_model.specs.Streams.{moves_by, replies_by, session_at}
-use Rattle.reply_model.proofs.Following.{some_replies}
+use Rattle.reply_model.specs.Streams.{AreReplies, moves_by, session_at}
 use Rattle.lookup_balances.specs.Balances.{balance_at, IsLight, IsMoved}
 use Rattle.lookup_balances.proofs.Sums.{light_on}
 use Rattle.serve_loop.specs.declared.one_round.RoundEnd.{RoundEnd}
-use Rattle.serve_loop.specs.Rounds.{AppendsRound, AreFirst, IsReply, Output, joined}
+use Rattle.serve_loop.specs.Rounds.{AppendsRound, AreFirst, Output, joined}
 use Rattle.serve_loop.proofs.Walking.{first_on, none_first, one_first, session_append}
 use Rattle.reply_pieces.specs.declared.pieces.Piece.{Piece}
 use Rattle.reply_pieces.specs.declared.gathered.RoundPieces.{RoundPieces}
-use Rattle.reply_pieces.specs.Answers.{answering}
-use Rattle.reply_pieces.specs.Jobs.{Job, moved_by, reply_to}
-use Rattle.reply_pieces.specs.Spread.{AnswerAll, AreAppended, AreFirstJobs, AreJobs, SpreadsOut}
+use Rattle.reply_pieces.specs.Answers.{answering_from}
+use Rattle.reply_pieces.specs.Jobs.{AreReplied, Job, moved_by}
+use Rattle.reply_pieces.specs.Spread.{AnswerAll, AreAppended, AreFirstJobs, AreJobs, SpreadsFrom}
 use Rattle.reply_pieces.proofs.Hands.{all_move, whole}
 use Rattle.reply_pieces.proofs.Light.{AreBytes, message_light}
 
@@ -63,19 +62,21 @@ one_taken s stream round js all rest len after job f e begins before asks next m
           (jobs_on s f.messages js m job f.as_jobs (before ∙ f.session) asks);
     }
 
-module _ (stack : Stacked) where
-  -- jobs are replied to as their messages are
-  jobs_told : (s : Session) (ms : List (List ℕ)) (js : List Job) → AreJobs s ms js
-      → flat_map (reply_to stack) js ≡ replies_by (reply stack) s (map asked ms)
-  jobs_told s [] [] a = refl
-  jobs_told s [] (j ∷ js) a = absurd a
-  jobs_told s (m ∷ ms) [] a = absurd a
-  jobs_told s (m ∷ ms) (j ∷ js) a =
-      let one : reply_to stack j ≡ reply stack s (asked m) =
-      ap (λ t. reply stack t (asked_of j.1)) a.0 ∙ ap (reply stack s) a.1 in
-      ap (λ xs. xs ++ flat_map (reply_to stack) js) one
-      ∙ ap (λ xs. reply stack s (asked m) ++ xs) (jobs_told (session_after s (asked m).op) ms js a.2)
+-- jobs are replied to as their messages are
+jobs_told : (by : Sourced) (s : Session) (ms : List (List ℕ)) (js : List Job) → AreJobs s ms js → (bytes : List ℕ)
+    → AreReplied by js bytes → AreReplies (IsReplyOver by) s (map asked ms) bytes
+jobs_told by s [] [] a bytes r = r
+jobs_told by s [] (j ∷ js) a bytes r = absurd a
+jobs_told by s (m ∷ ms) [] a bytes r = absurd a
+jobs_told by s (m ∷ ms) (j ∷ js) a bytes (one, rest, is, told, more) = (
+  one,
+  rest,
+  is,
+  subst (λ (t : Session). IsReplyOver by t (asked m) one) a.0 (subst (λ (q : Asked). IsReplyOver by j.0 q one) a.1 told),
+  jobs_told by (session_after s (asked m).op) ms js a.2 rest more,
+)
 
+module _ (stack : Stacked) where
   -- and move what their messages move
   jobs_moved : (s : Session) (ms : List (List ℕ)) (js : List Job) → AreJobs s ms js
       → flat_map (moved_by stack) js ≡ moves_by (moves stack) s (map asked ms)
@@ -111,26 +112,26 @@ moved_same : (xs ys : List Move) (a b : List ℤ) → ((node : ℕ) → balance 
 moved_same xs ys a b e m = record { same = m.same; each = λ i h. (m.each i h ∙ ap (λ z. balance_at a i +ℤ z) (e (i + 1))) }
 
 -- the pieces of all batches of the first messages' jobs, appended in order, are a round
-pub by_jobs : {A : Type 0} (first : Session) (stack : Stacked) (s : Session) (stream : List ℕ) (round : RoundEnd) (jobs : List Job)
+pub by_jobs : {A : Type 0} (first : Session) (by : Sourced) (s : Session) (stream : List ℕ) (round : RoundEnd) (jobs : List Job)
     (size : ℕ) (pieces : List (Piece A)) (old new : Output) → 1 ≤ size → ((k : ℕ) → slice_index stream k < 256)
-    → AreFirstJobs s stream round jobs → (0 < round.messages) ⊎ IsRest (drop round.used stream) → AnswerAll stack jobs size pieces
-    → AreAppended pieces old new → AppendsRound (answering first stack) s stream round old new
-by_jobs first stack s stream round jobs size pieces old new some bytes f o a p = (
-  replies_by (reply stack) s (map asked f.messages),
-  p.bytes ∙ ap (λ (v : List ℕ). old.replies ++ v) ((whole stack jobs size pieces some a.answered a.once).replies p.ordered p.order
-      ∙ jobs_told stack s f.messages jobs f.as_jobs),
+    → AreFirstJobs s stream round jobs → (0 < round.messages) ⊎ IsRest (drop round.used stream) → AnswerAll by jobs size pieces
+    → AreAppended pieces old new → AppendsRound (answering_from first by) s stream round old new
+by_jobs first by s stream round jobs size pieces old new some bytes f o a p = (
+  flat_map (λ piece. piece.bytes.items) p.ordered,
+  p.bytes,
   record {
     messages = f.messages;
     first = f.first;
     count = f.count;
     answered = record {
       session = f.session;
-      told = some_replies (IsReply (answering first stack)) (reply stack) (λ t q. refl) s (map asked f.messages);
-      moves = moved_same (flat_map (λ piece. piece.moves.items) p.ordered) (moves_by (moves stack) s
+      told = jobs_told by s f.messages jobs f.as_jobs (flat_map (λ piece. piece.bytes.items) p.ordered)
+          ((whole by jobs size pieces some a.answered a.once).replies p.ordered p.order);
+      moves = moved_same (flat_map (λ piece. piece.moves.items) p.ordered) (moves_by (moves by.stack) s
           (map asked f.messages)) old.balances new.balances
-          (λ node. (all_move stack jobs size pieces p.ordered node some a.answered a.once p.order
-          ∙ ap (balance node) (jobs_moved stack s f.messages jobs f.as_jobs))) p.moves;
-      light = messages_light stack s f.messages f.first.each
+          (λ node. (all_move by jobs size pieces p.ordered node some a.answered a.once p.order
+          ∙ ap (balance node) (jobs_moved by.stack s f.messages jobs f.as_jobs))) p.moves;
+      light = messages_light by.stack s f.messages f.first.each
           (front_bytes (joined f.messages) (drop round.used stream) (subst (λ (v : List ℕ). (k : ℕ) → slice_index v k < 256) f.first.whole
           bytes));
     };
@@ -139,8 +140,8 @@ by_jobs first stack s stream round jobs size pieces old new some bytes f o a p =
 )
 
 -- the same of what workers gave back
-pub by_spread : {A : Type 0} (first : Session) (stack : Stacked) (s : Session) (stream : List ℕ) (spread : RoundPieces A) (old new : Output)
-    → SpreadsOut stack s stream spread → AreAppended spread.pieces.items old new
-    → AppendsRound (answering first stack) s stream spread.round old new
-by_spread first stack s stream spread old new o a =
-    by_jobs first stack s stream spread.round o.jobs o.size spread.pieces.items old new o.sized o.bytes o.first o.some o.answered a
+pub by_spread : {A : Type 0} (first : Session) (by : Sourced) (s : Session) (stream : List ℕ) (spread : RoundPieces A) (old new : Output)
+    → SpreadsFrom by s stream spread → AreAppended spread.pieces.items old new
+    → AppendsRound (answering_from first by) s stream spread.round old new
+by_spread first by s stream spread old new o a =
+    by_jobs first by s stream spread.round o.jobs o.size spread.pieces.items old new o.sized o.bytes o.first o.some o.answered a

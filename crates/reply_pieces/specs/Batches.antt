@@ -4,11 +4,11 @@ use Rattle.std.specs.List.{All, flat_map, range_with_len}
 use Rattle.std.specs.List.Sorted.{IsPermutation, IsNonDecreasingBy}
 use Rattle.serve_loop.specs.declared.limits.TheConstants.{MAX_ROUND_MESSAGES}
 use Rattle.draw_board.specs.Positions.{times}
-use Rattle.stack_model.specs.Listing.{Stacked}
+use Rattle.reply_model.specs.Readings.{Sourced}
 use Rattle.lookup_balances.specs.Balances.{weight}
 use Rattle.reply_pieces.specs.declared.pieces.Rounded.{Rounded}
 use Rattle.reply_pieces.specs.declared.pieces.Piece.{Piece}
-use Rattle.reply_pieces.specs.Jobs.{Job, moved_by, reply_to}
+use Rattle.reply_pieces.specs.Jobs.{AreReplied, Job, moved_by}
 use Rattle.reply_pieces.specs.Sums.{AreSums}
 
 -- how many batches so many jobs have; the last may be smaller
@@ -20,10 +20,11 @@ abbrev pub batch_of : ℕ → ℕ → List Job → List Job
 batch_of size number jobs = take size (drop (number * size) jobs)
 
 -- a batch's replies one after another, and the sums of what its jobs move by node
-pub record IsPiece {A : Type 0} (stack : Stacked) (jobs : List Job) (size : ℕ)
+pub record IsPiece {A : Type 0} (by : Sourced) (jobs : List Job) (size : ℕ)
     (piece : Piece A) : Type 0 where
-  pub replies : piece.bytes.items ≡ flat_map (reply_to stack) (batch_of size piece.number jobs)
-  pub sums : AreSums (flat_map (moved_by stack) (batch_of size piece.number jobs)) piece.moves.items
+  pub replies : AreReplied by (batch_of size piece.number jobs) piece.bytes.items
+  pub sums : AreSums (flat_map (moved_by by.stack) (batch_of size piece.number jobs))
+      piece.moves.items
 
 -- what a piece moves in all is far from what 128 bits hold
 abbrev pub AreLight : {A : Type 0} → List (Piece A) → Type 0

@@ -1,5 +1,5 @@
 -- What a round of jobs comes to.
-use Rattle.std.specs.Prelude.{◌≡◌, ℕ, ◌<◌, ◌≤◌, ◌^◌, List, length}
+use Rattle.std.specs.Prelude.{◌≡◌, ℕ, ◌<◌, ◌≤◌, ◌^◌, List, [], ◌∷◌, ◌++◌, length}
 use Rattle.std.specs.List.{flat_map}
 use Rattle.fuse_wire.specs.declared.request.Request.{Request}
 use Rattle.fuse_wire.specs.Reads.{asked_of}
@@ -8,8 +8,8 @@ use Rattle.fuse_wire.specs.declared.limits.TheConstants.{MAX_FORGETS}
 use Rattle.stack_model.specs.Listing.{Stacked}
 use Rattle.reply_model.specs.declared.moves.Move.{Move}
 use Rattle.reply_model.specs.declared.session.Session.{Session}
-use Rattle.reply_model.specs.Replies.{reply}
 use Rattle.reply_model.specs.Moves.{moves}
+use Rattle.reply_model.specs.Readings.{Sourced, IsReplyOver}
 use Rattle.reply_pieces.specs.declared.pieces.Rounded.{Rounded}
 use Rattle.reply_pieces.specs.Sums.{AreSums}
 
@@ -17,19 +17,26 @@ use Rattle.reply_pieces.specs.Sums.{AreSums}
 abbrev pub Job : Type 0
 Job = Session × Request
 
--- the reply to a job
-abbrev pub reply_to : Stacked → Job → List ℕ
-reply_to stack job = reply stack job.0 (asked_of job.1)
+-- these bytes may be told as the reply to a job
+abbrev pub IsReplyTo : Sourced → Job → List ℕ → Type 0
+IsReplyTo by job bytes = IsReplyOver by job.0 (asked_of job.1) bytes
+
+-- these bytes may be told as the replies to jobs one after another
+abbrev pub AreReplied : Sourced → List Job → List ℕ → Type 0
+AreReplied by [] bytes = bytes ≡ []
+AreReplied by (job ∷ jobs) bytes =
+    (one : List ℕ) × (rest : List ℕ) × (bytes ≡ one ++ rest) × IsReplyTo by job one
+    × AreReplied by jobs rest
 
 -- what a job moves
 abbrev pub moved_by : Stacked → Job → List Move
 moved_by stack job = moves stack job.0 (asked_of job.1)
 
 -- the replies to jobs one after another, and the sums of what they move by node
-pub record IsRounded {A : Type 0} (stack : Stacked) (jobs : List Job)
+pub record IsRounded {A : Type 0} (by : Sourced) (jobs : List Job)
     (rounded : Rounded A) : Type 0 where
-  pub replies : rounded.bytes.items ≡ flat_map (reply_to stack) jobs
-  pub sums : AreSums (flat_map (moved_by stack) jobs) rounded.moves.items
+  pub replies : AreReplied by jobs rounded.bytes.items
+  pub sums : AreSums (flat_map (moved_by by.stack) jobs) rounded.moves.items
 
 -- a request has no more items than a message has room for, and asks for no more rows than 32 bits
 -- say

@@ -8,6 +8,7 @@ use Rattle.fuse_wire.specs.Stream.{IsRest}
 use Rattle.draw_board.specs.Positions.{times}
 use Rattle.stack_model.specs.Listing.{Stacked}
 use Rattle.reply_model.specs.declared.session.Session.{Session}
+use Rattle.reply_model.specs.Readings.{Sourced, in_memory}
 use Rattle.reply_model.specs.Sessions.{session_after}
 use Rattle.reply_model.specs.Streams.{session_at}
 use Rattle.lookup_balances.specs.Balances.{IsMoved}
@@ -36,11 +37,11 @@ pub record AreFirstJobs (s : Session) (stream : List ℕ) (round : RoundEnd)
   pub as_jobs : AreJobs s messages jobs
 
 -- each batch of the jobs is answered once
-pub record AnswerAll {A : Type 0} (stack : Stacked) (jobs : List Job) (size : ℕ)
+pub record AnswerAll {A : Type 0} (by : Sourced) (jobs : List Job) (size : ℕ)
     (pieces : List (Piece A)) : Type 0 where
   pub once : (number : ℕ) → times number (numbers_of pieces)
       ≡ times number (range_with_len 0 (batches size (length jobs)))
-  pub answered : All (IsPiece stack jobs size) pieces
+  pub answered : All (IsPiece by jobs size) pieces
   pub light : AreLight pieces
 
 -- so many of the first messages of a stream may be answered by workers
@@ -50,7 +51,7 @@ pub record IsSpreadable (stream : List ℕ) (messages : ℕ) : Type 0 where
   pub short : length stream ≤ 2 ^ 57
 
 -- some of the first messages of a stream, at least one if one is whole, are answered in pieces
-pub record SpreadsOut {A : Type 0} (stack : Stacked) (s : Session) (stream : List ℕ)
+pub record SpreadsFrom {A : Type 0} (by : Sourced) (s : Session) (stream : List ℕ)
     (spread : RoundPieces A) : Type 0 where
   pub jobs : List Job
   pub first : AreFirstJobs s stream spread.round jobs
@@ -58,8 +59,12 @@ pub record SpreadsOut {A : Type 0} (stack : Stacked) (s : Session) (stream : Lis
   pub some : (0 < spread.round.messages) ⊎ IsRest (drop spread.round.used stream)
   pub size : ℕ
   pub sized : 1 ≤ size
-  pub answered : AnswerAll stack jobs size spread.pieces.items
+  pub answered : AnswerAll by jobs size spread.pieces.items
   pub once : AreEachOnce spread.pieces.items
+
+-- the same, where all layers are held
+abbrev pub SpreadsOut : {A : Type 0} → Stacked → Session → List ℕ → RoundPieces A → Type 0
+SpreadsOut stack s stream spread = SpreadsFrom (in_memory stack) s stream spread
 
 -- bytes of pieces are appended in the order of their numbers, and their moves added to balances
 pub record AreAppended {A : Type 0} (pieces : List (Piece A)) (old new : Output) : Type 0 where

@@ -8,11 +8,11 @@ use Rattle.draw_board.specs.declared.board.Board.{Board}
 use Rattle.draw_board.specs.declared.hand.Hand.{Hand}
 use Rattle.draw_board.specs.Hands.{IsHandOf, KeepsShare, MovesMisses, TakesIn, left, positions, seen_below, total_of}
 use Rattle.draw_board.specs.Positions.{Unites, numbers, times}
-use Rattle.stack_model.specs.Listing.{Stacked}
+use Rattle.reply_model.specs.Readings.{Sourced}
 use Rattle.reply_pieces.specs.declared.pieces.Piece.{Piece}
 use Rattle.reply_pieces.specs.Batches.{AreOrdered, IsPiece, batches, numbers_of}
 use Rattle.reply_model.specs.Moves.{balance}
-use Rattle.reply_pieces.specs.Jobs.{Job, reply_to, moved_by}
+use Rattle.reply_pieces.specs.Jobs.{AreReplied, Job, moved_by}
 
 -- the hand stays one of the board, with its share, and keeps what it drew before
 pub record KeepsHand {B : Type 0} (board : Board B) (old new : Hand) : Type 0 where
@@ -32,25 +32,25 @@ pub record CanDraw {B : Type 0} (jobs : List Job) (size : ℕ) (board : Board B)
 
 -- a worker drew until no number was left: its pieces have the numbers that the call added to its
 -- hand, in their order, each with the batch of that number answered
-pub record HasWorked {A B : Type 0} (stack : Stacked) (jobs : List Job) (size : ℕ) (board : Board B)
+pub record HasWorked {A B : Type 0} (by : Sourced) (jobs : List Job) (size : ℕ) (board : Board B)
     (old new : Hand) (pieces : List (Piece A)) : Type 0 where
   pub added : List ℕ
   pub drawn : positions new ≡ positions old ++ added
   pub told : numbers_of pieces ≡ numbers (total_of board) added
-  pub answered : All (IsPiece stack jobs size) pieces
+  pub answered : All (IsPiece by jobs size) pieces
   pub every : total_of board ≤ seen_below new
 
 -- the pieces of a hand: one for each number that it drew, with the batch of that number answered
-pub record AreOf {A B : Type 0} (stack : Stacked) (jobs : List Job) (size : ℕ) (board : Board B)
+pub record AreOf {A B : Type 0} (by : Sourced) (jobs : List Job) (size : ℕ) (board : Board B)
     (hand : Hand) (pieces : List (Piece A)) : Type 0 where
   pub told : (number : ℕ)
       → times number (numbers_of pieces) ≡ times number (numbers (total_of board) (positions hand))
-  pub answered : All (IsPiece stack jobs size) pieces
+  pub answered : All (IsPiece by jobs size) pieces
 
 -- the same of a worker's hand that had drawn nothing, once it has seen that all was drawn
-pub record HasAll {A B : Type 0} (stack : Stacked) (jobs : List Job) (size : ℕ) (board : Board B)
+pub record HasAll {A B : Type 0} (by : Sourced) (jobs : List Job) (size : ℕ) (board : Board B)
     (hand : Hand) (pieces : List (Piece A)) : Type 0 where
-  pub of_hand : AreOf stack jobs size board hand pieces
+  pub of_hand : AreOf by jobs size board hand pieces
   pub every : total_of board ≤ seen_below hand
 
 -- the pieces of two workers, one after the other, where both gave theirs
@@ -61,23 +61,23 @@ AreBoth pieces more all =
 
 -- a hand that draws by `work` alone, the pieces that came of it and of the hands that it took in,
 -- and how many calls there were, each of them without want of memory
-pub data WorksAlone {A B : Type 0} (stack : Stacked) (jobs : List Job) (size : ℕ) (board : Board B)
+pub data WorksAlone {A B : Type 0} (by : Sourced) (jobs : List Job) (size : ℕ) (board : Board B)
     : Hand → List (Piece A) → ℕ → Type 0 where
-  begins : {hand : Hand} → positions hand ≡ [] → WorksAlone stack jobs size board hand [] 0
+  begins : {hand : Hand} → positions hand ≡ [] → WorksAlone by jobs size board hand [] 0
   gives : {old new other : Hand} {pieces : List (Piece A)} {calls misses : ℕ}
-      → WorksAlone stack jobs size board old pieces calls
+      → WorksAlone by jobs size board old pieces calls
       → MovesMisses board old new other misses
-      → WorksAlone stack jobs size board new pieces calls
+      → WorksAlone by jobs size board new pieces calls
   works : {old new : Hand} {pieces more : List (Piece A)} {calls : ℕ}
-      → WorksAlone stack jobs size board old pieces calls
-      → HasWorked stack jobs size board old new more
-      → WorksAlone stack jobs size board new (pieces ++ more) (calls + 1)
+      → WorksAlone by jobs size board old pieces calls
+      → HasWorked by jobs size board old new more
+      → WorksAlone by jobs size board new (pieces ++ more) (calls + 1)
   takes : {old other new : Hand} {mine others : List (Piece A)} {calls more : ℕ}
-      → WorksAlone stack jobs size board old mine calls
-      → WorksAlone stack jobs size board other others more
+      → WorksAlone by jobs size board old mine calls
+      → WorksAlone by jobs size board other others more
       → Unites (positions old) (positions other) (positions new)
       → TakesIn board old other new
-      → WorksAlone stack jobs size board new (mine ++ others) (calls + more)
+      → WorksAlone by jobs size board new (mine ++ others) (calls + more)
 
 -- the hand with the draws of all hands, as a board is closed with it after so many draws
 pub record IsLast (hand : Hand) (draws : ℕ) : Type 0 where
@@ -86,12 +86,12 @@ pub record IsLast (hand : Hand) (draws : ℕ) : Type 0 where
 
 -- each batch is answered once, and none is left out; in the order of their numbers the pieces have
 -- the replies to all jobs, and move of each node what all jobs move
-pub record AreWhole {A : Type 0} (stack : Stacked) (jobs : List Job) (size : ℕ)
+pub record AreWhole {A : Type 0} (by : Sourced) (jobs : List Job) (size : ℕ)
     (pieces : List (Piece A)) : Type 0 where
   pub once : (number : ℕ) → times number (numbers_of pieces)
       ≡ times number (range_with_len 0 (batches size (length jobs)))
   pub replies : (ordered : List (Piece A)) → AreOrdered pieces ordered
-      → flat_map (λ piece. piece.bytes.items) ordered ≡ flat_map (reply_to stack) jobs
+      → AreReplied by jobs (flat_map (λ piece. piece.bytes.items) ordered)
   pub moves : (ordered : List (Piece A)) → AreOrdered pieces ordered → (node : ℕ)
       → balance node (flat_map (λ piece. piece.moves.items) ordered)
-      ≡ balance node (flat_map (moved_by stack) jobs)
+      ≡ balance node (flat_map (moved_by by.stack) jobs)

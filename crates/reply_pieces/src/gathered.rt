@@ -2,13 +2,13 @@
 
 ghost use Rattle.std.specs.Prelude.{◌≡◌, ◌≤◌, ◌^◌, ◌++◌, ℕ, List, IfOk, OnOk};
 ghost use Rattle.std.specs.List.{flat_map};
-ghost use Rattle.stack_model.specs.Listing.{Stacked};
 ghost use Rattle.reply_model.specs.declared.session.Session.{Session};
+ghost use Rattle.reply_model.specs.Readings.{Sourced};
 ghost use Rattle.lookup_balances.specs.Balances.{AreWithin, IsMoved, weight};
 ghost use Rattle.serve_loop.specs.Rounds.{Answering, output, AppendsRound};
-ghost use Rattle.reply_pieces.specs.Answers.{answering};
+ghost use Rattle.reply_pieces.specs.Answers.{answering_from};
 ghost use Rattle.reply_pieces.specs.Batches.{AreEachOnce, AreLight};
-ghost use Rattle.reply_pieces.specs.Spread.{SpreadsOut};
+ghost use Rattle.reply_pieces.specs.Spread.{SpreadsFrom};
 
 use crate::pieces::{Piece, sort_by_number};
 use fuse_wire::Replies;
@@ -48,8 +48,8 @@ impl<A: Allocator> Gathered for RoundPieces<A> {
     ghost whole = { λ spread. AreEachOnce spread.pieces.items × AreLight spread.pieces.items };
 
     ghost answers = { λ spread by s stream.
-        (first : Session) × (stack : Stacked) × (by ≡ answering first stack)
-        × SpreadsOut stack s stream spread };
+        (first : Session) × (over : Sourced) × (by ≡ answering_from first over)
+        × SpreadsFrom over s stream spread };
 
     fn append<B: Allocator>(
         self,

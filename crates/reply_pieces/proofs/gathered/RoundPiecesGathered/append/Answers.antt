@@ -12,11 +12,11 @@ append_all-requires-clause-light g c =
 
 pub returns : goal.returns
 returns g c = λ by s stream told. (
-    let (first, stack, same, o) = told in
+    let (first, over, same, o) = told in
     let old = output c.args.replies.now.items c.args.balances.now in
     let new = output c.append_all.new.replies.items c.append_all.new.balances in
     subst (λ (a : Answering). AppendsRound a s stream c.args.self.round old new) (sym same)
-    (by_spread first stack s stream c.args.self old new o (record {
+    (by_spread first over s stream c.args.self old new o (record {
       ordered = c.deref.result.now;
       order = subst (AreOrdered c.args.self.pieces.items) (sym c.deref.ensures.value) c.sort_by_number.ensures;
       bytes = c.in_ok-append_all.ensures.bytes;
