@@ -2,17 +2,19 @@
 
 ghost use Rattle.std.specs.Prelude.{◌≡◌, ◌<◌, ◌≤◌, ℕ, List, length};
 ghost use Rattle.draw_board.specs.Hands.{total_of};
+ghost use Rattle.fuse_answer.specs.Puts.{sourced_by};
 ghost use Rattle.reply_model.specs.declared.moves.Move.{Move};
 ghost use Rattle.reply_pieces.specs.Batches.{batches};
 ghost use Rattle.reply_pieces.specs.Sums.{AreSums};
 ghost use Rattle.reply_pieces.specs.Workers.{AreWhole, IsLast, WorksAlone};
 
 use draw_board::{Board, Hand};
+use fuse_answer::Served;
 use fuse_wire::Request;
+use image_bytes::Contents;
 use reply_model::Session;
 use reply_pieces::Piece;
 use std::alloc::Allocator;
-use table_reader::Table;
 
 /// Moves have one list of sums.
 #[tactic(auto, using(reply_pieces::proofs::Ordered::one_form))]
@@ -25,8 +27,8 @@ pub fn sums_are_one()
 /// into the last hand, with which the board is closed, their pieces are each batch once, and none
 /// is left out. In the order of their numbers they have the bytes of [`round`](crate::round), and
 /// move of each node what it sums up.
-pub fn each_batch_once<A: Allocator, B: Allocator, C: Allocator>(
-    table: &Table<A>,
+pub fn each_batch_once<A: Allocator, D: Contents, B: Allocator, C: Allocator>(
+    served: Served<'_, A, D>,
     jobs: &[(Session, Request<'_>)],
     size: u32,
     board: &Board<B>,
@@ -36,6 +38,7 @@ pub fn each_batch_once<A: Allocator, B: Allocator, C: Allocator>(
     requires some { 1 ≤ size }
     requires total { total_of board.now ≡ batches size (length jobs.now) }
     ensures { (calls draws : ℕ) →
-        WorksAlone table.now jobs.now size board.now hand.now pieces.now calls →
-        0 < calls → IsLast hand.now draws → AreWhole table.now jobs.now size pieces.now }
+        WorksAlone (sourced_by D.source served.entry) jobs.now size board.now hand.now pieces.now
+        calls → 0 < calls → IsLast hand.now draws →
+        AreWhole (sourced_by D.source served.entry) jobs.now size pieces.now }
 {}

@@ -1,15 +1,17 @@
 //! The rounds of a serving loop.
 
-ghost use Rattle.std.specs.Prelude.{◌≡◌, ◌≤◌, ◌^◌, length, IfOk, IfSome};
+ghost use Rattle.std.specs.Prelude.{◌≡◌, ◌≤◌, ◌^◌, [], length, IfOk, IfSome};
 ghost use Rattle.serve_loop.specs.declared.limits.TheConstants.{MAX_ROUND_MESSAGES};
 ghost use Rattle.stack_model.specs.Numbers.{nodes};
 ghost use Rattle.lookup_balances.specs.Balances.{AreWithin};
 ghost use Rattle.serve_loop.specs.Rounds.{output, AppendsAnswer};
-ghost use Rattle.reply_pieces.specs.Answers.{answering};
+ghost use Rattle.reply_pieces.specs.Answers.{answering_from};
+ghost use Rattle.fuse_answer.specs.Puts.{sourced_by};
 ghost use Rattle.reply_pool.specs.Pools.{SpreadsRounds};
 
-use fuse_answer::{after, answer_and_move};
+use fuse_answer::{Served, after, answer_and_move};
 use fuse_wire::{Replies, Request};
+use image_bytes::{Contents, InMemory};
 use reply_model::Session;
 use reply_pieces::Gathered;
 use round_plan::{LookupsAhead, Plan, pass_batch, worth_workers};
@@ -18,14 +20,14 @@ use std::alloc::{AllocError, Allocator};
 use table_reader::Table;
 use work_gate::Gate;
 
-/// What answers requests over a table by a plan. A gate is passed before the first request of each
-/// batch.
+/// What answers requests over a table by a plan, and the files of its layers. A gate is passed
+/// before the first request of each batch.
 ///
 /// A round that is worth workers is answered by these, as [`spread_out`](crate::spread_out) does
 /// it; any other on the caller's thread.
 #[derive(Drop)]
-pub struct Pool<'a, A: Allocator, G: Gate, F> {
-    table: &'a Table<A>,
+pub struct Pool<'a, A: Allocator, D, G: Gate, F> {
+    served: Served<'a, A, D>,
     first: Session,
     plan: Plan,
     gate: &'a G,
@@ -33,17 +35,37 @@ pub struct Pool<'a, A: Allocator, G: Gate, F> {
     workers: F,
 }
 
-impl<'a, A: Allocator, G: Gate, F> Pool<'a, A, G, F> {
-    /// Answers over this table, by this plan, with these workers. Streams begin in the session
-    /// `first`.
+impl<'a, A: Allocator, G: Gate, F> Pool<'a, A, InMemory<'a>, G, F> {
+    /// Answers over this table, which holds all data, by this plan, with these workers. Streams
+    /// begin in the session `first`.
     pub fn new(table: &'a Table<A>, first: Session, plan: Plan, gate: &'a G, workers: F) -> Self
-        ensures table { result.table.now ≡ table.now }
+        ensures table { result.served.table.now ≡ table.now }
+        ensures files { result.served.files.now ≡ [] }
+        ensures first { result.first ≡ first }
+        ensures plan { result.plan ≡ plan }
+        ensures workers { result.workers ≡ workers }
+    {
+        Pool::over(Served::held(table), first, plan, gate, workers)
+    }
+}
+
+impl<'a, A: Allocator, D: Contents, G: Gate, F> Pool<'a, A, D, G, F> {
+    /// The same over a table and the files of its layers.
+    pub fn over(
+        served: Served<'a, A, D>,
+        first: Session,
+        plan: Plan,
+        gate: &'a G,
+        workers: F,
+    ) -> Self
+        ensures table { result.served.table.now ≡ served.entry.table.now }
+        ensures files { result.served.files.now ≡ served.entry.files.now }
         ensures first { result.first ≡ first }
         ensures plan { result.plan ≡ plan }
         ensures workers { result.workers ≡ workers }
     {
         Pool {
-            table,
+            served,
             first,
             plan,
             gate,
@@ -63,14 +85,14 @@ impl<'a, A: Allocator, G: Gate, F> Pool<'a, A, G, F> {
         if self.plan.workers() == 1 || !begun {
             return None;
         }
-        worth_workers(self.table, stream)
+        worth_workers(self.served.table, stream)
     }
 }
 
 // What answers the messages of one round on the caller's thread, with what was read ahead of them.
 #[derive(Drop)]
-struct CallersThread<'r, A: Allocator, G: Gate> {
-    table: &'r Table<A>,
+struct CallersThread<'r, A: Allocator, D, G: Gate> {
+    served: Served<'r, A, D>,
     first: Session,
     plan: Plan,
     gate: &'r G,
@@ -78,10 +100,10 @@ struct CallersThread<'r, A: Allocator, G: Gate> {
 }
 
 // One message, as `walk` asks for it.
-impl<'r, A: Allocator, G: Gate> AnswersOne for CallersThread<'r, A, G> {
-    ghost answering = { λ round. answering round.first round.table.now };
+impl<'r, A: Allocator, D: Contents, G: Gate> AnswersOne for CallersThread<'r, A, D, G> {
+    ghost answering = { λ round. answering_from round.first (sourced_by D.source round.served) };
 
-    ghost nodes = { λ round. length (nodes round.table.now.entries) };
+    ghost nodes = { λ round. length (nodes round.served.table.now.entries) };
 
     fn answer<B: Allocator>(
         &self,
@@ -94,7 +116,7 @@ impl<'r, A: Allocator, G: Gate> AnswersOne for CallersThread<'r, A, G> {
         pass_batch(self.gate, self.plan, number);
         let request = Request::read(message);
         let guess = self.ahead.guess(number);
-        answer_and_move(self.table, session, &request, guess, replies, balances)?;
+        answer_and_move(self.served, session, &request, guess, replies, balances)?;
         Ok(after(session, &request))
     }
 }
@@ -102,23 +124,25 @@ impl<'r, A: Allocator, G: Gate> AnswersOne for CallersThread<'r, A, G> {
 impl<
     'a,
     A: Allocator,
+    D: Contents,
     G: Gate,
     P: Gathered,
     F: Fn(&[u8], Session, usize) -> Result<P, AllocError>,
-> AnswersRounds for Pool<'a, A, G, F> {
-    ghost answering = { λ pool. answering pool.first pool.table.now };
+> AnswersRounds for Pool<'a, A, D, G, F> {
+    ghost answering = { λ pool. answering_from pool.first (sourced_by D.source pool.served) };
 
-    ghost nodes = { λ pool. length (nodes pool.table.now.entries) };
+    ghost nodes = { λ pool. length (nodes pool.served.table.now.entries) };
 
     ghost ready = { λ pool. SpreadsRounds F.Fn pool.workers (λ p. P.whole p)
-        (λ p session stream. P.answers p (answering pool.first pool.table.now) session stream) };
+        (λ p session stream. P.answers p
+        (answering_from pool.first (sourced_by D.source pool.served)) session stream) };
 
     fn first(&self) -> Session {
         self.first
     }
 
     fn nodes(&self) -> u64 {
-        self.table.len()
+        self.served.table.len()
     }
 
     fn answer_round<B: Allocator>(
@@ -133,9 +157,9 @@ impl<
             return gathered.append(replies, balances);
         }
         let mut ahead = LookupsAhead::new();
-        ahead.read(self.table, stream, balances);
+        ahead.read(self.served.table, stream, balances);
         let answers = CallersThread {
-            table: self.table,
+            served: self.served,
             first: self.first,
             plan: self.plan,
             gate: self.gate,

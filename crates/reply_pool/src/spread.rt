@@ -7,11 +7,13 @@ ghost use Rattle.std.specs.Prelude.{◌<◌, ◌≤◌, ◌^◌, ◌⊎◌, drop
 ghost use Rattle.serve_loop.specs.declared.limits.TheConstants.{MAX_ROUND_MESSAGES};
 ghost use Rattle.work_gate.specs.declared.limits.TheConstants.{MAX_BATCH};
 ghost use Rattle.fuse_wire.specs.Stream.{IsRest};
-ghost use Rattle.reply_pieces.specs.Spread.{AreFirstJobs, SpreadsOut};
+ghost use Rattle.fuse_answer.specs.Puts.{sourced_by};
+ghost use Rattle.reply_pieces.specs.Spread.{AreFirstJobs, SpreadsFrom, SpreadsOut};
 
 use crate::workers::answer_batches;
-use fuse_answer::after;
+use fuse_answer::{Served, after};
 use fuse_wire::{Framed, Request, frame};
+use image_bytes::Contents;
 use reply_model::Session;
 use reply_pieces::RoundPieces;
 use round_plan::Plan;
@@ -29,8 +31,9 @@ struct Taken<'a, A: Allocator> {
 }
 
 /// Answers so many of the first messages of a stream, or as many as are whole: 1 to 256 of them, by
-/// workers of a plan. The batches are the plan's, or smaller ones, so that there is one for each
-/// worker. `AllocError` comes only where memory was refused, in whichever thread.
+/// workers of a plan, over a table that holds all data. The batches are the plan's, or smaller ones,
+/// so that there is one for each worker. `AllocError` comes only where memory was refused, in
+/// whichever thread.
 pub fn spread_out<R: Threads + Sync, A: Allocator + Copy + Send + Sync, G: Gate + Sync>(
     rt: &R,
     alloc: A,
@@ -46,9 +49,35 @@ pub fn spread_out<R: Threads + Sync, A: Allocator + Copy + Send + Sync, G: Gate 
     requires short { length stream.now ≤ 2 ^ 57 }
     ensures { IfOk result (λ spread. SpreadsOut table.now session stream.now spread) }
 {
+    let served = Served::held(table);
+    spread_out_from(rt, alloc, served, stream, session, messages, plan, gate)
+}
+
+/// The same over a table and the files of its layers.
+pub fn spread_out_from<
+    R: Threads + Sync,
+    A: Allocator + Copy + Send + Sync,
+    D: Contents + Sync,
+    G: Gate + Sync,
+>(
+    rt: &R,
+    alloc: A,
+    served: Served<'_, A, D>,
+    stream: &[u8],
+    session: Session,
+    messages: usize,
+    plan: Plan,
+    gate: &G,
+) -> Result<RoundPieces<A>, AllocError>
+    requires some { 1 ≤ messages }
+    requires few { messages ≤ MAX_ROUND_MESSAGES }
+    requires short { length stream.now ≤ 2 ^ 57 }
+    ensures { IfOk result
+        (λ spread. SpreadsFrom (sourced_by D.source served.entry) session stream.now spread) }
+{
     let Taken { jobs, round } = take_jobs(alloc, stream, session, messages)?;
     let size = batch_size(plan, jobs.len());
-    let pieces = answer_batches(rt, alloc, table, &jobs, size, plan.workers(), gate)?;
+    let pieces = answer_batches(rt, alloc, served, &jobs, size, plan.workers(), gate)?;
     Ok(RoundPieces { round, pieces })
 }
 

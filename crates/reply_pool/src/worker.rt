@@ -4,17 +4,19 @@ ghost use Rattle.std.specs.Prelude.{◌≡◌, ◌≤◌, length, IfOk};
 ghost use Rattle.serve_loop.specs.declared.limits.TheConstants.{MAX_ROUND_MESSAGES};
 ghost use Rattle.work_gate.specs.declared.limits.TheConstants.{MAX_BATCH};
 ghost use Rattle.draw_board.specs.Hands.{IsHandOf, total_of};
+ghost use Rattle.fuse_answer.specs.Puts.{sourced_by};
 ghost use Rattle.reply_pieces.specs.Batches.{AreLight, batches};
 ghost use Rattle.reply_pieces.specs.Workers.{HasWorked, KeepsHand};
 
 use crate::jobs::answer_jobs;
 use draw_board::{Board, Hand};
+use fuse_answer::Served;
 use fuse_wire::Request;
+use image_bytes::Contents;
 use reply_model::Session;
 use reply_pieces::{Piece, Rounded, batch};
 use std::alloc::{AllocError, Allocator};
 use std::thread::Threads;
-use table_reader::Table;
 use work_gate::{Gate, Work};
 
 /// Draws batches from a board until none is left, and answers those drawn, in that order. The gate
@@ -24,10 +26,17 @@ use work_gate::{Gate, Work};
 /// which number k has those from k times `size` on. The board's total is the number of batches.
 /// Threads may share one board, each with a hand of its own. `AllocError` comes only where memory
 /// was refused; what was drawn until then stays the hand's, and no other worker answers it.
-pub fn work<R: Threads + Sync, A: Allocator, B: Allocator + Copy, C: Allocator, G: Gate>(
+pub fn work<
+    R: Threads + Sync,
+    A: Allocator,
+    D: Contents,
+    B: Allocator + Copy,
+    C: Allocator,
+    G: Gate,
+>(
     _rt: &R,
     alloc: B,
-    table: &Table<A>,
+    served: Served<'_, A, D>,
     jobs: &[(Session, Request<'_>)],
     size: u32,
     board: &Board<C>,
@@ -40,13 +49,14 @@ pub fn work<R: Threads + Sync, A: Allocator, B: Allocator + Copy, C: Allocator, 
     requires hand { IsHandOf board.now hand.old }
     ensures hand { KeepsHand board.now hand.old hand.new }
     ensures pieces { IfOk result
-        (λ pieces. HasWorked table.now jobs.now size board.now hand.old hand.new pieces.items) }
+        (λ pieces. HasWorked (sourced_by D.source served.entry) jobs.now size board.now hand.old
+        hand.new pieces.items) }
     ensures light { IfOk result (λ pieces. AreLight pieces.items) }
 {
     let mut pieces = Vec::new(alloc);
     while let Some(number) = board.draw(hand) {
         gate.pass(Work::Batch, number);
-        let Rounded { bytes, moves } = answer_jobs(alloc, table, batch(jobs, size, number))?;
+        let Rounded { bytes, moves } = answer_jobs(alloc, served, batch(jobs, size, number))?;
         pieces.push(Piece {
             number,
             bytes,

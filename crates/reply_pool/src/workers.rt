@@ -13,6 +13,7 @@ ghost use denote.Param.Send.{IsSend, Frees};
 ghost use Rattle.serve_loop.specs.declared.limits.TheConstants.{MAX_ROUND_MESSAGES};
 ghost use Rattle.work_gate.specs.declared.limits.TheConstants.{MAX_BATCH};
 ghost use Rattle.draw_board.specs.Hands.{KeepsShare};
+ghost use Rattle.fuse_answer.specs.Puts.{sourced_by};
 ghost use Rattle.reply_pieces.specs.Batches.{AreLight};
 ghost use Rattle.reply_pieces.specs.Jobs.{IsRounded};
 ghost use Rattle.reply_pieces.specs.Spread.{AnswerAll};
@@ -20,13 +21,14 @@ ghost use Rattle.reply_pieces.specs.Workers.{AreBoth, CanDraw, HasAll};
 
 use crate::worker::work;
 use draw_board::{Board, Hand};
+use fuse_answer::Served;
 use fuse_wire::Request;
+use image_bytes::Contents;
 use reply_model::Session;
 use reply_pieces::{Piece, Rounded, count_batches, in_order};
 use round_plan::Plan;
 use std::alloc::{AllocError, Allocator};
 use std::thread::{Threads, join};
-use table_reader::Table;
 use work_gate::Gate;
 
 /// Answers jobs, which are requests, each with the session before it: at most 256 of them.
@@ -35,26 +37,37 @@ use work_gate::Gate;
 /// answer. As many workers as the plan has, but no more than there are batches, draw the batches as
 /// they come free; a worker that cannot be started is done by its caller. For every plan the result
 /// is the same. `AllocError` comes only where memory was refused, in whichever thread.
-pub fn round<R: Threads + Sync, A: Allocator + Copy + Send + Sync, G: Gate + Sync>(
+pub fn round<
+    R: Threads + Sync,
+    A: Allocator + Copy + Send + Sync,
+    D: Contents + Sync,
+    G: Gate + Sync,
+>(
     rt: &R,
     alloc: A,
-    table: &Table<A>,
+    served: Served<'_, A, D>,
     jobs: &[(Session, Request<'_>)],
     plan: Plan,
     gate: &G,
 ) -> Result<Rounded<A>, AllocError>
     requires { length jobs.now ≤ MAX_ROUND_MESSAGES }
-    ensures { IfOk result (λ rounded. IsRounded table.now jobs.now rounded) }
+    ensures { IfOk result
+        (λ rounded. IsRounded (sourced_by D.source served.entry) jobs.now rounded) }
 {
-    let pieces = answer_batches(rt, alloc, table, jobs, plan.batch(), plan.workers(), gate)?;
+    let pieces = answer_batches(rt, alloc, served, jobs, plan.batch(), plan.workers(), gate)?;
     in_order(alloc, pieces)
 }
 
 /// Answers jobs in batches of this size, by so many workers, but no more than there are batches.
-pub(crate) fn answer_batches<R: Threads + Sync, A: Allocator + Copy + Send + Sync, G: Gate + Sync>(
+pub(crate) fn answer_batches<
+    R: Threads + Sync,
+    A: Allocator + Copy + Send + Sync,
+    D: Contents + Sync,
+    G: Gate + Sync,
+>(
     rt: &R,
     alloc: A,
-    table: &Table<A>,
+    served: Served<'_, A, D>,
     jobs: &[(Session, Request<'_>)],
     size: u32,
     workers: u32,
@@ -63,7 +76,8 @@ pub(crate) fn answer_batches<R: Threads + Sync, A: Allocator + Copy + Send + Syn
     requires few { length jobs.now ≤ MAX_ROUND_MESSAGES }
     requires size { (1 ≤ size) × (size ≤ MAX_BATCH) }
     requires workers { 1 ≤ workers }
-    ensures { IfOk result (λ pieces. AnswerAll table.now jobs.now size pieces.items) }
+    ensures { IfOk result
+        (λ pieces. AnswerAll (sourced_by D.source served.entry) jobs.now size pieces.items) }
 {
     let total = count_batches(jobs.len(), size);
     if total == 0 {
@@ -71,7 +85,7 @@ pub(crate) fn answer_batches<R: Threads + Sync, A: Allocator + Copy + Send + Syn
     }
     let workers = workers.min(total);
     let (board, first) = Board::start(alloc, total, workers)?;
-    let (pieces, hand) = draw_all(rt, alloc, table, jobs, size, &board, first, gate, workers);
+    let (pieces, hand) = draw_all(rt, alloc, served, jobs, size, &board, first, gate, workers);
     board.close(hand);
     pieces
 }
@@ -79,10 +93,15 @@ pub(crate) fn answer_batches<R: Threads + Sync, A: Allocator + Copy + Send + Syn
 /// Draws in so many workers at the same time until nothing is left, each with a hand of its own,
 /// and gives their pieces and the hand that all hands were rejoined into.
 #[cycle(crew)]
-fn draw_all<R: Threads + Sync, A: Allocator + Copy + Send + Sync, G: Gate + Sync>(
+fn draw_all<
+    R: Threads + Sync,
+    A: Allocator + Copy + Send + Sync,
+    D: Contents + Sync,
+    G: Gate + Sync,
+>(
     rt: &R,
     alloc: A,
-    table: &Table<A>,
+    served: Served<'_, A, D>,
     jobs: &[(Session, Request<'_>)],
     size: u32,
     board: &Board<A>,
@@ -93,11 +112,12 @@ fn draw_all<R: Threads + Sync, A: Allocator + Copy + Send + Sync, G: Gate + Sync
     requires { CanDraw jobs.now size board.now hand workers }
     ensures hand { KeepsShare board.now hand result.1 }
     ensures pieces { IfOk result.0
-        (λ pieces. HasAll table.now jobs.now size board.now result.1 pieces.items) }
+        (λ pieces. HasAll (sourced_by D.source served.entry) jobs.now size board.now result.1
+        pieces.items) }
     ensures light { IfOk result.0 (λ pieces. AreLight pieces.items) }
 {
     if workers <= 1 {
-        let pieces = work(rt, alloc, table, jobs, size, board, &mut hand, gate);
+        let pieces = work(rt, alloc, served, jobs, size, board, &mut hand, gate);
         return (pieces, hand);
     }
     let low = workers / 2;
@@ -109,21 +129,23 @@ fn draw_all<R: Threads + Sync, A: Allocator + Copy + Send + Sync, G: Gate + Sync
     let (mine, others) = join(
         rt,
         move || -> (Result<Vec<Piece<A>, A>, AllocError>, Hand)
-            requires { IsSync R.row × IsSync G.row × IsSync A.row × IsSend A.row
+            requires { IsSync R.row × IsSync G.row × IsSync D.row × IsSync A.row × IsSend A.row
                 × Frees A.Allocator A.dealloc_token × CanDraw jobs.now size board.now hand low }
             ensures hand { KeepsShare board.entry.now hand result.1 }
             ensures pieces { IfOk result.0 (λ pieces.
-                HasAll table.entry.now jobs.entry.now size board.entry.now result.1 pieces.items) }
+                HasAll (sourced_by D.source served.entry) jobs.entry.now size board.entry.now
+                result.1 pieces.items) }
             ensures light { IfOk result.0 (λ pieces. AreLight pieces.items) }
-        { draw_all(rt, alloc, table, jobs, size, board, hand, gate, low) },
+        { draw_all(rt, alloc, served, jobs, size, board, hand, gate, low) },
         move || -> (Result<Vec<Piece<A>, A>, AllocError>, Hand)
-            requires { IsSync R.row × IsSync G.row × IsSync A.row × IsSend A.row
+            requires { IsSync R.row × IsSync G.row × IsSync D.row × IsSync A.row × IsSend A.row
                 × Frees A.Allocator A.dealloc_token × CanDraw jobs.now size board.now other high }
             ensures hand { KeepsShare board.entry.now other result.1 }
             ensures pieces { IfOk result.0 (λ pieces.
-                HasAll table.entry.now jobs.entry.now size board.entry.now result.1 pieces.items) }
+                HasAll (sourced_by D.source served.entry) jobs.entry.now size board.entry.now
+                result.1 pieces.items) }
             ensures light { IfOk result.0 (λ pieces. AreLight pieces.items) }
-        { draw_all(rt, alloc, table, jobs, size, board, other, gate, high) },
+        { draw_all(rt, alloc, served, jobs, size, board, other, gate, high) },
     );
     let (pieces, mut hand) = mine;
     let (more, other) = others;

@@ -13,7 +13,7 @@ grown (Err e) old new more same few = tt
 pub returns-clause-few : goal.returns-clause-few
 returns-clause-few g c =
     let job = c.args.job.now in
-    let stack = c.args.table.now in
+    let stack = c.args.served.table.now in
     grown c.moves.result c.args.moved.now.items c.moves.new.into.items (moves stack job.0 (asked_of job.1))
     c.moves.ensures.moves.0
     (few_moves stack job.0 (asked_of job.1) c.few_items_of.ensures)

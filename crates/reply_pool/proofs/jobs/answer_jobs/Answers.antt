@@ -1,11 +1,11 @@
 use Rattle.std.proofs.Common.{◌*◌, ◌^◌, ◌≤◌, unsigned_abs, List, [], ◌∷◌, length, arith, ap, refl, subst, sym}
 use Rattle.std.proofs.lemmas.List.Elements.{All-head, All-nil, All-tail}
-use Rattle.fuse_answer.specs.Puts.{AreSmall}
+use Rattle.fuse_answer.specs.Puts.{AreSmall, sourced_by}
 use Rattle.reply_model.specs.declared.moves.Move.{Move}
 use Rattle.lookup_balances.specs.Balances.{weight}
-use Rattle.reply_pieces.specs.Jobs.{moved_by, reply_to}
+use Rattle.reply_pieces.specs.Jobs.{moved_by}
 use Rattle.reply_pieces.specs.Sums.{AreSums}
-use Rattle.reply_pieces.proofs.Told.{told_all, told_on}
+use Rattle.reply_pieces.proofs.Told.{replies_all, reply_on, told_all, told_on}
 use Rattle.reply_pool.proofs.jobs.answer_jobs.Goals as goal
 
 -- small moves weigh 64 bits each at most
@@ -26,7 +26,8 @@ loop-job-init g c = let none = c.new-moved.ensures.items in record {
 
 pub loop-job-preserved : goal.loop-job-preserved
 loop-job-preserved g c =
-    let stack = c.args.table.now in
+    let by = sourced_by g.D.Contents.source c.args.served in
+    let stack = c.args.served.table.now in
     let jobs = c.args.jobs.now in
     let i = c.loop-job.job-index in
     let job = c.job-item.result in
@@ -34,8 +35,8 @@ loop-job-preserved g c =
     let inv = c.loop-job.invariant in
     let put = c.in_ok-answer_job.ensures in
     record {
-      replies = told_on (reply_to stack) jobs i job c.loop-job.bytes.items (reply_to stack job) c.answer_job.new.bytes.items there
-          c.job-item.is inv.replies put.reply refl;
+      replies = reply_on by jobs i job c.loop-job.bytes.items put.reply.0 c.answer_job.new.bytes.items there c.job-item.is inv.replies
+          put.reply.2 put.reply.1;
       moves = told_on (moved_by stack) jobs i job c.loop-job.moved.items (moved_by stack job) c.answer_job.new.moved.items there
           c.job-item.is inv.moves put.moves refl;
       few = (let more = put.few in let few = inv.few in omega arith);
@@ -58,13 +59,14 @@ returns-clause-light g c =
 
 pub returns-clause-rounded : goal.returns-clause-rounded
 returns-clause-rounded g c =
-    let stack = c.args.table.now in
+    let by = sourced_by g.D.Contents.source c.args.served in
+    let stack = c.args.served.table.now in
     let jobs = c.args.jobs.now in
     let i = c.loop-job.job-index in
     let past : length jobs ≤ i = c.loop-job-test.false in
     let inv = c.loop-job.invariant in
     record {
-      replies = told_all (reply_to stack) jobs i c.loop-job.bytes.items past inv.replies;
+      replies = replies_all by jobs i c.loop-job.bytes.items past inv.replies;
       sums = subst (λ (ms : List Move). AreSums ms c.in_ok-moves.moves.items)
           (told_all (moved_by stack) jobs i c.loop-job.moved.items past inv.moves) c.in_ok-moves.ensures.sums;
     }

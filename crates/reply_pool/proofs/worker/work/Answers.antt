@@ -9,6 +9,7 @@ use Rattle.draw_board.specs.declared.hand.Hand.{Hand}
 use Rattle.draw_board.specs.Hands.{KeepsShare, left, positions, seen_below, total_of}
 use Rattle.lookup_balances.specs.Balances.{weight}
 use Rattle.reply_pieces.specs.declared.pieces.Piece.{Piece}
+use Rattle.fuse_answer.specs.Puts.{sourced_by}
 use Rattle.reply_pieces.specs.Batches.{AreLight, IsPiece, numbers_of}
 use Rattle.reply_pieces.specs.Workers.{KeepsHand}
 use Rattle.reply_pieces.proofs.Hands.{answered_below, numbers_miss, piece_of, told_more, unanswered}
@@ -30,7 +31,7 @@ loop-number-init g c = let none = c.new-pieces.ensures.items in record {
   added = [];
   drawn = sym (append-nil (positions c.args.hand.now));
   told = ap numbers_of none;
-  answered = subst (All (IsPiece c.args.table.now c.args.jobs.now c.args.size)) (sym none) (All-nil _);
+  answered = subst (All (IsPiece (sourced_by g.D.Contents.source c.args.served) c.args.jobs.now c.args.size)) (sym none) (All-nil _);
   light = subst AreLight (sym none) (All-nil _);
 }
 
@@ -42,8 +43,8 @@ loop-number-preserved g c =
     let rounded = c.in_ok-bytes.field-0 in
     let piece : Piece g.row.B.Denot = record { number = n; bytes = rounded.bytes; moves = rounded.moves } in
     let more = c.in_ok-push.ensures.items in
-    let Right : Piece g.row.B.Denot → Type 0 = IsPiece c.args.table.now c.args.jobs.now c.args.size in
-    let right : Right piece = piece_of c.args.table.now c.args.jobs.now c.args.size rounded piece c.batch.result.now
+    let Right : Piece g.row.B.Denot → Type 0 = IsPiece (sourced_by g.D.Contents.source c.args.served) c.args.jobs.now c.args.size in
+    let right : Right piece = piece_of (sourced_by g.D.Contents.source c.args.served) c.args.jobs.now c.args.size rounded piece c.batch.result.now
     c.in_ok-bytes.ensures.rounded c.batch.ensures.jobs refl refl in
     let Small : Piece g.row.B.Denot → Type 0 = λ p. weight p.moves.items ≤ 2 ^ 104 in
     record {

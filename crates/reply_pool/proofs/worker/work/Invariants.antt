@@ -2,6 +2,7 @@ use Rattle.std.proofs.Common.{◌≡◌, ◌-◌, ◌++◌, List, ℕ}
 use Rattle.std.specs.List.{All}
 use Rattle.draw_board.specs.Hands.{KeepsShare, positions, seen_below, total_of}
 use Rattle.draw_board.specs.Positions.{numbers}
+use Rattle.fuse_answer.specs.Puts.{sourced_by}
 use Rattle.reply_pieces.specs.Batches.{AreLight, IsPiece, numbers_of}
 use Rattle.reply_pool.proofs.worker.work.Given as goal
 
@@ -12,7 +13,7 @@ invariant-loop-number g l = record {
   added : List ℕ;
   drawn : positions l.hand ≡ positions l.initial.hand ++ added;
   told : numbers_of l.pieces.items ≡ numbers (total_of l.board) added;
-  answered : All (IsPiece l.table l.jobs l.size) l.pieces.items;
+  answered : All (IsPiece (sourced_by g.D.Contents.source l.served) l.jobs l.size) l.pieces.items;
   light : AreLight l.pieces.items;
 }
 

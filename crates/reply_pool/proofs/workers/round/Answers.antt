@@ -1,5 +1,6 @@
 use Rattle.std.proofs.Common.{ℕ, length}
 use Rattle.std.proofs.lemmas.Result.{IfOk-weaker}
+use Rattle.fuse_answer.specs.Puts.{sourced_by}
 use Rattle.reply_pieces.specs.Batches.{batches}
 use Rattle.reply_pieces.proofs.Batched.{batches_few}
 use Rattle.reply_pieces.proofs.Hands.{rounds}
@@ -19,6 +20,6 @@ pub returns : goal.returns
 returns g c =
     let a = c.in_ok-pieces.ensures in
     IfOk-weaker c.in_order.result _ _
-    (λ rounded joined. rounds c.args.table.now c.args.jobs.now c.batch.result c.in_ok-pieces.pieces.items rounded c.batch.ensures.some
+    (λ rounded joined. rounds (sourced_by g.D.Contents.source c.args.served) c.args.jobs.now c.batch.result c.in_ok-pieces.pieces.items rounded c.batch.ensures.some
     a.answered a.once joined)
     c.in_order.ensures
