@@ -1,10 +1,12 @@
 -- The opening of a session over a table: what the serving loop says of it, as what serving came to.
-use Rattle.std.proofs.Common.{◌≡◌, ap, subst, refl, ℕ, length, Result, Ok, Err, IsErrAnd}
+use Rattle.std.proofs.Common.{◌≡◌, ap, subst, refl, ℕ, List, [], length, map, Result, Ok, Err, IsErrAnd}
 use Rattle.devices.specs.States.{Devices}
 use Rattle.stack_model.specs.Numbers.{nodes}
 use Rattle.stack_model.specs.Listing.{Stacked}
 use Rattle.reply_model.specs.declared.session.Session.{Session}
-use Rattle.reply_pool.specs.Answers.{answering}
+use Rattle.image_bytes.specs.Sources.{Source}
+use Rattle.reply_model.specs.Readings.{sourced}
+use Rattle.reply_pool.specs.Answers.{answering, answering_from}
 use Rattle.serve_loop.specs.declared.opening.Opening.{Opening}
 use Rattle.serve_loop.specs.declared.opening.Opening.TheVariants as openings
 use Rattle.serve_loop.specs.declared.stream_fault.StreamFault.{StreamFault}
@@ -19,12 +21,19 @@ abbrev pub Opened : {A : Type 0} → ℕ → Result (Opening A) StreamFault → 
 Opened turns result old new first stack = Does (λ t. IsOpened (answering first stack) (length (nodes stack.entries)) turns t result) old new
 
 module _ {A : Type 0} (turns : ℕ) (old new : Devices) where
-  -- the same of the session and the stack that a pool was made of
-  pub opened_by : (result : Result (Opening A) StreamFault) (first second : Session) (stack other : Stacked) → first ≡ second
-      → stack ≡ other
-      → Opened turns result old new first stack → Opened turns result old new second other
-  opened_by result first second stack other e f o =
-      subst (λ s. Opened turns result old new second s) f (subst (λ s. Opened turns result old new s stack) e o)
+  -- the same over a stack and some files of its layers
+  abbrev OpenedFrom : {D : Type 0} → Result (Opening A) StreamFault → (D → Source) → Session → Stacked → List D → Type 0
+  OpenedFrom result source first stack files =
+      Does (λ t. IsOpened (answering_from first (sourced stack (map source files))) (length (nodes stack.entries)) turns t result) old new
+
+  -- the same of the session and the stack that a pool was made of, which has no files
+  pub opened_by : {D : Type 0} (result : Result (Opening A) StreamFault) (source : D → Source) (first second : Session)
+      (stack other : Stacked) (files : List D) → first ≡ second
+      → stack ≡ other → files ≡ []
+      → OpenedFrom result source first stack files → Opened turns result old new second other
+  opened_by result source first second stack other files e f none o =
+      subst (λ fs. OpenedFrom result source second other fs) none
+      (subst (λ s. OpenedFrom result source second s files) f (subst (λ s. OpenedFrom result source s stack files) e o))
 
   -- it stopped
   pub open_stopped : (first : Session) (stack : Stacked) (fault : StreamFault) (result : Result (Opening A) Stop)

@@ -7,14 +7,14 @@ ghost use Rattle.fuse_answer.specs.Puts.{PutsMoves};
 ghost use Rattle.fuse_answer.specs.Reads.{asked_of};
 
 pub use draw_board::{Board, Few, Hand};
-pub use fuse_answer::{Move, Session, after, answer, moves};
+pub use fuse_answer::{Move, Served, Session, after, answer, moves};
 pub use fuse_wire::{
     Attr, Dirent, Errno, Framed, InitOut, Op, Replies, Request, frame, put_attr, put_data,
     put_dirent, put_direntplus, put_entry, put_error, put_head, put_init, put_negative_entry,
-    put_open, put_statfs,
+    put_open, put_read, put_statfs,
 };
 use node_table::Table;
-pub use reply_pool::{Piece, Plan, Rounded, round, work};
+pub use reply_pool::{Piece, Plan, Rounded, round, spread_out_from, work};
 use std::alloc::{AllocError, Allocator};
 
 /// Answers the message at the front of some bytes, if one is whole, and says the session after it.
@@ -28,7 +28,7 @@ pub fn answered<A: Allocator>(
         return Ok(session);
     };
     let request = Request::read(&bytes[..len]);
-    answer(table, session, &request, replies)?;
+    answer(Served::held(table), session, &request, replies)?;
     Ok(after(session, &request))
 }
 

@@ -9,3 +9,4 @@ pub mod Lasting
 pub mod Balances
 pub mod Widths
 pub mod Following
+pub mod HeldData

@@ -1,7 +1,7 @@
 -- What serving over images comes to, in the words of the headline: served over good images, or
 -- refused, for a wrong number or a broken layer. Each is what `serve` promises, with its other
 -- cases ruled out.
-use Rattle.std.proofs.Common.{◌≡◌, ◌∙◌, ap, subst, length, ℕ, List, map, inl, inr, Result, Ok, Err, IsErrAnd, refl}
+use Rattle.std.proofs.Common.{◌≡◌, ◌∙◌, sym, ap, subst, length, ℕ, List, map, inl, inr, Result, Ok, Err, IfOk, IsErrAnd, refl}
 use Rattle.devices.specs.States.{Devices}
 use Rattle.romfs_format.specs.declared.rule.ImageFault.{ImageFault}
 use Rattle.stack_model.specs.Numbers.{nodes}
@@ -12,11 +12,16 @@ use Rattle.stack_prepare.specs.Layers.{AreRefused}
 use Rattle.reply_model.specs.declared.session.Session.{Session}
 use Rattle.reply_model.specs.Replies.{reply}
 use Rattle.reply_model.specs.Streams.{replies}
+use Rattle.reply_model.specs.Readings.{Sourced, sourced}
 use Rattle.reply_model.proofs.Following.{as_defined}
+use Rattle.reply_model.proofs.HeldData.{held_layers_told}
+use Rattle.image_bytes.specs.Sources.{held}
 use Rattle.fuse_wire.specs.Requests.{asked}
 use Rattle.serve_loop.specs.Rounds.{IsReply}
 use Rattle.serve_loop.specs.Laws.{HasServed}
-use Rattle.reply_pool.specs.Answers.{answering}
+use Rattle.reply_pool.specs.Answers.{answering, answering_from}
+use Rattle.reply_pool.specs.Spread.{SpreadsFrom}
+use Rattle.reply_pool.specs.declared.RoundPieces.{RoundPieces}
 use Rattle.serve_loop.specs.declared.done.Done.{Done}
 use Rattle.serve_loop.specs.declared.stream_fault.StreamFault.{StreamFault}
 use Rattle.serve_loop.specs.declared.stream_fault.StreamFault.TheVariants.{Turns}
@@ -25,20 +30,28 @@ use Rattle.serve_loop.proofs.Ends.{served}
 use Rattle.serve_core.specs.declared.stop.Stop.{Stop}
 use Rattle.serve_core.specs.declared.stop.Stop.TheVariants.{Layer, Layers}
 use Rattle.serve_core.specs.Stops.{IsRefusal, stop_of_fault, stop_of_refusal}
-use Rattle.serve_core.specs.Headline.{Call, HasServedAll, HasServedOver, IsAtOnce, IsNotBegun, IsRefusedFor, RunsBetween, ServesBetween}
+use Rattle.serve_core.specs.Headline.{Call, HasServedAll, HasServedOver, IsAtOnce, IsNotBegun, IsRefusedFor, RunsFrom, ServesBetween}
 use Rattle.serve_core.proofs.Stops.{broken_told, ended_well, many_told, never_broken, never_many, same_stop}
 
 -- two results that are faults of a stream are so of one
 pub same_fault : {A : Type 0} {a b : StreamFault} → (let result : Result (Done A) StreamFault = Err a in result ≡ Err b) → a ≡ b
 same_fault e = cc
 
+-- what workers gave back over one stack answers the stream of any other that is the same
+pub spread_answers : {A E : Type 0} (first : Session) (over by : Sourced) (s : Session) (stream : List ℕ) (given : Result (RoundPieces A) E)
+    → over ≡ by → IfOk given (λ spread. SpreadsFrom by s stream spread)
+    → IfOk given (λ spread. (begun : Session) × (x : Sourced) × (answering_from first over ≡ answering_from begun x)
+    × SpreadsFrom x s stream spread)
+spread_answers first over by s stream (Ok spread) same out = (first, over, refl, subst (λ x. SpreadsFrom x s stream spread) (sym same) out)
+spread_answers first over by s stream (Err e) same out = tt
+
 -- where the stream of a run was not served to its end, the run tells so
-pub run_stopped : {A : Type 0} (first : Session) (stack : Stacked) (turns : ℕ) (fault : StreamFault) (result : Result (Done A) Stop)
+pub run_stopped : {A : Type 0} (first : Session) (by : Sourced) (turns : ℕ) (fault : StreamFault) (result : Result (Done A) Stop)
     (old new : Devices) → IsErrAnd result (λ said. said ≡ stop_of_fault fault)
-    → Does (λ t. IsRun {A = A} (answering first stack) (length (nodes stack.entries)) turns t (Err fault)) old new
-    → (turns ≡ 0 → fault ≡ Turns) → RunsBetween first stack turns result old new
-run_stopped first stack turns fault (Ok done) old new e run once = absurd e
-run_stopped first stack turns fault (Err said) old new e (got, put, took, held, run) once = record {
+    → Does (λ t. IsRun {A = A} (answering_from first by) (length (nodes by.stack.entries)) turns t (Err fault)) old new
+    → (turns ≡ 0 → fault ≡ Turns) → RunsFrom first by turns result old new
+run_stopped first by turns fault (Ok done) old new e run once = absurd e
+run_stopped first by turns fault (Err said) old new e (got, put, took, held, run) once = record {
   run = (got, put, took, held, record { ended = Err fault; result_is = ap Err e; run = run });
   end = tt;
   at_once = λ none. ap Err (e ∙ ap stop_of_fault (once none));
@@ -55,6 +68,13 @@ pub as_replied : (first : Session) (stack : Stacked) (messages : List (List ℕ)
     → AreRepliesTo (answering first stack) messages bytes → bytes ≡ replies stack first messages
 as_replied first stack messages bytes are =
     as_defined (IsReply (answering first stack)) (reply stack) (λ s q put told. told) first (map asked messages) bytes are
+
+-- and so are they where the data of each layer are read from a source that holds just its bytes
+pub as_replied_from : (first : Session) (stack : Stacked) (messages : List (List ℕ)) (bytes : List ℕ)
+    → AreRepliesTo (answering_from first (sourced stack (map held stack.layers))) messages bytes → bytes ≡ replies stack first messages
+as_replied_from first stack messages bytes are =
+    let by = sourced stack (map held stack.layers) in
+    as_defined (IsReply (answering_from first by)) (reply stack) (held_layers_told stack) first (map asked messages) bytes are
 
 all_served : {A : Type 0} (first : Session) (stack : Stacked) (done : Done A) (t : Trace)
     → HasServed (answering first stack) (length (nodes stack.entries)) t done → HasServedOver first stack done t

@@ -11,8 +11,9 @@ use Rattle.stack_prepare.specs.declared.refusal.Refusal.{Refusal}
 use Rattle.stack_prepare.specs.Layers.{AreRefused}
 use Rattle.stack_prepare.specs.Preparing.{AreStacked}
 use Rattle.reply_model.specs.declared.session.Session.{Session}
+use Rattle.reply_model.specs.Readings.{Sourced, in_memory}
 use Rattle.reply_model.specs.Streams.{replies}
-use Rattle.reply_pool.specs.Answers.{answering}
+use Rattle.reply_pool.specs.Answers.{answering, answering_from}
 use Rattle.serve_loop.specs.declared.done.Done.{Done}
 use Rattle.serve_loop.specs.declared.stream_fault.StreamFault.{StreamFault}
 use Rattle.serve_loop.specs.Serving.{Trace, Does, IsRun}
@@ -23,21 +24,30 @@ use Rattle.serve_core.specs.Stops.{IsRefusal, told}
 
 -- ---- run
 
--- a stream that begins in this session was served over a stack of layers, each message as FUSE has
--- it over the paths that they show, and its end is told
-pub record IsRunOver {A : Type 0} (first : Session) (stack : Stacked) (turns : ℕ) (t : Trace)
+-- a stream that begins in this session was served over a stack of layers and the sources of their
+-- data, each message as FUSE has it over the paths that they show, and its end is told
+pub record IsRunFrom {A : Type 0} (first : Session) (by : Sourced) (turns : ℕ) (t : Trace)
     (result : Result (Done A) Stop) : Type 0 where
   pub ended : Result (Done A) StreamFault
   pub result_is : result ≡ told ended
-  pub run : IsRun (answering first stack) (length (nodes stack.entries)) turns t ended
+  pub run : IsRun (answering_from first by) (length (nodes by.stack.entries)) turns t ended
 
 -- it was served so between a source and a sink; at `Ok` nothing is left of the source, and with no
 -- turns the call answers `Turns`
-pub record RunsBetween {A : Type 0} (first : Session) (stack : Stacked) (turns : ℕ)
+pub record RunsFrom {A : Type 0} (first : Session) (by : Sourced) (turns : ℕ)
     (result : Result (Done A) Stop) (old new : Devices) : Type 0 where
-  pub run : Does (λ t. IsRunOver first stack turns t result) old new
+  pub run : Does (λ t. IsRunFrom first by turns t result) old new
   pub end : OnOk result (IsAtEnd new.source.left)
   pub at_once : turns ≡ 0 → result ≡ Err Turns
+
+-- both, where all layers are held
+abbrev pub IsRunOver : {A : Type 0} → Session → Stacked → ℕ → Trace → Result (Done A) Stop
+    → Type 0
+IsRunOver first stack turns t result = IsRunFrom first (in_memory stack) turns t result
+
+abbrev pub RunsBetween : {A : Type 0} → Session → Stacked → ℕ → Result (Done A) Stop → Devices
+    → Devices → Type 0
+RunsBetween first stack turns result old new = RunsFrom first (in_memory stack) turns result old new
 
 -- ---- serve: prepare, then run
 

@@ -2,7 +2,7 @@
 //! each end of a stream means say `serve_loop::laws`, and that images are refused for one reason
 //! says `stack_prepare::laws`.
 
-ghost use Rattle.std.specs.Prelude.{◌≡◌, ℕ, List, Result, Ok, Err};
+ghost use Rattle.std.specs.Prelude.{◌≡◌, ℕ, List, map, Result, Ok, Err};
 ghost use Rattle.devices.specs.States.{Devices};
 ghost use Rattle.romfs_format.specs.declared.rule.ImageFault.{ImageFault};
 ghost use Rattle.stack_prepare.specs.declared.refusal.Refusal.TheVariants as refusals;
@@ -10,20 +10,28 @@ ghost use Rattle.serve_loop.specs.declared.done.Done.{Done};
 ghost use Rattle.serve_loop.specs.Serving.{AreRepliesTo};
 ghost use Rattle.stack_model.specs.Listing.{Stacked};
 ghost use Rattle.reply_model.specs.declared.session.Session.{Session};
+ghost use Rattle.image_bytes.specs.Sources.{held};
+ghost use Rattle.reply_model.specs.Readings.{sourced};
 ghost use Rattle.reply_model.specs.Streams.{replies};
-ghost use Rattle.reply_pool.specs.Answers.{answering};
+ghost use Rattle.reply_pool.specs.Answers.{answering, answering_from};
 ghost use Rattle.serve_core.specs.declared.stop.Stop.{Stop};
 ghost use Rattle.serve_core.specs.declared.stop.Stop.TheVariants.{Layer, Layers};
 ghost use Rattle.serve_core.specs.Headline.{Call, ServesBetween, HasServedAll, IsRefusedFor, IsAtOnce};
 
 use std::alloc::Allocator;
 
-/// Layers are held in memory, so what may be told to messages are the replies that are defined to
-/// them, one after another.
+/// Where layers are held in memory, what may be told to messages are the replies that are defined
+/// to them, one after another; and so it is where their data are read from sources that hold just
+/// the layers' bytes.
 #[tactic(auto, using(crate::proofs::Headline::as_replied))]
 pub fn replies_are_those_defined()
-    ensures { (first : Session) (stack : Stacked) (messages : List (List ℕ)) (bytes : List ℕ) →
+    ensures held { (first : Session) (stack : Stacked) (messages : List (List ℕ))
+        (bytes : List ℕ) →
         AreRepliesTo (answering first stack) messages bytes →
+        bytes ≡ replies stack first messages }
+    ensures read { (first : Session) (stack : Stacked) (messages : List (List ℕ))
+        (bytes : List ℕ) →
+        AreRepliesTo (answering_from first (sourced stack (map held stack.layers))) messages bytes →
         bytes ≡ replies stack first messages }
 {}
 

@@ -4,14 +4,16 @@ ghost use Rattle.std.specs.Prelude.{IfOk};
 ghost use Rattle.std.specs.Thread.{IsSync};
 ghost use denote.Param.Send.{IsSend, Frees};
 ghost use Rattle.devices.specs.States.{devices};
-ghost use Rattle.reply_pool.specs.Spread.{IsSpreadable, SpreadsOut};
+ghost use Rattle.fuse_answer.specs.Puts.{sourced_by};
+ghost use Rattle.reply_pool.specs.Spread.{IsSpreadable, SpreadsFrom};
 ghost use Rattle.serve_loop.specs.Serving.{AreReady};
-ghost use Rattle.serve_core.specs.Headline.{RunsBetween};
+ghost use Rattle.serve_core.specs.Headline.{RunsBetween, RunsFrom};
 
 use crate::stop::Stop;
 use devices::{Sink, Source};
+use image_bytes::Contents;
 use reply_model::Session;
-use reply_pool::{Plan, Pool, RoundPieces, spread_out};
+use reply_pool::{Plan, Pool, RoundPieces, Served, spread_out_from};
 use serve_loop::{Done, run_by};
 use stack_prepare::{SharedAllocator, Table};
 use std::alloc::AllocError;
@@ -59,15 +61,42 @@ pub fn run<R: Threads + Sync, A: SharedAllocator, S: Source, K: Sink, G: Gate + 
         (devices (S.state source.old) (K.state sink.old))
         (devices (S.state source.new) (K.state sink.new)) }
 {
+    run_from(rt, alloc, Served::held(table), source, sink, terms)
+}
+
+/// The same over a table and the files of its layers. Data that stay in a file are read when they
+/// are asked for: a READ is told what the file gave then, or EIO where a read failed or the file
+/// ended before. All else is told as [`run`] tells it.
+pub fn run_from<
+    R: Threads + Sync,
+    A: SharedAllocator,
+    D: Contents + Sync,
+    S: Source,
+    K: Sink,
+    G: Gate + Sync,
+>(
+    rt: &R,
+    alloc: A,
+    served: Served<'_, A, D>,
+    source: &mut S,
+    sink: &mut K,
+    terms: &Terms<'_, G>,
+) -> Result<Done<A>, Stop>
+    requires { AreReady terms.now.turns (devices (S.state source.old) (K.state sink.old)) }
+    ensures { RunsFrom terms.now.first (sourced_by D.source served.entry) terms.now.turns result
+        (devices (S.state source.old) (K.state sink.old))
+        (devices (S.state source.new) (K.state sink.new)) }
+{
     let (plan, gate) = (terms.plan, terms.gate);
     let workers = move |stream: &[u8], session: Session, messages: usize| -> Result<
         RoundPieces<A>,
         AllocError,
     >
-        requires { IsSpreadable stream.now messages × IsSync R.row × IsSync G.row × IsSync A.row
-            × IsSend A.row × Frees A.Allocator A.dealloc_token }
-        ensures { IfOk result (λ spread. SpreadsOut table.entry.now session stream.now spread) }
-    { spread_out(rt, alloc, table, stream, session, messages, plan, gate) };
-    let pool = Pool::new(table, terms.first, plan, gate, workers);
+        requires { IsSpreadable stream.now messages × IsSync R.row × IsSync G.row × IsSync D.row
+            × IsSync A.row × IsSend A.row × Frees A.Allocator A.dealloc_token }
+        ensures { IfOk result (λ spread.
+            SpreadsFrom (sourced_by D.source served.entry) session stream.now spread) }
+    { spread_out_from(rt, alloc, served, stream, session, messages, plan, gate) };
+    let pool = Pool::over(served, terms.first, plan, gate, workers);
     Ok(run_by(alloc, &pool, source, sink, terms.turns)?)
 }

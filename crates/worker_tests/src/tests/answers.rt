@@ -2,7 +2,7 @@
 
 use super::jobs::{Job, jobs_of};
 use super::tables::sample_table;
-use fuse_answer::{answer, moves};
+use fuse_answer::{Served, answer, moves};
 use fuse_wire::Replies;
 use node_table::Table;
 use reply_model::Move;
@@ -38,7 +38,7 @@ pub fn appended<R: Threads + Sync>(
 fn answered<A: Allocator>(alloc: A, table: &Table<A>, job: &Job<'_>) -> Option<Left> {
     let mut out = Replies::new(alloc);
     out.append(&FRONT).ok()?;
-    let told = answer(table, job.0, &job.1, &mut out).is_ok();
+    let told = answer(Served::held(table), job.0, &job.1, &mut out).is_ok();
     let appended = out.len().checked_sub(FRONT.len())?;
     out.as_slice()
         .starts_with(&FRONT)

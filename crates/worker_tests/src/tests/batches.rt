@@ -5,7 +5,7 @@ use super::jobs::jobs_of;
 use super::tables::sample_table;
 use node_table::Table;
 use reply_model::Move;
-use reply_pool::{Plan, Rounded, round};
+use reply_pool::{Plan, Rounded, Served, round};
 use std::alloc::{AllocError, Allocator, Global};
 use std::test::Fail;
 use std::thread::Threads;
@@ -77,7 +77,8 @@ fn round_over<'a, R: Threads + Sync>(
     let requests = jobs_of(memories.global, &stream).ok()?;
     let few = requests.len().min(256);
     let alloc = &memories.refusing;
-    match round(rt, alloc, table, &requests[..few], plan, &gate) {
+    let served = Served::held(table);
+    match round(rt, alloc, served, &requests[..few], plan, &gate) {
         Ok(rounded) => Some(Ok((is_right(&rounded, jobs, &replies), gate.seen()))),
         Err(AllocError) => Some(Err(AllocError)),
     }

@@ -5,7 +5,7 @@ use super::tables::sample_table;
 use super::threads::pieces_of;
 use node_table::Table;
 use reply_model::Session;
-use reply_pool::{Plan, round, spread_out};
+use reply_pool::{Plan, Served, round, spread_out};
 use stack_core::Work;
 use std::alloc::{AllocError, Global};
 use std::test::Fail;
@@ -29,7 +29,7 @@ fn is_given_up_over<R: Threads + Sync>(
     if 256 < few.len() {
         return None;
     }
-    let rounded = round(rt, alloc, table, few, plan, gate).ok()?;
+    let rounded = round(rt, alloc, Served::held(table), few, plan, gate).ok()?;
     (0 < rounded.bytes.len()).then_some(gate.is_given_up())
 }
 

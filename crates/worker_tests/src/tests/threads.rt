@@ -9,7 +9,7 @@ use super::jobs::jobs_of;
 use super::tables::sample_table;
 use draw_board::{Board, Hand};
 use node_table::Table;
-use reply_pool::{Piece, work};
+use reply_pool::{Piece, Served, work};
 use stack_core::{FreePass, Gate};
 use std::alloc::{AllocError, Global};
 use std::snapshot::Snapshot;
@@ -77,7 +77,7 @@ fn pieces_over<R: Threads + Sync, G: Gate>(
         return None;
     };
     let alloc = &memories.refusing;
-    let pieces = work(rt, alloc, table, jobs, SIZE, &board, &mut hand, gate);
+    let pieces = work(rt, alloc, Served::held(table), jobs, SIZE, &board, &mut hand, gate);
     let draws = board.close(hand);
     match pieces {
         Ok(pieces) => Some(Ok((pieces.len(), draws))),
@@ -113,7 +113,7 @@ fn work_out<R: Threads + Sync>(
             hand,
         };
     }
-    let pieces = work(rt, alloc, table, &jobs, SIZE, board, &mut hand, &FreePass);
+    let pieces = work(rt, alloc, Served::held(table), &jobs, SIZE, board, &mut hand, &FreePass);
     Done { pieces, hand }
 }
 

@@ -12,8 +12,8 @@ returns-in_err-open_by g c =
     let table = c.args.table.now in
     let first = c.args.terms.now.first in
     open_stopped {A = g.row.A.Denot} turns old new first table fault c.from_residual.result c.from_residual.ensures.1
-    (opened_by {A = g.row.A.Denot} turns old new (Err fault) c.new-pool.result.first first c.new-pool.result.table.now table
-    c.new-pool.ensures.first c.new-pool.ensures.table c.in_err-open_by.ensures)
+    (opened_by {A = g.row.A.Denot} turns old new (Err fault) _ c.new-pool.result.first first c.new-pool.result.served.table.now table
+    c.new-pool.result.served.files.now c.new-pool.ensures.first c.new-pool.ensures.table c.new-pool.ensures.files c.in_err-open_by.ensures)
 
 pub returns : goal.returns
 returns g c =
@@ -24,5 +24,5 @@ returns g c =
     let table = c.args.table.now in
     let first = c.args.terms.now.first in
     opened_well {A = g.row.A.Denot} turns old new first table opening
-    (opened_by {A = g.row.A.Denot} turns old new (Ok opening) c.new-pool.result.first first c.new-pool.result.table.now table
-    c.new-pool.ensures.first c.new-pool.ensures.table c.in_ok-open_by.ensures)
+    (opened_by {A = g.row.A.Denot} turns old new (Ok opening) _ c.new-pool.result.first first c.new-pool.result.served.table.now table
+    c.new-pool.result.served.files.now c.new-pool.ensures.first c.new-pool.ensures.table c.new-pool.ensures.files c.in_ok-open_by.ensures)

@@ -1,0 +1,5 @@
+use Rattle.serve_core.proofs.Headline.{as_replied_from}
+use Rattle.serve_core.proofs.laws.replies_are_those_defined.Goals as goal
+
+pub returns-clause-read : goal.returns-clause-read
+returns-clause-read c = as_replied_from
