@@ -1,11 +1,11 @@
 -- The opening of a session over a table: what the serving loop says of it, as what serving came to.
-use Rattle.std.proofs.Common.{◌≡◌, ap, subst, refl, ℕ, List, [], length, map, Result, Ok, Err, IsErrAnd}
+use Rattle.std.proofs.Common.{◌≡◌, ◌∙◌, ap, subst, refl, ℕ, List, [], length, map, Result, Ok, Err, IsErrAnd}
 use Rattle.devices.specs.States.{Devices}
 use Rattle.stack_model.specs.Numbers.{nodes}
 use Rattle.stack_model.specs.Listing.{Stacked}
 use Rattle.reply_model.specs.declared.session.Session.{Session}
 use Rattle.image_bytes.specs.Sources.{Source}
-use Rattle.reply_model.specs.Readings.{sourced}
+use Rattle.reply_model.specs.Readings.{in_memory, sourced}
 use Rattle.reply_pool.specs.Answers.{answering, answering_from}
 use Rattle.serve_loop.specs.declared.opening.Opening.{Opening}
 use Rattle.serve_loop.specs.declared.opening.Opening.TheVariants as openings
@@ -15,6 +15,11 @@ use Rattle.serve_loop.specs.Opening.{IsOpened}
 use Rattle.serve_core.specs.declared.stop.Stop.{Stop}
 use Rattle.serve_core.specs.Stops.{stop_of_fault}
 use Rattle.device_readers.specs.Readers.{IsOpenedOver}
+
+-- over a stack without files all layers are held
+pub held_alone : {D : Type 0} (source : D → Source) (stack other : Stacked) (files : List D) → stack ≡ other → files ≡ []
+    → sourced stack (map source files) ≡ in_memory other
+held_alone source stack other files e none = ap (λ s. sourced s (map source files)) e ∙ ap (λ fs. sourced other (map source fs)) none
 
 -- what the loop says of a stream that begins in this session, over a stack
 abbrev pub Opened : {A : Type 0} → ℕ → Result (Opening A) StreamFault → Devices → Devices → Session → Stacked → Type 0

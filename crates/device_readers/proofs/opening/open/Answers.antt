@@ -1,6 +1,9 @@
-use Rattle.std.proofs.Common.{Ok, Err}
+use Rattle.std.proofs.Common.{rules, Ok, Err, IfOk}
 use Rattle.devices.specs.States.{devices}
-use Rattle.device_readers.proofs.Opened.{open_stopped, opened_by, opened_well}
+use Rattle.reply_model.specs.Readings.{in_memory}
+use Rattle.reply_pool.specs.Spread.{SpreadsOut}
+use Rattle.serve_core.proofs.Headline.{spread_answers}
+use Rattle.device_readers.proofs.Opened.{held_alone, open_stopped, opened_by, opened_well}
 use Rattle.device_readers.proofs.opening.open.Goals as goal
 
 pub returns-in_err-open_by : goal.returns-in_err-open_by
@@ -26,3 +29,14 @@ returns g c =
     opened_well {A = g.row.A.Denot} turns old new first table opening
     (opened_by {A = g.row.A.Denot} turns old new (Ok opening) _ c.new-pool.result.first first c.new-pool.result.served.table.now table
     c.new-pool.result.served.files.now c.new-pool.ensures.first c.new-pool.ensures.table c.new-pool.ensures.files c.in_ok-open_by.ensures)
+
+pub open_by-requires-clause-ready : goal.open_by-requires-clause-ready
+open_by-requires-clause-ready g c = record {
+  takes = λ stream session messages spreadable. search rules;
+  whole = λ stream session messages given gives. search rules;
+  answers = λ stream session messages given gives. (let table = c.args.table.now in
+      let out : IfOk given (λ spread. SpreadsOut table session stream.now spread) = search rules in
+      spread_answers _ _ (in_memory table) session stream.now given
+      (held_alone _ c.new-pool.result.served.table.now table c.new-pool.result.served.files.now c.new-pool.ensures.table
+      c.new-pool.ensures.files) out);
+}
