@@ -21,7 +21,8 @@ use Rattle.serve_core.specs.declared.stop.Stop.TheVariants.{Memory}
 use Rattle.serve_loop.specs.declared.stream_fault.StreamFault.TheVariants as faults
 use Rattle.serve_core.specs.Headline.{IsRunOver}
 use Rattle.device_readers.specs.declared.ends.Ended.{Ended}
-use Rattle.device_readers.specs.Ends.{AreBoth, IsBehind, done_of, end_of, first_told}
+use Rattle.device_readers.specs.Crews.{IsOfEach, IsOfLed, alone, by_itself, halves, with_others}
+use Rattle.device_readers.specs.Ends.{IsBehind, IsOfBoth, done_of, end_of}
 use Rattle.device_readers.specs.Readers.{AreReaders, AreServed, AreServedNew, Counts, IsAlone, IsOpenedOver, IsServedBy, Reader, counts_of, unused}
 use Rattle.device_readers.proofs.Told.{behind_told, both_told, one_told}
 
@@ -29,18 +30,22 @@ all_both : {X : Type 0} (P : X → Type 0) (xs ys : List X) → AllByRecursion P
 all_both P [] ys a b = b
 all_both P (x ∷ xs) ys a b = (a.0, all_both P xs ys a.1 b)
 
+-- two groups' ends as one, as readers are joined
+abbrev pub Both : {A : Type 0} → Ended A → Ended A → Ended A → Type 0
+Both = λ low high all. IsOfBoth low high all
+
 -- the counts of devices that were new
 new_counts : (old : Devices) → old.source.counts ≡ no_pulls → old.sink.counts ≡ no_pushes → counts_of old ≡ unused
 new_counts old p q = ap₂ (λ (x : Pulls) (y : Pushes). (let c : Counts = record { pulls = x; pushes = y } in c)) p q
 
 module _ {A : Type 0} (first : Session) (stack : Stacked) (turns : ℕ) where
   -- a reader by what its devices were before and are
-  pub alone : (result : Result (Done A) Stop) (old new : Devices) (input output : Bool) (ended : Ended A)
+  pub by_devices : (result : Result (Done A) Stop) (old new : Devices) (input output : Bool) (ended : Ended A)
       → Does (λ t. IsRunOver first stack turns t result) old new → (IsTrue input → 0 < new.source.counts.failures)
       → (IsTrue output → 0 < new.sink.counts.failures) → ended.end ≡ end_of result input output
       → IfOk ended.done (λ v. v.items ≡ done_of result)
       → IsAlone first stack turns (counts_of old) ended
-  alone result old new input output ended (got, put, took, held, run) i o end done =
+  by_devices result old new input output ended (got, put, took, held, run) i o end done =
       let r : Reader A = record {
         trace = trace got put old.source.counts new.source.counts old.sink.counts new.sink.counts;
         result = result;
@@ -54,14 +59,14 @@ module _ {A : Type 0} (first : Session) (stack : Stacked) (turns : ℕ) where
       }
 
   -- a reader whose devices were new
-  pub alone_new : (result : Result (Done A) Stop) (old new : Devices) (input output : Bool) (ended : Ended A)
+  pub by_new_devices : (result : Result (Done A) Stop) (old new : Devices) (input output : Bool) (ended : Ended A)
       → old.source.counts ≡ no_pulls → old.sink.counts ≡ no_pushes
       → Does (λ t. IsRunOver first stack turns t result) old new → (IsTrue input → 0 < new.source.counts.failures)
       → (IsTrue output → 0 < new.sink.counts.failures) → ended.end ≡ end_of result input output
       → IfOk ended.done (λ v. v.items ≡ done_of result)
       → IsAlone first stack turns unused ended
-  alone_new result old new input output ended p q does i o end done =
-      subst (λ from. IsAlone first stack turns from ended) (new_counts old p q) (alone result old new input output ended does i o end done)
+  by_new_devices result old new input output ended p q does i o end done =
+      subst (λ from. IsAlone first stack turns from ended) (new_counts old p q) (by_devices result old new input output ended does i o end done)
 
   -- a reader that had no memory for its room
   pub roomless : (ended : Ended A) → ended.end ≡ end_of {A = A} (Err Memory) false false → IfOk ended.done (λ v. v.items ≡ [])
@@ -90,8 +95,7 @@ module _ {A : Type 0} (first : Session) (stack : Stacked) (turns : ℕ) where
       }
 
   -- one new reader
-  pub one_new : (ended : Ended A) (count : ℕ) → count ≡ 1 → IsAlone first stack turns unused ended
-      → AreServedNew first stack turns count ended
+  one_new : (ended : Ended A) (count : ℕ) → count ≡ 1 → IsAlone first stack turns unused ended → AreServedNew first stack turns count ended
   one_new ended count one a = record {
     readers = a.reader ∷ [];
     new = record { count_is = sym one; each = (a.is, tt) };
@@ -99,22 +103,29 @@ module _ {A : Type 0} (first : Session) (stack : Stacked) (turns : ℕ) where
   }
 
   -- new readers in two groups
-  pub both_new : (m n count : ℕ) (low high all : Ended A) → m + n ≡ count → AreServedNew first stack turns m low
-      → AreServedNew first stack turns n high → all.end ≡ first_told low.end high.end
-      → IfOk all.done (λ v. AreBoth low.done high.done v.items) → AreServedNew first stack turns count all
-  both_new m n count low high all sum l h end done = record {
+  both_new : (m n count : ℕ) (low high all : Ended A) → m + n ≡ count → AreServedNew first stack turns m low
+      → AreServedNew first stack turns n high → IsOfBoth low high all → AreServedNew first stack turns count all
+  both_new m n count low high all sum l h both = record {
     readers = l.readers ++ h.readers;
     new = record {
       count_is = (let k = length-append l.readers h.readers in let a = l.new.count_is in let b = h.new.count_is in omega arith);
       each = all_both _ l.readers h.readers l.new.each h.new.each;
     };
-    told = both_told l.readers h.readers low high all l.told h.told end done;
+    told = both_told l.readers h.readers low high all l.told h.told both;
   }
 
-  -- one that goes on, and no other
-  pub goes_alone : (from : Counts) (ended : Ended A) (others : ℕ) → others ≡ 0 → IsAlone first stack turns from ended
-      → AreServed first stack turns from (1 + others) ended
-  goes_alone from ended others none a = record {
+  module _ (is : Ended A → Type 0) (each : (ended : Ended A) → is ended → IsAlone first stack turns unused ended) where
+    -- so many new readers, each of which came to its end by itself
+    all_new : (count : ℕ) (all : Ended A) → IsOfEach Both is count all → AreServedNew first stack turns count all
+    all_new count all (alone one i) = one_new all count one (each all i)
+    all_new count all (halves {m} {n} {low} {high} sum l h both) =
+        both_new m n count low high all sum (all_new m low l) (all_new n high h) both
+
+  -- one that goes on, and so many others
+  pub led : (leads is : Ended A → Type 0) (from : Counts) (others : ℕ) (all : Ended A) → IsOfLed Both leads is others all
+      → ((ended : Ended A) → leads ended → IsAlone first stack turns from ended)
+      → ((ended : Ended A) → is ended → IsAlone first stack turns unused ended) → AreServed first stack turns from (1 + others) all
+  led leads is from others all (by_itself none l) on each = let a = on all l in record {
     readers = a.reader ∷ [];
     are = record {
       leader = a.reader;
@@ -126,23 +137,19 @@ module _ {A : Type 0} (first : Session) (stack : Stacked) (turns : ℕ) where
     };
     told = a.told;
   }
-
-  -- one that goes on, and others
-  pub goes_with : (from : Counts) (others : ℕ) (low high all : Ended A) → IsAlone first stack turns from low
-      → AreServedNew first stack turns others high → all.end ≡ first_told low.end high.end
-      → IfOk all.done (λ v. AreBoth low.done high.done v.items) → AreServed first stack turns from (1 + others) all
-  goes_with from others low high all l h end done = record {
-    readers = l.reader ∷ h.readers;
-    are = record {
-      leader = l.reader;
-      others = h.readers;
-      readers_are = refl;
-      count_is = ap (λ n. 1 + n) (sym h.new.count_is);
-      goes_on = l.is;
-      new = record { count_is = refl; each = h.new.each };
-    };
-    told = both_told (l.reader ∷ []) h.readers low high all l.told h.told end done;
-  }
+  led leads is from others all (with_others {low} {high} l h both) on each =
+      let a = on low l in let rest = all_new is each others high h in record {
+        readers = a.reader ∷ rest.readers;
+        are = record {
+          leader = a.reader;
+          others = rest.readers;
+          readers_are = refl;
+          count_is = ap (λ n. 1 + n) (sym rest.new.count_is);
+          goes_on = a.is;
+          new = record { count_is = refl; each = rest.new.each };
+        };
+        told = both_told (a.reader ∷ []) rest.readers low high all a.told rest.told both;
+      }
 
   -- where the session has begun, the devices may be used on
   pub ready_on : (old new : Devices) (begun : Begun A) → old.source.counts ≡ no_pulls → old.sink.counts ≡ no_pushes → turns ≤ MAX_TURNS

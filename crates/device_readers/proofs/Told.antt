@@ -8,7 +8,7 @@ use Rattle.serve_loop.specs.declared.done.Done.{Done}
 use Rattle.device_readers.specs.declared.ends.End.{End}
 use Rattle.device_readers.specs.declared.ends.End.TheVariants.{AtEnd, TakenAway, Stopped}
 use Rattle.device_readers.specs.declared.ends.Ended.{Ended}
-use Rattle.device_readers.specs.Ends.{AreBoth, IsBehind, done_of, end_of, first_told, place_of_end}
+use Rattle.device_readers.specs.Ends.{AreBoth, IsBehind, IsOfBoth, done_of, end_of, first_told, place_of_end}
 use Rattle.device_readers.specs.Readers.{Reader, TellsOf, done_of_all, end_of_all}
 
 -- the former is told where it stands first, and the latter where that does
@@ -86,11 +86,11 @@ module _ {A : Type 0} where
 
   -- what is told of two lists of readers is put together
   pub both_told : (xs ys : List (Reader A)) (low high all : Ended A) → TellsOf [] xs low → TellsOf [] ys high
-      → all.end ≡ first_told low.end high.end → IfOk all.done (λ v. AreBoth low.done high.done v.items) → TellsOf [] (xs ++ ys) all
-  both_told xs ys low high all l h end done = record {
-    end = end ∙ ap (λ e. first_told e high.end) l.end ∙ ap (first_told (end_of_all xs)) h.end ∙ sym (ends_append xs ys);
+      → IsOfBoth low high all → TellsOf [] (xs ++ ys) all
+  both_told xs ys low high all l h both = record {
+    end = both.end ∙ ap (λ e. first_told e high.end) l.end ∙ ap (first_told (end_of_all xs)) h.end ∙ sym (ends_append xs ys);
     done = subst (λ ds. IfOk all.done (λ v. v.items ≡ ds)) (sym (done_append xs ys))
-        (both_done (done_of_all xs) (done_of_all ys) low.done high.done all.done l.done h.done done);
+        (both_done (done_of_all xs) (done_of_all ys) low.done high.done all.done l.done h.done both.done);
   }
 
   behind_done : {E : Type 0} (before : Done A) (xs : List (Done A)) (more all : Result (Vec (Done A) A) E) → IfOk more (λ v. v.items ≡ xs)

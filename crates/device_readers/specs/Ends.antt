@@ -1,10 +1,11 @@
 -- How the readers of one open /dev/fuse ended, and which end is told of all of them.
-use Rattle.std.specs.Prelude.{◌≡◌, ℕ, Bool, ◌||◌, List, [], ◌∷◌, ◌++◌, Vec, Result, Ok, Err, IsOkAnd, nat_le, if◌then◌else◌}
+use Rattle.std.specs.Prelude.{◌≡◌, ℕ, Bool, ◌||◌, List, [], ◌∷◌, ◌++◌, Vec, Result, Ok, Err, IfOk, IsOkAnd, nat_le, if◌then◌else◌}
 use Rattle.serve_core.specs.declared.stop.Stop.{Stop}
 use Rattle.serve_core.specs.declared.stop.Stop.TheVariants as stops
 use Rattle.serve_loop.specs.declared.done.Done.{Done}
 use Rattle.device_readers.specs.declared.ends.End.{End}
 use Rattle.device_readers.specs.declared.ends.End.TheVariants.{AtEnd, TakenAway, Stopped}
+use Rattle.device_readers.specs.declared.ends.Ended.{Ended}
 
 -- the end of a reader that stopped: the mount was taken away where a read failed and its side is
 -- gone, or a write failed and one side is
@@ -53,3 +54,8 @@ AreBoth low high all = IsOkAnd low (λ xs. IsOkAnd high (λ ys. all ≡ xs.items
 -- a list with one more in front, where memory was not refused for it
 abbrev pub IsBehind : {A E : Type 0} → Done A → Result (Vec (Done A) A) E → List (Done A) → Type 0
 IsBehind before more all = IsOkAnd more (λ xs. all ≡ before ∷ xs.items)
+
+-- what two groups came to, as one
+pub record IsOfBoth {A : Type 0} (low high all : Ended A) : Type 0 where
+  pub end : all.end ≡ first_told low.end high.end
+  pub done : IfOk all.done (λ done. AreBoth low.done high.done done.items)

@@ -1,3 +1,4 @@
 pub mod Ends
+pub mod Crews
 pub mod Readers
 pub mod Laws

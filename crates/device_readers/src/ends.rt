@@ -1,8 +1,9 @@
 //! How readers ended.
 
 ghost use Rattle.std.specs.Prelude.{◌≡◌, ◌∷◌, [], IfOk};
-ghost use Rattle.device_readers.specs.Ends.{AreBoth, IsBehind, done_of, end_of, end_of_stop, first_told, place_of, place_of_end};
+ghost use Rattle.device_readers.specs.Ends.{AreBoth, IsBehind, IsOfBoth, done_of, end_of, end_of_stop, first_told, place_of, place_of_end};
 
+use crate::crew::Joins;
 use serve_core::{Done, Stop};
 use std::alloc::{AllocError, Allocator};
 
@@ -51,14 +52,14 @@ pub(crate) fn ended_alone<A: Allocator>(
     }
 }
 
-// What two groups of readers came to, the lower one first.
-pub(crate) fn both<A: Allocator>(low: Ended<A>, high: Ended<A>) -> Ended<A>
-    ensures end { result.end ≡ first_told low.end high.end }
-    ensures done { IfOk result.done (λ all. AreBoth low.done high.done all.items) }
-{
-    Ended {
-        end: first_told(low.end, high.end),
-        done: joined(low.done, high.done),
+impl<A: Allocator> Joins for Ended<A> {
+    ghost of_both = { λ low high all. IsOfBoth low high all };
+
+    fn both(low: Ended<A>, high: Ended<A>) -> Ended<A> {
+        Ended {
+            end: first_told(low.end, high.end),
+            done: joined(low.done, high.done),
+        }
     }
 }
 

@@ -10,6 +10,7 @@
 
 pub mod ends;
 pub mod laws;
+mod crew;
 mod opening;
 mod reader;
 mod readers;

@@ -24,15 +24,15 @@ pub(crate) fn serve_on<
     rt: &R,
     alloc: A,
     table: &Table<A>,
-    mut input: MessageTap<I, A>,
-    mut output: ReplySpout<O>,
     terms: &Terms<'_, G>,
+    input: &mut MessageTap<I, A>,
+    output: &mut ReplySpout<O>,
 ) -> Ended<A>
-    requires { AreReady terms.now.turns (ends I.remaining input output).devices }
+    requires { AreReady terms.now.turns (ends I.remaining input.old output.old).devices }
     ensures { IsAlone terms.now.first table.now terms.now.turns
-        (counts_of (ends I.remaining input output).devices) result }
+        (counts_of (ends I.remaining input.old output.old).devices) result }
 {
-    let served = run(rt, alloc, table, &mut input, &mut output, terms);
+    let served = run(rt, alloc, table, input, output, terms);
     let input_gone = input.is_gone();
     let output_gone = output.is_gone();
     ended_alone(alloc, served, input_gone, output_gone)
@@ -45,12 +45,15 @@ pub(crate) fn serve_alone<
     I: Read + Drop,
     O: Write + Drop,
     G: Gate + Sync,
->(rt: &R, alloc: A, table: &Table<A>, reader: I, writer: O, terms: &Terms<'_, G>) -> Ended<A>
+>(rt: &R, alloc: A, table: &Table<A>, terms: &Terms<'_, G>, reader: I, writer: O) -> Ended<A>
     requires { terms.now.turns ≤ MAX_TURNS }
     ensures { IsAlone terms.now.first table.now terms.now.turns unused result }
 {
     match MessageTap::new(alloc, reader) {
-        Ok(input) => serve_on(rt, alloc, table, input, ReplySpout::new(writer), terms),
+        Ok(mut input) => {
+            let mut output = ReplySpout::new(writer);
+            serve_on(rt, alloc, table, terms, &mut input, &mut output)
+        }
         Err(_) => ended_alone(alloc, Err(Stop::Memory), false, false),
     }
 }

@@ -1,21 +1,22 @@
 //! All readers.
 
-ghost use Rattle.std.specs.Prelude.{◌≡◌, ◌+◌, ◌<◌, ◌≤◌};
+ghost use Rattle.std.specs.Prelude.{◌+◌, ◌<◌, ◌≤◌};
 ghost use Rattle.std.specs.Thread.{IsSync};
 ghost use denote.Param.Send.{IsSend, Frees};
 ghost use Rattle.devices.specs.declared.limits.TheConstants.{MAX_TURNS};
 ghost use Rattle.fuse_device.specs.Ends.{ends};
 ghost use Rattle.serve_loop.specs.Serving.{AreReady};
-ghost use Rattle.device_readers.specs.Readers.{AreServed, AreServedNew, IsAlone, IsServedBy, counts_of};
+ghost use Rattle.device_readers.specs.Readers.{AreServed, IsAlone, IsServedBy, counts_of, unused};
 
-use crate::ends::{Ended, behind, both, ended_alone};
+use crate::crew::lead_others;
+use crate::ends::{Ended, behind, ended_alone};
 use crate::opening::open;
 use crate::reader::{serve_alone, serve_on};
 use fuse_device::{MessageTap, ReplySpout};
 use serve_core::{Gate, SharedAllocator, Stop, Terms};
 use serve_loop::{Begun, Opening};
 use std::io::{Read, Write};
-use std::thread::{Threads, join};
+use std::thread::Threads;
 use table_reader::Table;
 
 /// Serves the requests of an open `/dev/fuse` over a table by so many readers, each over the same
@@ -29,8 +30,8 @@ use table_reader::Table;
 pub fn serve_by_readers<
     R: Threads + Sync,
     A: SharedAllocator,
-    I: Read + Copy + Send + Drop,
-    O: Write + Copy + Send + Drop,
+    I: Read + Copy + Sync + Drop,
+    O: Write + Copy + Sync + Drop,
     G: Gate + Sync,
 >(
     rt: &R,
@@ -66,7 +67,7 @@ pub fn serve_by_readers<
     };
     let others = readers - 1;
     let all = serve_with(
-        rt, alloc, table, input, output, reader, writer, others, &terms,
+        rt, alloc, table, &terms, reader, writer, others, &mut input, &mut output,
     );
     behind(alloc, done, all)
 }
@@ -75,89 +76,36 @@ pub fn serve_by_readers<
 fn serve_with<
     R: Threads + Sync,
     A: SharedAllocator,
-    I: Read + Copy + Send + Drop,
-    O: Write + Copy + Send + Drop,
+    I: Read + Copy + Sync + Drop,
+    O: Write + Copy + Sync + Drop,
     G: Gate + Sync,
 >(
     rt: &R,
     alloc: A,
     table: &Table<A>,
-    input: MessageTap<I, A>,
-    output: ReplySpout<O>,
+    terms: &Terms<'_, G>,
     reader: I,
     writer: O,
     others: u32,
-    terms: &Terms<'_, G>,
+    input: &mut MessageTap<I, A>,
+    output: &mut ReplySpout<O>,
 ) -> Ended<A>
-    requires { AreReady terms.now.turns (ends I.remaining input output).devices }
+    requires { AreReady terms.now.turns (ends I.remaining input.old output.old).devices }
     ensures { AreServed terms.now.first table.now terms.now.turns
-        (counts_of (ends I.remaining input output).devices) (1 + others) result }
+        (counts_of (ends I.remaining input.old output.old).devices) (1 + others) result }
 {
-    if others == 0 {
-        return serve_on(rt, alloc, table, input, output, terms);
-    }
-    let (rest, leader) = join(
-        rt,
-        move || -> Ended<A>
-            requires { IsSync R.row × IsSync G.row × IsSync A.row × IsSend A.row
-                × Frees A.Allocator A.dealloc_token × IsSend I.row × IsSend O.row
-                × (1 ≤ others) × (terms.now.turns ≤ MAX_TURNS) }
-            ensures { AreServedNew terms.entry.now.first table.entry.now
-                terms.entry.now.turns others result }
-        { serve_each(rt, alloc, table, reader, writer, others, terms) },
-        move || -> Ended<A>
-            requires { IsSync R.row × IsSync G.row × IsSync A.row × IsSend A.row
-                × Frees A.Allocator A.dealloc_token × IsSend I.row × IsSend O.row
-                × AreReady terms.now.turns (ends I.remaining input output).devices }
-            ensures { IsAlone terms.entry.now.first table.entry.now terms.entry.now.turns
-                (counts_of (ends I.remaining input output).devices) result }
-        { serve_on(rt, alloc, table, input, output, terms) },
-    );
-    both(leader, rest)
-}
-
-// Serves by so many new readers at the same time.
-#[cycle(crew)]
-fn serve_each<
-    R: Threads + Sync,
-    A: SharedAllocator,
-    I: Read + Copy + Send + Drop,
-    O: Write + Copy + Send + Drop,
-    G: Gate + Sync,
->(
-    rt: &R,
-    alloc: A,
-    table: &Table<A>,
-    reader: I,
-    writer: O,
-    count: u32,
-    terms: &Terms<'_, G>,
-) -> Ended<A>
-    requires some { 1 ≤ count }
-    requires turns { terms.now.turns ≤ MAX_TURNS }
-    ensures { AreServedNew terms.now.first table.now terms.now.turns count result }
-{
-    if count <= 1 {
-        return serve_alone(rt, alloc, table, reader, writer, terms);
-    }
-    let low = count / 2;
-    let high = count - low;
-    let (lows, highs) = join(
-        rt,
-        move || -> Ended<A>
-            requires { IsSync R.row × IsSync G.row × IsSync A.row × IsSend A.row
-                × Frees A.Allocator A.dealloc_token × IsSend I.row × IsSend O.row
-                × (1 ≤ low) × (terms.now.turns ≤ MAX_TURNS) }
-            ensures { AreServedNew terms.entry.now.first table.entry.now
-                terms.entry.now.turns low result }
-        { serve_each(rt, alloc, table, reader, writer, low, terms) },
-        move || -> Ended<A>
-            requires { IsSync R.row × IsSync G.row × IsSync A.row × IsSend A.row
-                × Frees A.Allocator A.dealloc_token × IsSend I.row × IsSend O.row
-                × (1 ≤ high) × (terms.now.turns ≤ MAX_TURNS) }
-            ensures { AreServedNew terms.entry.now.first table.entry.now
-                terms.entry.now.turns high result }
-        { serve_each(rt, alloc, table, reader, writer, high, terms) },
-    );
-    both(lows, highs)
+    let serve = || -> Ended<A>
+        requires { IsSync R.row × IsSync G.row × IsSync A.row × IsSend A.row
+            × Frees A.Allocator A.dealloc_token × (terms.now.turns ≤ MAX_TURNS) }
+        ensures { IsAlone terms.entry.now.first table.entry.now terms.entry.now.turns
+            unused result }
+    { serve_alone(rt, alloc, table, terms, reader, writer) };
+    let lead = || -> Ended<A>
+        requires { IsSync R.row × IsSync G.row × IsSync A.row × IsSend A.row
+            × Frees A.Allocator A.dealloc_token
+            × AreReady terms.now.turns (ends I.remaining input.now output.now).devices }
+        ensures { IsAlone terms.entry.now.first table.entry.now terms.entry.now.turns
+            (counts_of (ends I.remaining input.entry.now output.entry.now).devices) result }
+    { serve_on(rt, alloc, table, terms, input, output) };
+    lead_others(rt, lead, serve, others)
 }

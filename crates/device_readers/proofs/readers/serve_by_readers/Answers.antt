@@ -3,7 +3,7 @@ use Rattle.fuse_device.specs.Ends.{ends}
 use Rattle.serve_loop.specs.declared.opening.Opening.{Opening}
 use Rattle.serve_loop.specs.Serving.{Does}
 use Rattle.device_readers.specs.Readers.{IsOpenedOver}
-use Rattle.device_readers.proofs.Reading.{alone_new, roomless, served_by_all}
+use Rattle.device_readers.proofs.Reading.{by_new_devices, roomless, served_by_all}
 use Rattle.device_readers.proofs.readers.serve_by_readers.Goals as goal
 
 pub returns-in-Err : goal.returns-in-Err
@@ -17,7 +17,7 @@ returns-in-Ok-Ended g c =
     let new = (ends g.I.Read.remaining c.open.new.source c.open.new.sink).devices in
     let does = subst (λ (o : Opening g.row.A.Denot). Does (λ t. IsOpenedOver c.args.terms.now.first c.args.table.now
     c.args.terms.now.turns t (Ok o)) old new) c.in-Ok-Ended.field-0-is c.in-Ok-Ended.ensures in
-    inr (alone_new {A = g.row.A.Denot} c.args.terms.now.first c.args.table.now c.args.terms.now.turns (Ok c.in-Ok-Ended.done) old new
+    inr (by_new_devices {A = g.row.A.Denot} c.args.terms.now.first c.args.table.now c.args.terms.now.turns (Ok c.in-Ok-Ended.done) old new
     c.is_gone.result c.is_gone-in-Ok-Ended.result c.ended_alone-in-Ok-Ended.result (ap (λ s. s.counts) c.in-Ok.ensures.state)
     (ap (λ s. s.counts) c.new-output.ensures.state) does c.is_gone.ensures.failed c.is_gone-in-Ok-Ended.ensures.failed
     c.ended_alone-in-Ok-Ended.ensures.end c.ended_alone-in-Ok-Ended.ensures.done)
@@ -26,7 +26,7 @@ pub returns-in-Err-open : goal.returns-in-Err-open
 returns-in-Err-open g c =
     let old = (ends g.I.Read.remaining c.in-Ok.input c.new-output.result).devices in
     let new = (ends g.I.Read.remaining c.open.new.source c.open.new.sink).devices in
-    inr (alone_new {A = g.row.A.Denot} c.args.terms.now.first c.args.table.now c.args.terms.now.turns (Err c.in-Err-open.stop) old new
+    inr (by_new_devices {A = g.row.A.Denot} c.args.terms.now.first c.args.table.now c.args.terms.now.turns (Err c.in-Err-open.stop) old new
     c.is_gone-in-Err-open.result c.is_gone-in-Err-open-2.result c.ended_alone-in-Err-open.result
     (ap (λ s. s.counts) c.in-Ok.ensures.state) (ap (λ s. s.counts) c.new-output.ensures.state) c.in-Err-open.ensures
     c.is_gone-in-Err-open.ensures.failed c.is_gone-in-Err-open-2.ensures.failed c.ended_alone-in-Err-open.ensures.end

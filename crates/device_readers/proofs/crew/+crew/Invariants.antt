@@ -1,9 +1,9 @@
 use Rattle.std.proofs.Common.{◌*◌, ◌+◌}
-use Rattle.device_readers.proofs.readers.+crew.Given as goal
+use Rattle.device_readers.proofs.crew.+crew.Given as goal
 
 -- its readers, twice over: between two calls stands a thread
-abbrev pub decreases-serve_each : goal.decreases-serve_each
-decreases-serve_each g l = 2 * l.count
+abbrev pub decreases-serve_together : goal.decreases-serve_together
+decreases-serve_together g l = 2 * l.count
 
 -- the readers of the lower half's thread
 abbrev pub decreases-join+arg2 : goal.decreases-join+arg2
