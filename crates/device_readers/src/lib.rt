@@ -8,9 +8,9 @@
 //! all of them, and what each came to whose stream ended. [`laws`] say what that means.
 #![tactic(auto)]
 
+mod crew;
 pub mod ends;
 pub mod laws;
-mod crew;
 mod opening;
 mod reader;
 mod readers;

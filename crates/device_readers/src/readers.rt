@@ -67,7 +67,15 @@ pub fn serve_by_readers<
     };
     let others = readers - 1;
     let all = serve_with(
-        rt, alloc, table, &terms, reader, writer, others, &mut input, &mut output,
+        rt,
+        alloc,
+        table,
+        &terms,
+        reader,
+        writer,
+        others,
+        &mut input,
+        &mut output,
     );
     behind(alloc, done, all)
 }

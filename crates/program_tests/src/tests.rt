@@ -7,6 +7,5 @@ mod messages;
 mod mounted;
 mod plans;
 mod program;
-mod readers;
 mod replies;
 mod serving;

@@ -6,6 +6,7 @@ mod frames;
 mod gates;
 mod layers;
 mod memory;
+mod readers;
 mod refused_workers;
 mod room;
 mod streams;

@@ -25,8 +25,8 @@ use std::thread::Threads;
 pub fn mount_by_readers<
     R: Files + Threads + Sync,
     A: Allocator + Copy + Send + Sync,
-    I: Read + Copy + Send + Drop,
-    O: Write + Copy + Send + Drop,
+    I: Read + Copy + Sync + Drop,
+    O: Write + Copy + Sync + Drop,
     E: Write,
 >(rt: &R, alloc: A, line: &Line<'_>, reader: I, writer: O, faults: &mut E) -> u8
 where
@@ -46,8 +46,8 @@ where
 fn serve_shared<
     R: Files + Threads + Sync,
     A: Allocator + Copy + Send + Sync,
-    I: Read + Copy + Send + Drop,
-    O: Write + Copy + Send + Drop,
+    I: Read + Copy + Sync + Drop,
+    O: Write + Copy + Sync + Drop,
 >(rt: &R, alloc: A, line: &Line<'_>, reader: I, writer: O) -> Result<End, Fault>
 where
     R::File: Send,

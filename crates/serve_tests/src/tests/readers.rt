@@ -1,0 +1,315 @@
+//! Several readers of one device, which gives each message to one of them.
+
+use device_readers::{End, Ended, serve_by_readers};
+use serve_core::{FreePass, Gate, MAX_TURNS, Plan, Session, Stop, Terms, Work};
+use serve_test_kit::runs::table_of;
+use std::alloc::Allocator;
+use std::io::{self, Error, Read, Write};
+use std::sync::atomic::{AtomicU64, Ordering};
+use std::thread::Threads;
+use table_reader::Table;
+use test_kit::gates::MANY;
+use test_kit::memories::{Memories, refuse_in_turn};
+use test_kit::messages::{REPLIES, REQUESTS};
+use test_kit::sample_images::{alone, image};
+
+/// How many messages a device gives: INIT, and then requests for the attributes of the root.
+const MESSAGES: u64 = 41;
+
+/// The bits of them all: that of the message with the number n is the bit n.
+const ALL: u64 = (1 << (MESSAGES + 1)) - 2;
+
+/// Which read or write of a device fails, counted from 1, and with which error number.
+#[derive(Clone, Copy)]
+struct Fails {
+    read: u64,
+    write: u64,
+    number: i32,
+}
+
+/// No read and no write fails.
+const NEVER: Fails = Fails {
+    read: 0,
+    write: 0,
+    number: 0,
+};
+
+/// A device that gives a message a read, and takes a reply a write.
+#[derive(Drop)]
+struct Device {
+    fails: Fails,
+    reads: AtomicU64,
+    writes: AtomicU64,
+    given: AtomicU64,
+    /// The bits of the messages that are answered. The bit 0 is that of a reply that is wrong, or
+    /// the second one to its message.
+    answered: AtomicU64,
+}
+
+impl Device {
+    fn new(fails: Fails) -> Self {
+        Device {
+            fails,
+            reads: AtomicU64::new(0),
+            writes: AtomicU64::new(0),
+            given: AtomicU64::new(0),
+            answered: AtomicU64::new(0),
+        }
+    }
+
+    fn note(&self, reply: &[u8]) {
+        let own = bit_of(reply);
+        if self.answered.fetch_or(own, Ordering::SeqCst) & own != 0 {
+            self.answered.fetch_or(1, Ordering::SeqCst);
+        }
+    }
+}
+
+/// Counts a call, and gives its number, from 1 on.
+fn count(calls: &AtomicU64) -> u64 {
+    calls.fetch_add(1, Ordering::SeqCst).saturating_add(1)
+}
+
+impl Read for &Device {
+    fn read(&mut self, buf: &mut [u8]) -> io::Result<usize> {
+        if count(&self.reads) == self.fails.read {
+            return Err(Error::from_raw_os_error(self.fails.number));
+        }
+        let number = count(&self.given);
+        if MESSAGES < number {
+            return Ok(0);
+        }
+        let size = buf.len().min(56);
+        buf[..size].copy_from_slice(&message(number)[..size]);
+        Ok(size)
+    }
+}
+
+impl Write for &Device {
+    fn write(&mut self, buf: &[u8]) -> io::Result<usize> {
+        if count(&self.writes) == self.fails.write {
+            return Err(Error::from_raw_os_error(self.fails.number));
+        }
+        self.note(buf);
+        Ok(buf.len())
+    }
+
+    fn flush(&mut self) -> io::Result<()> {
+        Ok(())
+    }
+}
+
+/// The message with this number.
+fn message(number: u64) -> [u8; 56] {
+    let mut message = [0; 56];
+    if number == 1 {
+        message.copy_from_slice(&REQUESTS[..56]);
+    } else {
+        message.copy_from_slice(&REQUESTS[56..]);
+        message[8..16].copy_from_slice(&number.to_le_bytes());
+    }
+    message
+}
+
+/// The bit of the message that this is the reply to, or 1.
+fn bit_of(reply: &[u8]) -> u64 {
+    let Some(number) = reply.get(8) else {
+        return 1;
+    };
+    let number = u64::from(*number);
+    if number == 1 && reply == &REPLIES[..80] {
+        return 2;
+    }
+    let mut wanted = [0; 120];
+    wanted.copy_from_slice(&REPLIES[80..]);
+    wanted[8..16].copy_from_slice(&number.to_le_bytes());
+    if 2 <= number && number <= MESSAGES && reply == &wanted[..] {
+        1 << number
+    } else {
+        1
+    }
+}
+
+/// What readers came to: the end that is told; how many streams came to their end, and how many
+/// messages they had, where memory was not refused for these; and the bits of the messages that are
+/// answered.
+type Seen = (End, Option<(usize, u64)>, u64);
+
+/// How many streams came to their end, and how many messages they had.
+fn counted<A: Allocator>(ended: &Ended<A>) -> Option<(usize, u64)> {
+    let Ok(done) = &ended.done else {
+        return None;
+    };
+    let mut messages = 0u64;
+    for one in done {
+        messages = messages.saturating_add(one.messages);
+    }
+    Some((done.len(), messages))
+}
+
+/// The table of the empty image.
+fn empty_table<R: Threads + Sync, A: Allocator + Copy + Send + Sync>(
+    rt: &R,
+    alloc: A,
+) -> Option<Table<A>> {
+    table_of(rt, alloc, alone(alloc, image(alloc, b"v", "").ok()?).ok()?)
+}
+
+/// What so many readers of a device, at least one, come to over a table.
+fn served<R: Threads + Sync, A: Allocator + Copy + Send + Sync, G: Gate + Sync>(
+    rt: &R,
+    alloc: A,
+    table: &Table<A>,
+    device: &Device,
+    readers: u32,
+    plan: Plan,
+    gate: &G,
+) -> (End, Option<(usize, u64)>) {
+    let terms = Terms {
+        first: Session::Fresh,
+        plan,
+        turns: MAX_TURNS,
+        gate,
+    };
+    let ended = serve_by_readers(rt, alloc, table, device, device, readers.max(1), &terms);
+    (ended.end, counted(&ended))
+}
+
+/// The same over the empty image, with what is answered.
+fn seen_of<R: Threads + Sync, G: Gate + Sync>(
+    rt: &R,
+    memories: &Memories,
+    readers: u32,
+    fails: Fails,
+    gate: &G,
+) -> Option<Seen> {
+    let plan = Plan::new(2, 3)?;
+    let device = Device::new(fails);
+    let table = empty_table(rt, &memories.plain)?;
+    let (end, done) = served(rt, &memories.refusing, &table, &device, readers, plan, gate);
+    Some((end, done, device.answered.load(Ordering::SeqCst)))
+}
+
+/// Of each message one reply, by one reader, two or sixteen. Each stream comes to its end, and
+/// before them that of INIT.
+#[test]
+fn each_message_is_answered_once(rt: HostRuntime) {
+    let memories = Memories::new(rt.alloc(), 0);
+    for readers in [1, 2, 16] {
+        let seen = seen_of(&rt, &memories, readers, NEVER, &FreePass);
+        let streams = readers as usize + 1;
+        let wanted = (End::AtEnd, Some((streams, MESSAGES)), ALL);
+        assert!(rt; seen == Some(wanted), "{readers}");
+    }
+}
+
+/// Lets INIT go, and holds the next message until one more is under way.
+#[derive(Drop)]
+struct Meeting {
+    came: AtomicU64,
+    given_up: AtomicU64,
+}
+
+impl Gate for Meeting {
+    fn pass(&self, _work: Work, _number: u32) {
+        if count(&self.came) == 1 {
+            return;
+        }
+        for _ in 0..MANY {
+            if 3 <= self.came.load(Ordering::SeqCst) {
+                return;
+            }
+        }
+        self.given_up.store(1, Ordering::SeqCst);
+    }
+}
+
+#[test]
+fn two_readers_are_in_the_middle_of_a_message(rt: HostRuntime) {
+    let memories = Memories::new(rt.alloc(), 0);
+    let gate = Meeting {
+        came: AtomicU64::new(0),
+        given_up: AtomicU64::new(0),
+    };
+    let seen = seen_of(&rt, &memories, 2, NEVER, &gate);
+    assert!(rt; seen.is_some() && gate.given_up.load(Ordering::SeqCst) == 0);
+}
+
+/// Whether readers one of which is refused memory tell so, or cannot tell what their streams came
+/// to, while the others answer all messages.
+fn is_refused<R: Threads + Sync>(rt: &R, memories: &Memories) -> bool {
+    let seen = seen_of(rt, memories, 3, NEVER, &FreePass);
+    match (memories.refusing.refused(), seen) {
+        (false, Some((end, done, answered))) => {
+            end == End::AtEnd && done == Some((4, MESSAGES)) && answered == ALL
+        }
+        (true, Some((End::AtEnd, done, answered))) => done.is_none() && answered == ALL,
+        (true, Some((end, _, _))) => end == End::Stopped(Stop::Memory),
+        (_, None) => false,
+    }
+}
+
+#[test]
+fn refused_memory_ends_one_reader(rt: HostRuntime) {
+    let requests = refuse_in_turn(rt.alloc(), |memories| is_refused(&rt, memories));
+    assert!(rt; matches!(requests, Ok(12..)));
+}
+
+/// Whether three readers of a device that fails so come to this end, with so many messages
+/// answered.
+fn ends_so<R: Threads + Sync>(
+    rt: &R,
+    memories: &Memories,
+    fails: Fails,
+    end: End,
+    answered: u32,
+) -> bool {
+    match seen_of(rt, memories, 3, fails, &FreePass) {
+        Some((told, _, all)) => told == end && all & !ALL == 0 && all.count_ones() == answered,
+        None => false,
+    }
+}
+
+/// A read that fails ends its reader alone: all messages are answered by the others. A write that
+/// fails ends its reader alone, too, and that reply is lost. With ENODEV each is the end of a
+/// mount.
+#[test]
+fn what_fails_ends_one_reader(rt: HostRuntime) {
+    let memories = Memories::new(rt.alloc(), 0);
+    for at in [2, 9, 41] {
+        for (number, read, write) in [
+            (5, End::Stopped(Stop::Read), End::Stopped(Stop::Write)),
+            (19, End::TakenAway, End::TakenAway),
+        ] {
+            let reading = Fails {
+                read: at,
+                write: 0,
+                number,
+            };
+            let writing = Fails {
+                read: 0,
+                write: at,
+                number,
+            };
+            let is_right = ends_so(&rt, &memories, reading, read, 41)
+                && ends_so(&rt, &memories, writing, write, 40);
+            assert!(rt; is_right, "{at} {number}");
+        }
+    }
+}
+
+/// Where INIT cannot be read or answered no other reader begins, and nothing is answered.
+#[test]
+fn no_other_reader_begins_before_init(rt: HostRuntime) {
+    let memories = Memories::new(rt.alloc(), 0);
+    for (read, write, stop) in [(1, 0, Stop::Read), (0, 1, Stop::Write)] {
+        let fails = Fails {
+            read,
+            write,
+            number: 5,
+        };
+        let seen = seen_of(&rt, &memories, 3, fails, &FreePass);
+        let wanted = (End::Stopped(stop), Some((0, 0)), 0);
+        assert!(rt; seen == Some(wanted), "{read}");
+    }
+}
