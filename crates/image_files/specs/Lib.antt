@@ -1,2 +1,3 @@
 pub mod Unread
 pub mod Reading
+pub mod Opening

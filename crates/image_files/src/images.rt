@@ -10,10 +10,12 @@ ghost use Rattle.image_files.specs.Unread.{IsReadUpTo};
 ghost use Rattle.image_files.specs.declared.images.FilesFault.TheVariants.{Unread, Memory};
 ghost use denote.Param.Send.{IsSync, IsSend, Frees};
 
-use crate::whole::{ReadFault, read_file};
+use crate::opening::OpenImage;
+use crate::whole::{OfFile, ReadFault};
 use std::alloc::{AllocError, AllocFailed, Allocator};
 use std::fs;
 use std::fs::Files;
+use std::os::unix::fs::FileExt;
 use std::thread::{Threads, join};
 
 /// How many times a list is cut into halves that are read at the same time.
@@ -70,23 +72,44 @@ where
     Ok(images)
 }
 
+/// The images at these paths, in the order of the paths, each with its file open: of a file that can
+/// be read at a place its headers, names and targets alone are read.
+///
+/// Of a long list at most four parts are opened at the same time; of several files that cannot be
+/// read the lowest is told, if there was memory for all below it. `Unread` comes also where a file
+/// has fewer bytes than it says, or no more files may be open.
+pub fn open_images<R: Files + Threads + Sync, A: Allocator + Copy + Send + Sync>(
+    rt: &R,
+    alloc: A,
+    paths: &[&str],
+) -> Result<Vec<OpenImage<R::File, A>, A>, FilesFault>
+where
+    R::File: FileExt + Send,
+    R::Dir: Send,
+    ensures ok { IfOk result (λ images. vec_len images ≡ length paths.now) }
+    ensures err { IfErr result (λ fault. (fault ≡ Memory)
+        ⊎ ((image : ℕ) × (image < length paths.now) × (fault ≡ Unread image))) }
+{
+    let Run { images, end } = read_from(rt, alloc, 0, paths, FORKS);
+    end?;
+    Ok(images)
+}
+
 /// What was read of a run of images: its first ones, and why there are no more, if there are not.
 #[derive(Drop)]
-struct Run<A: Allocator> {
-    images: Vec<Vec<u8, A>, A>,
+struct Run<T, A: Allocator> {
+    images: Vec<T, A>,
     end: Result<(), FilesFault>,
 }
 
-/// The bytes of a run of images, of which the lowest has the number `first`: of its halves at the
+/// What is read of a run of images, of which the lowest has the number `first`: of its halves at the
 /// same time, each of which is cut so once less, or of one after another.
 #[cycle(halves)]
-fn read_from<R: Files + Threads + Sync, A: Allocator + Copy + Send + Sync>(
-    rt: &R,
-    alloc: A,
-    first: usize,
-    paths: &[&str],
-    forks: u32,
-) -> Run<A>
+fn read_from<
+    R: Files + Threads + Sync,
+    A: Allocator + Copy + Send + Sync,
+    T: OfFile<R::File, A> + Send + Drop,
+>(rt: &R, alloc: A, first: usize, paths: &[&str], forks: u32) -> Run<T, A>
 where
     R::File: Send,
     R::Dir: Send,
@@ -103,12 +126,12 @@ where
     // the lowest layer, mostly the largest, waits for no thread to start
     let (high, low) = join(
         rt,
-        move || -> Run<A>
+        move || -> Run<T, A>
             requires { IsSync R.row × IsSync A.row × IsSend A.row
                 × Frees A.Allocator A.dealloc_token × (next + length highs.now < 2 ^ 64) }
             ensures { IsReadUpTo next (length highs.entry.now) (vec_len result.images) result.end }
         { read_from(rt, alloc, next, highs, less) },
-        move || -> Run<A>
+        move || -> Run<T, A>
             requires { IsSync R.row × IsSync A.row × IsSend A.row
                 × Frees A.Allocator A.dealloc_token × (first + length lows.now < 2 ^ 64) }
             ensures { IsReadUpTo first (length lows.entry.now) (vec_len result.images) result.end }
@@ -119,7 +142,7 @@ where
 
 /// What was read of both halves: all of the lower one and then of the upper one; or of the lower
 /// one alone, where that is not whole.
-fn both<A: Allocator>(low: Run<A>, high: Run<A>) -> Run<A>
+fn both<T: Drop, A: Allocator>(low: Run<T, A>, high: Run<T, A>) -> Run<T, A>
     ensures order { OnOk result.end (result.images.items
         ≡ low.images.items ++ high.images.items) }
     ensures read { (first lows highs : ℕ) → IsReadUpTo first lows (vec_len low.images) low.end →
@@ -148,12 +171,12 @@ fn both<A: Allocator>(low: Run<A>, high: Run<A>) -> Run<A>
 
 /// What was read of a run of images, of which the lowest has the number `first`, from the lowest
 /// up.
-fn read_in_turn<R: Files, A: Allocator + Copy>(
+fn read_in_turn<R: Files, A: Allocator + Copy, T: OfFile<R::File, A> + Drop>(
     rt: &R,
     alloc: A,
     first: usize,
     paths: &[&str],
-) -> Run<A>
+) -> Run<T, A>
     requires { first + length paths.now < 2 ^ 64 }
     ensures { IsReadUpTo first (length paths.now) (vec_len result.images) result.end }
 {
@@ -162,14 +185,14 @@ fn read_in_turn<R: Files, A: Allocator + Copy>(
     Run { images, end }
 }
 
-/// Adds the bytes of a run of images, of which the lowest has the number `first`, to an empty list,
+/// Adds what is read of a run of images, of which the lowest has the number `first`, to an empty list,
 /// from the lowest up. The first that cannot be read is told, behind all that were added.
-fn add_in_turn<R: Files, A: Allocator + Copy>(
+fn add_in_turn<R: Files, A: Allocator + Copy, T: OfFile<R::File, A> + Drop>(
     rt: &R,
     alloc: A,
     first: usize,
     paths: &[&str],
-    images: &mut Vec<Vec<u8, A>, A>,
+    images: &mut Vec<T, A>,
 ) -> Result<(), FilesFault>
     requires empty { vec_len images.old ≡ 0 }
     requires few { first + length paths.now < 2 ^ 64 }
@@ -182,17 +205,17 @@ fn add_in_turn<R: Files, A: Allocator + Copy>(
     Ok(())
 }
 
-fn read_image<R: Files, A: Allocator>(
+fn read_image<R: Files, A: Allocator, T: OfFile<R::File, A>>(
     rt: &R,
     alloc: A,
     image: u64,
     path: &str,
-) -> Result<Vec<u8, A>, FilesFault>
+) -> Result<T, FilesFault>
     ensures { IfErr result (λ fault. (fault ≡ Unread image) ⊎ (fault ≡ Memory)) }
 {
     let file = fs::open(rt, path).map_err(|_| FilesFault::Unread { image })?;
-    match read_file(alloc, file) {
-        Ok(bytes) => Ok(bytes),
+    match T::of_file(alloc, file) {
+        Ok(read) => Ok(read),
         Err(ReadFault::Failed) => Err(FilesFault::Unread { image }),
         Err(ReadFault::Memory) => Err(FilesFault::Memory),
     }

@@ -9,6 +9,10 @@
 #![tactic(auto)]
 
 mod images;
+mod opening;
+#[cfg(test)]
+mod tests;
 mod whole;
 
-pub use images::{FilesFault, read_images};
+pub use images::{FilesFault, open_images, read_images};
+pub use opening::OpenImage;

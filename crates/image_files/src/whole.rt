@@ -29,6 +29,19 @@ impl From<AllocError> for ReadFault {
     }
 }
 
+/// What is read of the file of an image.
+pub(crate) trait OfFile<F, A: Allocator>: Sized {
+    /// What is read of this file, which is at its beginning.
+    fn of_file(alloc: A, file: F) -> Result<Self, ReadFault>;
+}
+
+impl<F: Read + OpenFile + Drop, A: Allocator> OfFile<F, A> for Vec<u8, A> {
+    /// All bytes.
+    fn of_file(alloc: A, file: F) -> Result<Vec<u8, A>, ReadFault> {
+        read_file(alloc, file)
+    }
+}
+
 /// All that a file has. Where it tells its length, memory is taken once.
 pub fn read_file<F: Read + OpenFile + Drop, A: Allocator>(
     alloc: A,

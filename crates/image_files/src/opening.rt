@@ -1,0 +1,103 @@
+//! Files that are opened, of which only what the rules look at is read at first.
+//!
+//! A regular file and a block device are read at places, in whatever order headers stand there.
+//! Other files give their bytes once, from the first to the last, so these are read whole.
+
+ghost use Rattle.std.specs.Prelude.{IfOk};
+ghost use Rattle.image_files.specs.Opening.{IsGathered, IsKindOf, IsOpened};
+
+use crate::whole::{OfFile, ReadFault, read_file};
+use image_bytes::InFile;
+use kept_image::{GatherFault, Kept, gather};
+use std::alloc::Allocator;
+use std::fs::{Metadata, OpenFile};
+use std::io::{Read, Seek, SeekFrom};
+use std::os::unix::fs::{FileExt, FileTypeExt};
+
+/// An image as it is held once its file is opened.
+#[derive(Drop)]
+pub enum OpenImage<F, A: Allocator> {
+    /// Its headers, names and the targets of its symbolic links, and the file with all else.
+    Gathered { kept: Kept<A>, file: InFile<F> },
+    /// All its bytes, since its file cannot be read at a place.
+    Whole(Vec<u8, A>),
+}
+
+impl<F: Read + Seek + OpenFile + FileExt + Drop, A: Allocator + Copy> OfFile<F, A>
+    for OpenImage<F, A> {
+    fn of_file(alloc: A, file: F) -> Result<OpenImage<F, A>, ReadFault> {
+        let kind = told_kind(&file);
+        open_as(alloc, file, kind)
+    }
+}
+
+/// What a file is, as far as it counts for how it is read.
+#[derive(Clone, Copy)]
+pub(crate) enum FileKind {
+    /// A regular file of so many bytes, one at least.
+    Regular { size: u64 },
+    /// A block device, which does not say how many bytes it has.
+    BlockDevice,
+    /// What is read from the first byte to the last: a pipe, a terminal, or a file that says it is
+    /// empty, as those of /proc do.
+    Stream,
+}
+
+/// What a file says that it is; a stream where it says nothing.
+fn told_kind<F: OpenFile>(file: &F) -> FileKind {
+    match file.metadata() {
+        Ok(metadata) => kind_of(&metadata),
+        Err(_) => FileKind::Stream,
+    }
+}
+
+fn kind_of(metadata: &Metadata) -> FileKind
+    ensures { IsKindOf metadata.now result }
+{
+    let size = metadata.len();
+    if metadata.is_file() && 0 < size {
+        return FileKind::Regular { size };
+    }
+    if metadata.file_type().is_block_device() {
+        return FileKind::BlockDevice;
+    }
+    FileKind::Stream
+}
+
+/// The image of a file of a kind. `Failed` comes where a read failed, where a device tells no end,
+/// or where fewer bytes came than the file had said.
+pub(crate) fn open_as<F: Read + Seek + OpenFile + FileExt + Drop, A: Allocator + Copy>(
+    alloc: A,
+    mut file: F,
+    kind: FileKind,
+) -> Result<OpenImage<F, A>, ReadFault>
+    ensures { IfOk result (λ image. IsOpened kind (F.remaining file) image) }
+{
+    match kind {
+        FileKind::Regular { size } => gather_file(alloc, InFile::new(file, size)),
+        FileKind::BlockDevice => {
+            let size = end_of(&mut file)?;
+            gather_file(alloc, InFile::new(file, size))
+        }
+        FileKind::Stream => Ok(OpenImage::Whole(read_file(alloc, file)?)),
+    }
+}
+
+/// How many bytes stand before the end of a file.
+fn end_of<F: Seek>(file: &mut F) -> Result<u64, ReadFault> {
+    file.seek(SeekFrom::End(0)).map_err(|_| ReadFault::Failed)
+}
+
+/// What is gathered of a file, with the file.
+fn gather_file<F: FileExt + Drop, A: Allocator + Copy>(
+    alloc: A,
+    file: InFile<F>,
+) -> Result<OpenImage<F, A>, ReadFault>
+    ensures { IfOk result IsGathered }
+{
+    match gather(alloc, &file) {
+        Ok(kept) => Ok(OpenImage::Gathered { kept, file }),
+        Err(GatherFault::Unread) => Err(ReadFault::Failed),
+        Err(GatherFault::Memory) => Err(ReadFault::Memory),
+    }
+}
