@@ -72,12 +72,15 @@ where
     Ok(images)
 }
 
-/// The images at these paths, in the order of the paths, each with its file open: of a file that can
-/// be read at a place its headers, names and targets alone are read.
+/// The images at these paths, in the order of the paths. Of a regular file and of a block device
+/// only what the rules look at is read, its first bytes, headers, names and the targets of symbolic
+/// links; the file stays open. All other files are read whole, as `read_images` reads them.
 ///
 /// Of a long list at most four parts are opened at the same time; of several files that cannot be
-/// read the lowest is told, if there was memory for all below it. `Unread` comes also where a file
-/// has fewer bytes than it says, or no more files may be open.
+/// read the lowest is told, if there was memory for all below it. `Unread` comes where a file
+/// cannot be opened, as one too many, where a read fails or gives fewer bytes than the file has
+/// said, and where a device tells no end. That an image's full size goes on behind the end of its
+/// file is no fault here.
 pub fn open_images<R: Files + Threads + Sync, A: Allocator + Copy + Send + Sync>(
     rt: &R,
     alloc: A,
@@ -102,8 +105,8 @@ struct Run<T, A: Allocator> {
     end: Result<(), FilesFault>,
 }
 
-/// What is read of a run of images, of which the lowest has the number `first`: of its halves at the
-/// same time, each of which is cut so once less, or of one after another.
+/// What is read of a run of images, of which the lowest has the number `first`: of its halves at
+/// the same time, each of which is cut so once less, or of one after another.
 #[cycle(halves)]
 fn read_from<
     R: Files + Threads + Sync,
@@ -185,8 +188,8 @@ fn read_in_turn<R: Files, A: Allocator + Copy, T: OfFile<R::File, A> + Drop>(
     Run { images, end }
 }
 
-/// Adds what is read of a run of images, of which the lowest has the number `first`, to an empty list,
-/// from the lowest up. The first that cannot be read is told, behind all that were added.
+/// Adds what is read of a run of images, of which the lowest has the number `first`, to an empty
+/// list, from the lowest up. The first that cannot be read is told, behind all that were added.
 fn add_in_turn<R: Files, A: Allocator + Copy, T: OfFile<R::File, A> + Drop>(
     rt: &R,
     alloc: A,

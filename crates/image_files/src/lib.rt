@@ -1,11 +1,18 @@
-//! The bytes of images, read from files whole.
+//! The images in files: read whole, or opened, of which only what the rules look at is read.
 //!
-//! [`read_images`] reads the files of a list of paths: of a long list up to four parts at the same
-//! time, of which the lowest image that cannot be read is told. A file is read once, from its
-//! beginning to its end, in at most 2^40 pulls of a [`devices::Tap`], 64 KiB a pull; memory is
-//! taken once for each file that tells its length.
+//! - [`read_images`] reads the files of a list of paths. A file is read once, from its beginning to
+//!   its end, in at most 2^40 pulls of a [`devices::Tap`], 64 KiB a pull; memory is taken once for
+//!   each file that tells its length.
+//! - [`open_images`] opens them. Of a file that can be read at a place headers, names and targets
+//!   are read (`kept_image`), in memory in proportion to these, and the file stays open; others are
+//!   read whole. Which of both it was, each [`OpenImage`] says.
 //!
-//! The private parts: `images` shares a list out, and `whole` reads one file.
+//! Of a long list up to four parts are read at the same time; the lowest image that cannot be read
+//! is told.
+//!
+//! The private parts: `images` shares a list out, whatever is read of each file; `whole` reads one
+//! file, and `opening` opens one. No clause sees a path, nor what a file holds: the tests open real
+//! files.
 #![tactic(auto)]
 
 mod images;

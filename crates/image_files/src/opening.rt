@@ -1,7 +1,8 @@
-//! Files that are opened, of which only what the rules look at is read at first.
+//! Files that are opened, of which at first only what the rules look at is read.
 //!
-//! A regular file and a block device are read at places, in whatever order headers stand there.
-//! Other files give their bytes once, from the first to the last, so these are read whole.
+//! Headers stand in any order, so this takes a file that can be read at a place (pread(2)): a
+//! regular file, or a block device, whose size is told by a seek to its end. Any other gives its
+//! bytes once, from the first to the last, and is read whole.
 
 ghost use Rattle.std.specs.Prelude.{IfOk};
 ghost use Rattle.image_files.specs.Opening.{IsGathered, IsKindOf, IsOpened};
@@ -14,12 +15,13 @@ use std::fs::{Metadata, OpenFile};
 use std::io::{Read, Seek, SeekFrom};
 use std::os::unix::fs::{FileExt, FileTypeExt};
 
-/// An image as it is held once its file is opened.
+/// What is held of an image whose file was opened.
 #[derive(Drop)]
 pub enum OpenImage<F, A: Allocator> {
-    /// Its headers, names and the targets of its symbolic links, and the file with all else.
+    /// What the rules look at, and the file, which has all else. The file's size is the one that it
+    /// told when it was opened.
     Gathered { kept: Kept<A>, file: InFile<F> },
-    /// All its bytes, since its file cannot be read at a place.
+    /// All bytes of a file that cannot be read at a place.
     Whole(Vec<u8, A>),
 }
 
@@ -31,15 +33,15 @@ impl<F: Read + Seek + OpenFile + FileExt + Drop, A: Allocator + Copy> OfFile<F, 
     }
 }
 
-/// What a file is, as far as it counts for how it is read.
+/// What a file is, as far as it matters for how it is read.
 #[derive(Clone, Copy)]
 pub(crate) enum FileKind {
     /// A regular file of so many bytes, one at least.
     Regular { size: u64 },
-    /// A block device, which does not say how many bytes it has.
+    /// A block device. Its size is not told with its kind.
     BlockDevice,
-    /// What is read from the first byte to the last: a pipe, a terminal, or a file that says it is
-    /// empty, as those of /proc do.
+    /// Any other: a pipe, a terminal, or a regular file that says it is empty. Those of /proc say
+    /// so whatever they have.
     Stream,
 }
 
@@ -64,8 +66,8 @@ fn kind_of(metadata: &Metadata) -> FileKind
     FileKind::Stream
 }
 
-/// The image of a file of a kind. `Failed` comes where a read failed, where a device tells no end,
-/// or where fewer bytes came than the file had said.
+/// The image of a file of a kind, which is at its beginning. `Failed` comes where a read fails,
+/// where a device tells no end, or where the file ends before the size that it told.
 pub(crate) fn open_as<F: Read + Seek + OpenFile + FileExt + Drop, A: Allocator + Copy>(
     alloc: A,
     mut file: F,
