@@ -4,8 +4,8 @@
 //! regular file, or a block device, whose size is told by a seek to its end. Any other gives its
 //! bytes once, from the first to the last, and is read whole.
 
-ghost use Rattle.std.specs.Prelude.{IfOk};
-ghost use Rattle.image_files.specs.Opening.{IsGathered, IsKindOf, IsOpened};
+ghost use Rattle.std.specs.Prelude.{◌↔◌, IfOk, IsTrue};
+ghost use Rattle.image_files.specs.Opening.{IsBlockDevice, IsGathered, IsKindOf, IsOpened};
 
 use crate::whole::{OfFile, ReadFault, read_file};
 use image_bytes::InFile;
@@ -13,7 +13,13 @@ use kept_image::{GatherFault, Kept, gather};
 use std::alloc::Allocator;
 use std::fs::{Metadata, OpenFile};
 use std::io::{Read, Seek, SeekFrom};
-use std::os::unix::fs::{FileExt, FileTypeExt};
+use std::os::unix::fs::{FileExt, MetadataExt};
+
+/// The bits of a mode that say what a file is (S_IFMT of inode(7)).
+const FILE_TYPE: u32 = 0o170000;
+
+/// What they are of a block device (S_IFBLK).
+const BLOCK_DEVICE: u32 = 0o060000;
 
 /// What is held of an image whose file was opened.
 #[derive(Drop)]
@@ -60,10 +66,17 @@ fn kind_of(metadata: &Metadata) -> FileKind
     if metadata.is_file() && 0 < size {
         return FileKind::Regular { size };
     }
-    if metadata.file_type().is_block_device() {
+    if is_block_device(metadata) {
         return FileKind::BlockDevice;
     }
     FileKind::Stream
+}
+
+// std's function of this name has no clause.
+fn is_block_device(metadata: &Metadata) -> bool
+    ensures { IsTrue result ↔ IsBlockDevice metadata.now }
+{
+    metadata.mode() & FILE_TYPE == BLOCK_DEVICE
 }
 
 /// The image of a file of a kind, which is at its beginning. `Failed` comes where a read fails,
