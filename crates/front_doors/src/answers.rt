@@ -11,10 +11,10 @@ pub use fuse_answer::{Move, Served, Session, after, answer, moves};
 pub use fuse_wire::{
     Attr, Dirent, Errno, Framed, InitOut, Op, Replies, Request, frame, put_attr, put_data,
     put_dirent, put_direntplus, put_entry, put_error, put_head, put_init, put_negative_entry,
-    put_open, put_read, put_statfs,
+    put_open, put_statfs,
 };
 use node_table::Table;
-pub use reply_pool::{Piece, Plan, Rounded, round, spread_out_from, work};
+pub use reply_pool::{Piece, Plan, Rounded, round, work};
 use std::alloc::{AllocError, Allocator};
 
 /// Answers the message at the front of some bytes, if one is whole, and says the session after it.

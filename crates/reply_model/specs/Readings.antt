@@ -1,4 +1,4 @@
--- What the data of replies are read from: pread(2) at the place where a file's data lie in its image.
+-- pread(2): what the data of replies are read from, at the place where a file lies in its image.
 use Rattle.std.specs.Prelude.{ℕ, ◌+◌, List, [], ◌∷◌, slice_get, Option, None}
 use Rattle.std.specs.Option.{option_map, option_map_or, option_and_then}
 use Rattle.image_bytes.specs.Sources.{Source}

@@ -4,9 +4,10 @@ use crate::calls::Calls;
 use crate::reader::Pieces;
 use crate::writer::Taker;
 use devices::{Spout, Tap};
+use image_bytes::Contents;
 use reply_pool::Plan;
 use romfs_format::Profile;
-use serve_core::{Done, Session, Stop, Terms, prepare, run, serve_as};
+use serve_core::{Done, Served, Session, Stop, Terms, prepare, run, run_from, serve_as};
 use stack_core::{FreePass, Gate};
 use std::alloc::{AllocError, Allocator, Global};
 use std::thread::Threads;
@@ -211,6 +212,30 @@ pub fn ran<R: Threads + Sync, A: Allocator + Copy + Send + Sync, G: Gate + Sync>
     drop(tap);
     drop(spout);
     Some(Finished::of(done, pieces, taker))
+}
+
+/// The bytes that a run of the script puts, over a table and the files of its layers.
+pub fn put_from<R: Threads + Sync, D: Contents + Sync>(
+    rt: &R,
+    global: Global,
+    served: Served<'_, Global, D>,
+) -> Option<Vec<u8>> {
+    let plan = Plan::new(1, 1)?;
+    let stream = script(global).ok()?;
+    let mut pieces = pieces_of(&stream, WHOLE, None);
+    let mut taker = taker_of(global, WHOLE, None);
+    let terms = Terms {
+        first: Session::Fresh,
+        plan,
+        turns: u64::from(TURNS),
+        gate: &FreePass,
+    };
+    let mut tap = Tap::new(&mut pieces);
+    let mut spout = Spout::new(&mut taker);
+    let done = run_from(rt, global, served, &mut tap, &mut spout, &terms);
+    drop(tap);
+    drop(spout);
+    done.is_ok().then_some(taker.taken)
 }
 
 /// What is seen of a run of a stream, the first of these two, over a table.

@@ -7,6 +7,7 @@ mod gates;
 mod layers;
 mod memory;
 mod readers;
+mod reading;
 mod refused_workers;
 mod room;
 mod streams;

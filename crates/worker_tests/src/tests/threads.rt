@@ -77,7 +77,16 @@ fn pieces_over<R: Threads + Sync, G: Gate>(
         return None;
     };
     let alloc = &memories.refusing;
-    let pieces = work(rt, alloc, Served::held(table), jobs, SIZE, &board, &mut hand, gate);
+    let pieces = work(
+        rt,
+        alloc,
+        Served::held(table),
+        jobs,
+        SIZE,
+        &board,
+        &mut hand,
+        gate,
+    );
     let draws = board.close(hand);
     match pieces {
         Ok(pieces) => Some(Ok((pieces.len(), draws))),
@@ -113,7 +122,16 @@ fn work_out<R: Threads + Sync>(
             hand,
         };
     }
-    let pieces = work(rt, alloc, Served::held(table), &jobs, SIZE, board, &mut hand, &FreePass);
+    let pieces = work(
+        rt,
+        alloc,
+        Served::held(table),
+        &jobs,
+        SIZE,
+        board,
+        &mut hand,
+        &FreePass,
+    );
     Done { pieces, hand }
 }
 
