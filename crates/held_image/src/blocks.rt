@@ -2,7 +2,8 @@
 //!
 //! The numbers of the blocks that are kept rise, and their bytes stand one block after another: so
 //! bytes that lie together in the image lie together here, and a name is a slice. A block is looked
-//! up by halves.
+//! up by halves. What is called for a field is marked as cold, so that whoever reads by `read` has
+//! the way to a slice close at hand.
 
 ghost use Rattle.std.specs.Prelude.{◌≡◌, ◌+◌, ◌*◌, ◌/◌, ◌^◌, ◌<◌, ◌≤◌, ◌%◌, length, take, drop, get_or, slice_index, min, ℕ, List, IfSome};
 ghost use Rattle.std.specs.Option.{option_map};
@@ -90,6 +91,7 @@ fn byte_in(blocks: &[u32], bytes: &[u8], at: u32) -> u8
 }
 
 /// The big-endian word at a place.
+#[cold]
 pub(crate) fn word_in(blocks: &[u32], bytes: &[u8], size: u32, at: u32) -> u32
     requires kept { IsKept blocks.now bytes.now }
     requires at { at + 4 ≤ size }
@@ -195,6 +197,7 @@ fn head_in(near: &[u8], at: u32, size: u32) -> Head
 
 /// The byte at a place, of an image of this size.
 #[tactic(auto, using(crate::proofs::Fronts::filled_at))]
+#[cold]
 pub(crate) fn byte_of_blocks(blocks: &[u32], bytes: &[u8], size: u32, at: u32) -> u8
     requires kept { IsKept blocks.now bytes.now }
     requires at { at < size }
@@ -204,6 +207,7 @@ pub(crate) fn byte_of_blocks(blocks: &[u32], bytes: &[u8], size: u32, at: u32) -
 }
 
 /// The header at a place, of an image of this size.
+#[cold]
 pub(crate) fn head_of_blocks(blocks: &[u32], bytes: &[u8], size: u32, at: u32) -> Head
     requires kept { IsKept blocks.now bytes.now }
     requires inside { at + HEAD_SIZE ≤ size }
@@ -219,6 +223,7 @@ pub(crate) fn head_of_blocks(blocks: &[u32], bytes: &[u8], size: u32, at: u32) -
 }
 
 /// The same, by the length of its name.
+#[cold]
 pub(crate) fn head_in_blocks(
     blocks: &[u32],
     bytes: &[u8],
@@ -238,6 +243,7 @@ pub(crate) fn head_in_blocks(
 }
 
 /// The name whose field begins at a place, of an image of this size.
+#[cold]
 pub(crate) fn text_of_blocks<'a>(
     blocks: &[u32],
     bytes: &'a [u8],
@@ -254,6 +260,7 @@ pub(crate) fn text_of_blocks<'a>(
 }
 
 /// The name of the header at a place, of an image of this size; the empty one where it has no end.
+#[cold]
 pub(crate) fn name_of_blocks<'a>(blocks: &[u32], bytes: &'a [u8], size: u32, at: u32) -> &'a [u8]
     requires kept { IsKept blocks.now bytes.now }
     requires inside { at + HEAD_SIZE ≤ size }
