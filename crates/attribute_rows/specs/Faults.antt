@@ -1,14 +1,14 @@
 -- What is told of the trailer of an image.
-use Rattle.std.specs.Prelude.{◌≡◌, ℕ, List, Option, MatchOption}
+use Rattle.std.specs.Prelude.{◌≡◌, ◌≤◌, ℕ, List, length, Option, MatchOption}
 use Rattle.romfs_format.specs.declared.rule.ImageFault.{ImageFault}
 use Rattle.romfs_format.specs.declared.rule.Rule.TheVariants.{Attributes}
-use Rattle.romfs_format.specs.Trailer.{trailer_at, trailer, HasTrailer, IsTrailerBroken}
+use Rattle.romfs_format.specs.Trailer.{trailer_at, HasTrailer, IsTrailerBroken}
 
--- b has a trailer, which begins at this place with these bytes
-pub record HoldsTrailer (b : List ℕ) (at : ℕ) (t : List ℕ) : Type 0 where
+-- b has a trailer, which begins at this place
+pub record IsTrailerPlace (b : List ℕ) (at : ℕ) : Type 0 where
   pub has : HasTrailer b
-  pub place : at ≡ trailer_at b
-  pub bytes : t ≡ trailer b
+  pub is : at ≡ trailer_at b
+  pub within : at ≤ length b
 
 -- the fault is that of the trailer of b; none where it has none that is broken
 abbrev pub IsTrailerFault : List ℕ → Option ImageFault → Type 0

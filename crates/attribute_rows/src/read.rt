@@ -1,39 +1,100 @@
 //! The trailer of an image, and its rows.
 
-ghost use Rattle.std.specs.Prelude.{◌≡◌, ◌+◌, ◌<◌, ◌≤◌, ◌^◌, false, length, MatchOption};
+ghost use Rattle.std.specs.Prelude.{◌≡◌, ◌+◌, ◌<◌, ◌≤◌, ◌%◌, ◌^◌, false, length, take, drop, MatchOption};
 ghost use Rattle.romfs_format.specs.declared.limits.TheConstants.{HEAD_SIZE, ROW_SIZE};
-ghost use Rattle.romfs_format.specs.Trailer.{has_trailer, row_of, row_start};
-ghost use Rattle.attribute_rows.specs.Faults.{HoldsTrailer};
+ghost use Rattle.romfs_format.specs.Fields.{word as word_of, word_sum};
+ghost use Rattle.romfs_format.specs.Trailer.{has_trailer, long_word as long_word_of, row_of, row_start};
+ghost use Rattle.attribute_rows.specs.Faults.{IsTrailerPlace};
 
+use held_image::Held;
+use held_image::read::{long_word, stand_at, sum, word};
 use romfs_format::AttributeRow;
 use romfs_format::limits::{ROW_SIZE, TRAILER_HEAD_SIZE};
-use romfs_format::read::{long_word, padded, word};
+use romfs_format::read::padded;
+use std::marker::Model;
 
-/// A trailer: where it begins, and all bytes from there on.
-#[derive(Clone, Copy)]
-pub(crate) struct Trailer<'t> {
-    pub(crate) place: u32,
-    pub(crate) bytes: &'t [u8],
-}
-
-/// The trailer of an image, if it has one.
+/// Where the trailer of an image begins, if it has one.
 #[tactic(auto, unfolding(romfs_format::specs::Trailer::trailer))]
-pub(crate) fn trailer_of(bytes: &[u8]) -> Option<Trailer<'_>>
-    requires { HEAD_SIZE ≤ length bytes.now }
-    ensures { MatchOption result (has_trailer bytes.now ≡ false)
-        (λ t. HoldsTrailer bytes.now t.place t.bytes.now) }
+pub(crate) fn trailer_place(image: &Held<'_>) -> Option<u32>
+    requires { HEAD_SIZE ≤ length image.now }
+    ensures { MatchOption result (has_trailer image.now ≡ false) (IsTrailerPlace image.now) }
 {
-    let Ok(place) = u32::try_from(padded(word(bytes, 8) as usize)) else {
+    let Ok(place) = u32::try_from(padded(word(image, 8) as usize)) else {
         return None;
     };
-    if bytes.len() < place as usize {
+    if image.len() < place as usize {
         return None;
     }
-    let rest = &bytes[place as usize..];
-    if rest.starts_with(b"-attr01-") {
-        Some(Trailer { place, bytes: rest })
+    if stand_at(image, place as usize, b"-attr01-") {
+        Some(place)
     } else {
         None
+    }
+}
+
+/// A trailer: the bytes of an image from a place on. A clause sees these.
+#[derive(Drop)]
+pub(crate) struct Trailer<'t> {
+    image: &'t Held<'t>,
+    /// Where it begins.
+    place: u32,
+    /// Where the image ends.
+    end: usize,
+}
+
+impl<'t> Model for Trailer<'t> {
+    ghost use Rattle.std.specs.Prelude.{◌≡◌, ◌≤◌, ◌<◌, ◌^◌, drop, length, List, ℕ};
+
+    ghost Value = { List ℕ };
+
+    ghost view = { λ t. drop t.place t.image.now };
+
+    ghost invariant = { λ t.
+        (t.end ≡ length t.image.now) × (t.place ≤ t.end) × (t.end < 2 ^ 64) };
+}
+
+impl<'t> Trailer<'t> {
+    /// The bytes from a place on.
+    pub(crate) fn at(image: &'t Held<'t>, place: u32) -> Trailer<'t>
+        requires { place ≤ length image.now }
+        ensures { result ≡ drop place image.now }
+    {
+        Trailer {
+            image,
+            place,
+            end: image.len(),
+        }
+    }
+
+    /// How many bytes there are.
+    pub(crate) fn len(&self) -> usize
+        ensures { result ≡ length self.now }
+    {
+        self.end - self.place as usize
+    }
+
+    /// The word at a place, counted from where the trailer begins.
+    pub(crate) fn word(&self, at: usize) -> u32
+        requires { at + 4 ≤ length self.now }
+        ensures { result ≡ word_of self.now at }
+    {
+        word(self.image, self.place as usize + at)
+    }
+
+    /// The number in the eight bytes at such a place.
+    pub(crate) fn long_word(&self, at: usize) -> u64
+        requires { at + 8 ≤ length self.now }
+        ensures { result ≡ long_word_of self.now at }
+    {
+        long_word(self.image, self.place as usize + at)
+    }
+
+    /// The sum of the whole words of so many bytes.
+    pub(crate) fn sum(&self, len: usize) -> u32
+        requires { len ≤ length self.now }
+        ensures { result ≡ word_sum (take len self.now) % 2 ^ 32 }
+    {
+        sum(self.image, self.place as usize, len)
     }
 }
 
@@ -46,17 +107,17 @@ pub(crate) fn row_start(number: u32) -> usize
 }
 
 /// What a row says.
-pub(crate) fn row_of(trailer: &[u8], number: u32) -> AttributeRow
+pub(crate) fn row_of(trailer: &Trailer<'_>, number: u32) -> AttributeRow
     requires { row_start number + ROW_SIZE ≤ length trailer.now }
     ensures { result ≡ row_of trailer.now number }
 {
     let start = row_start(number);
     AttributeRow {
-        place: word(trailer, start),
-        mode: word(trailer, start + 4),
-        uid: word(trailer, start + 8),
-        gid: word(trailer, start + 12),
-        seconds: long_word(trailer, start + 16),
-        nanoseconds: word(trailer, start + 24),
+        place: trailer.word(start),
+        mode: trailer.word(start + 4),
+        uid: trailer.word(start + 8),
+        gid: trailer.word(start + 12),
+        seconds: trailer.long_word(start + 16),
+        nanoseconds: trailer.word(start + 24),
     }
 }

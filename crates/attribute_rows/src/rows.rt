@@ -8,9 +8,9 @@ ghost use Rattle.romfs_format.specs.Trailer.{trailer_end};
 ghost use Rattle.attribute_rows.specs.Order.{position_at};
 
 use crate::kept_row::KeptRow;
-use crate::read::{row_of, trailer_of};
+use crate::read::{Trailer, row_of, trailer_place};
+use held_image::Held;
 use romfs_format::AttributeRow;
-use romfs_format::read::word;
 use std::alloc::{AllocError, Allocator};
 use std::marker::Model;
 
@@ -47,15 +47,16 @@ impl<A: Allocator> Rows<A> {
     /// trailer is not broken.
     ///
     /// It takes 28 bytes for each row. The error comes only where memory was refused.
-    pub fn of(alloc: A, bytes: &[u8]) -> Result<Rows<A>, AllocError>
-        requires long { HEAD_SIZE ≤ length bytes.now }
-        requires whole { ¬ IsTrailerBroken bytes.now }
-        ensures { IfOk result (λ kept. kept ≡ rows bytes.now) }
+    #[tactic(auto, unfolding(romfs_format::specs::Trailer::trailer))]
+    pub fn of(alloc: A, image: &Held<'_>) -> Result<Rows<A>, AllocError>
+        requires long { HEAD_SIZE ≤ length image.now }
+        requires whole { ¬ IsTrailerBroken image.now }
+        ensures { IfOk result (λ kept. kept ≡ rows image.now) }
     {
-        match trailer_of(bytes) {
+        match trailer_place(image) {
             None => Ok(Rows::none(alloc)),
-            Some(trailer) => {
-                let rows = rows_in(alloc, trailer.bytes)?;
+            Some(place) => {
+                let rows = rows_in(alloc, &Trailer::at(image, place))?;
                 Ok(Rows { rows })
             }
         }
@@ -100,14 +101,14 @@ impl<A: Allocator> Rows<A> {
 }
 
 // All rows of a trailer, in their order.
-fn rows_in<A: Allocator>(alloc: A, trailer: &[u8]) -> Result<Vec<KeptRow, A>, AllocError>
+fn rows_in<A: Allocator>(alloc: A, trailer: &Trailer<'_>) -> Result<Vec<KeptRow, A>, AllocError>
     requires long { TRAILER_HEAD_SIZE ≤ length trailer.now }
     requires whole { trailer_end trailer.now ≤ length trailer.now }
     ensures all { IfOk result (λ found.
         found.items ≡ first_rows trailer.now (row_count trailer.now)) }
     ensures few { IfOk result (λ found. length found.items < 2 ^ 32) }
 {
-    let count = word(trailer, 8);
+    let count = trailer.word(8);
     let mut rows = Vec::with_capacity(alloc, count as usize)?;
     for number in 0..count {
         rows.push(KeptRow::of(row_of(trailer, number)))?;

@@ -10,6 +10,7 @@ ghost use Rattle.std.specs.Option.{option_map};
 ghost use Rattle.romfs_format.specs.declared.limits.TheConstants.{HEAD_SIZE};
 ghost use Rattle.romfs_format.specs.Fields.{word as word_of, text_at as text_of, text_end, ended, name_field as field_of, word_sum};
 ghost use Rattle.romfs_format.specs.Heads.{head_of, name_of};
+ghost use Rattle.romfs_format.specs.Trailer.{long_word as long_word_of};
 ghost use Rattle.held_image.specs.Blocks.{Rises, IsRank, AreInRow, IsRun, IsKept, IsFront, filled, byte_of};
 
 use byteorder::{BigEndian, ByteOrder};
@@ -23,6 +24,9 @@ pub const BLOCK_SIZE: usize = 16;
 
 /// How many blocks a run has at most: as many as a header and its name can reach into.
 const RUN_BLOCKS: usize = 18;
+
+/// How many numbers a word can be.
+const WORDS: u64 = 0x1_0000_0000;
 
 /// How many blocks have a number below this one.
 fn rank(blocks: &[u32], block: u32) -> usize
@@ -107,6 +111,18 @@ pub(crate) fn word_in(blocks: &[u32], bytes: &[u8], size: u32, at: u32) -> u32
         byte_in(blocks, bytes, at + 2),
         byte_in(blocks, bytes, at + 3),
     ])
+}
+
+/// The big-endian number in the eight bytes at a place.
+#[tactic(auto, using(crate::proofs::Views::long_by_words))]
+pub(crate) fn long_word_in(blocks: &[u32], bytes: &[u8], size: u32, at: u32) -> u64
+    requires kept { IsKept blocks.now bytes.now }
+    requires at { at + 8 ≤ size }
+    ensures { result ≡ long_word_of (filled size blocks.now bytes.now) at }
+{
+    let high = word_in(blocks, bytes, size, at);
+    let low = word_in(blocks, bytes, size, at + 4);
+    u64::from(high) * WORDS + u64::from(low)
 }
 
 /// The first bytes, as many as are looked at for a name that begins there.

@@ -1,14 +1,17 @@
 //! Fields of an image that is held.
 
-ghost use Rattle.std.specs.Prelude.{◌≡◌, ◌+◌, ◌<◌, ◌≤◌, ◌%◌, ◌^◌, ◌↔◌, IfSome, IsTrue, length, take, drop, get_or};
+ghost use Rattle.std.specs.Prelude.{◌≡◌, ◌+◌, ◌<◌, ◌≤◌, ◌%◌, ◌^◌, ◌↔◌, IfSome, IsTrue, length, take, drop, get_or, nat_eq};
+ghost use Rattle.std.specs.List.{starts_with as begins_with};
 ghost use Rattle.std.specs.Option.{option_map};
 ghost use Rattle.romfs_format.specs.declared.limits.TheConstants.{HEAD_SIZE};
 ghost use Rattle.romfs_format.specs.Fields.{root, word, text_end, text_at, word_sum};
 ghost use Rattle.romfs_format.specs.Heads.{head_of, name_of};
 ghost use Rattle.romfs_format.specs.Rules.{StartsWith};
+ghost use Rattle.romfs_format.specs.Trailer.{long_word as long_word_of};
 
 use crate::blocks::{
-    byte_of_blocks, head_in_blocks, head_of_blocks, name_of_blocks, sum_in, text_of_blocks, word_in,
+    byte_of_blocks, head_in_blocks, head_of_blocks, long_word_in, name_of_blocks, sum_in,
+    text_of_blocks, word_in,
 };
 use crate::held::{Form, Held};
 use romfs_format::limits::HEAD_SIZE;
@@ -44,6 +47,22 @@ pub fn starts_with(image: &Held<'_>, bytes: &[u8]) -> bool
     true
 }
 
+/// Whether some bytes stand at a place.
+pub fn stand_at(image: &Held<'_>, at: usize, bytes: &[u8]) -> bool
+    requires { at ≤ length image.now }
+    ensures { result ≡ begins_with nat_eq (drop at image.now) bytes.now }
+{
+    if image.len() - at < bytes.len() {
+        return false;
+    }
+    for number in 0..bytes.len() {
+        if byte_at(image, at + number) != bytes[number] {
+            return false;
+        }
+    }
+    true
+}
+
 /// The big-endian word at a place.
 #[inline(always)]
 #[tactic(auto, using(crate::proofs::Fronts::filled_long))]
@@ -58,6 +77,22 @@ pub fn word(image: &Held<'_>, at: usize) -> u32
             blocks,
             bytes,
         } => word_in(blocks, bytes, size, at as u32),
+    }
+}
+
+/// The big-endian number in the eight bytes at a place.
+#[tactic(auto, using(crate::proofs::Fronts::filled_long))]
+pub fn long_word(image: &Held<'_>, at: usize) -> u64
+    requires { at + 8 ≤ length image.now }
+    ensures { result ≡ long_word_of image.now at }
+{
+    match image.form {
+        Form::Whole(bytes) => fields::long_word(bytes, at),
+        Form::Sparse {
+            size,
+            blocks,
+            bytes,
+        } => long_word_in(blocks, bytes, size, at as u32),
     }
 }
 

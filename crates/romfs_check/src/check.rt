@@ -8,6 +8,7 @@ ghost use Rattle.romfs_check.specs.Refusals.{IsRefusal};
 
 use crate::refusal::CheckFault;
 use attribute_rows::Rows;
+use held_image::Held;
 use romfs_format::Profile;
 use romfs_reader::Image;
 use romfs_rules::first_fault;
@@ -75,7 +76,7 @@ impl<A: Allocator + Copy> Check for Image<A> {
         ensures ok { IfOk result (IsChecked profile bytes.items) }
         ensures err { IfErr result (IsRefusal profile bytes.items) }
     {
-        hold(alloc, &bytes, profile)?;
+        hold(alloc, &Held::whole(&bytes), profile)?;
         Ok(Image::of_sound(bytes))
     }
 
@@ -91,30 +92,38 @@ impl<A: Allocator + Copy> Check for Image<A> {
         ensures ok { IfOk result (λ both. IsCheckedWithRows profile bytes.items both.0 both.1) }
         ensures err { IfErr result (IsRefusal profile bytes.items) }
     {
-        hold(alloc, &bytes, profile)?;
-        let rows = rows_of(alloc, &bytes, profile)?;
+        hold(alloc, &Held::whole(&bytes), profile)?;
+        let rows = rows_of(alloc, &Held::whole(&bytes), profile)?;
         Ok((Image::of_sound(bytes), rows))
     }
 }
 
-// Holds bytes to the rules of a profile.
-fn hold<A: Allocator + Copy>(alloc: A, bytes: &[u8], profile: Profile) -> Result<(), CheckFault>
-    ensures ok { IfOk result (λ _. IsSound profile bytes.now) }
-    ensures err { IfErr result (IsRefusal profile bytes.now) }
+/// Holds an image to the rules of a profile.
+pub(crate) fn hold<A: Allocator + Copy>(
+    alloc: A,
+    image: &Held<'_>,
+    profile: Profile,
+) -> Result<(), CheckFault>
+    ensures ok { IfOk result (λ _. IsSound profile image.now) }
+    ensures err { IfErr result (IsRefusal profile image.now) }
 {
-    match first_fault(alloc, bytes, profile)? {
+    match first_fault(alloc, image, profile)? {
         Some(fault) => Err(CheckFault::Broken(fault)),
         None => Ok(()),
     }
 }
 
-// The rows of sound bytes that their profile shows.
-fn rows_of<A: Allocator>(alloc: A, bytes: &[u8], profile: Profile) -> Result<Rows<A>, AllocError>
-    requires { IsSound profile bytes.now }
-    ensures { IfOk result (λ rows. rows ≡ rows_shown profile bytes.now) }
+/// The rows of a sound image that its profile shows.
+pub(crate) fn rows_of<A: Allocator>(
+    alloc: A,
+    image: &Held<'_>,
+    profile: Profile,
+) -> Result<Rows<A>, AllocError>
+    requires { IsSound profile image.now }
+    ensures { IfOk result (λ rows. rows ≡ rows_shown profile image.now) }
 {
     if profile.reads_attributes() {
-        Rows::of(alloc, bytes)
+        Rows::of(alloc, image)
     } else {
         Ok(Rows::none(alloc))
     }

@@ -1,8 +1,8 @@
 -- Which breach is named first: on a header the rules are tried by number (one_tried, first_broken),
 -- the headers upward by slot (scan_more, asked_next, scan_all). The first breach is below the root,
 -- inside, or past the end (breach_..); else the depth is asked (fault_by_depth, kept_by_depth), and
--- at last the attributes (fault_by_trailer, sound_by_trailer), unless they are not read (unread).
-use Rattle.std.proofs.Common.{◌≡◌, ◌∙◌, sym, subst, ℕ, ◌+◌, ◌*◌, ◌/◌, ◌<◌, ◌≤◌, ◌↔◌, ◌⊎◌, inl, inr, List, length, Bool, IsTrue, true, false, get_or, Option, Some, None, refl, arith, lit<, lit≤}
+-- at last the attributes (fault_by_trailer, sound_by_trailer).
+use Rattle.std.proofs.Common.{◌≡◌, ◌∙◌, sym, subst, ℕ, ◌+◌, ◌*◌, ◌/◌, ◌<◌, ◌≤◌, ◌↔◌, ◌⊎◌, inl, inr, List, length, Bool, true, false, get_or, Option, Some, None, refl, arith, lit<, lit≤}
 use Rattle.std.proofs.lemmas.Bool.{cases_order, cases_lt, false≢true}
 use Rattle.romfs_format.specs.declared.rule.Rule.{Rule}
 use Rattle.romfs_format.specs.declared.rule.Rule.TheVariants.{Short, Magic, FullSize, BadSum, VolumeName, NoRoot, Outside, NameOpen, NameBad, DataOutside, TargetLong, LinkedTwice, SameName, LinkLoop, LinkDirectory, MajorLarge, HeaderSum, TooDeep, Attributes}
@@ -12,8 +12,8 @@ use Rattle.romfs_format.specs.Chains.{IsSomeMember}
 use Rattle.romfs_format.specs.Links.{IsTarget, IsReached}
 use Rattle.romfs_format.specs.declared.rule.Profile.{Profile}
 use Rattle.romfs_format.specs.declared.rule.Profile.TheVariants.{Usual}
-use Rattle.romfs_format.specs.Profiles.{asks_sums, reads_attributes}
-use Rattle.romfs_format.specs.Rules.{IsVolume, BreaksHeader, Breaks, IsUsed, rule_number, stage, IsNamedBefore, IsFault, IsSound, IsFaultOf}
+use Rattle.romfs_format.specs.Profiles.{asks_sums}
+use Rattle.romfs_format.specs.Rules.{IsVolume, BreaksHeader, Breaks, IsUsed, rule_number, stage, IsNamedBefore, IsFault, IsSound}
 use Rattle.romfs_format.proofs.Faults.{one_rule}
 use Rattle.romfs_rules.specs.Marks.{HasSlot, IsVolumeImage, AreMarks, IsElsewhere}
 use Rattle.romfs_rules.specs.Leads.{IsInSomeChain}
@@ -23,7 +23,7 @@ use Rattle.slot_sets.proofs.Unions.{over_to}
 use Rattle.romfs_rules.proofs.Slots.{IsGap, clear_gap, root_slot, cleared_root, cleared_in_chain, cleared_destination, slot_inside}
 use Rattle.romfs_format.specs.declared.rule.ImageFault.{ImageFault}
 use Rattle.romfs_rules.specs.Outside.{IsLeast, IsBeforeRoot, IsPastEnd}
-use Rattle.romfs_rules.specs.Judge.{IsHeaderRule, KeepsBefore, KeepsHeaderRules, IsFirstRule, IsFirstAt, KeepsBelow, IsFirstInside, KeepsAllHeaderRules, IsFirstBreach, KeepsToDepth, IsFaultToDepth}
+use Rattle.romfs_rules.specs.Judge.{IsHeaderRule, KeepsBefore, KeepsHeaderRules, IsFirstRule, IsFirstAt, KeepsBelow, IsFirstInside, KeepsAllHeaderRules, IsFirstBreach, KeepsToDepth}
 use Rattle.romfs_rules.proofs.Standing.{reached, member_in_chain}
 use Rattle.romfs_rules.proofs.Judging.{root_elsewhere}
 
@@ -487,9 +487,3 @@ module _ (profile : Profile) (b : List ℕ) (k : KeepsToDepth profile b) where
   -- it is as long as a header
   pub long_enough : HEAD_SIZE ≤ length b
   long_enough = elim (cases_lt (length b) HEAD_SIZE) [ inl l ↦ absurd (k.keeps Short 0 (lit< tt) (l, refl)) | inr l ↦ l ]
-
--- where attributes are not read, the fault whatever they are is the fault
-pub unread : (profile : Profile) (b : List ℕ) → ¬ IsTrue (reads_attributes profile) → (fault : Option ImageFault)
-    → IsFaultToDepth profile b fault → IsFaultOf profile b fault
-unread profile b n None k = sound_by_trailer profile b k (λ p x. n x.0)
-unread profile b n (Some f) k = k

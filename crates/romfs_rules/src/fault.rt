@@ -2,7 +2,7 @@
 
 ghost use Rattle.std.specs.Prelude.{◌≡◌, false, IfOk, IsTrue};
 ghost use Rattle.romfs_format.specs.Fields.{root as root_of};
-ghost use Rattle.romfs_format.specs.Profiles.{asks_sums, reads_attributes};
+ghost use Rattle.romfs_format.specs.Profiles.{asks_sums};
 ghost use Rattle.romfs_rules.specs.InChains.{AreChains};
 ghost use Rattle.romfs_rules.specs.SameNames.{HaveSameNamesIfAlone};
 ghost use Rattle.romfs_rules.specs.Twice.{AreTwice};
@@ -33,31 +33,18 @@ use std::alloc::{AllocError, Allocator};
 /// such header; else, under a profile with attributes, a trailer that is broken, where it begins.
 /// The error comes only where memory was refused.
 ///
-/// It takes n log n steps in headers and one pass over the bytes of the image, whatever they are.
-/// Beside them it takes at most a byte for each 40 of the image and 96 for each header that is
-/// reached, and keeps nothing.
+/// It takes n log n steps in headers and one pass over the bytes of the image, whatever they are,
+/// or over those that are kept of it. Beside them it takes at most a byte for each 40 of the image
+/// and 96 for each header that is reached, and keeps nothing.
 pub fn first_fault<A: Allocator + Copy>(
-    alloc: A,
-    bytes: &[u8],
-    profile: Profile,
-) -> Result<Option<ImageFault>, AllocError>
-    ensures { IfOk result (IsFaultOf profile bytes.now) }
-{
-    let fault = fault_to_depth(alloc, &Held::whole(bytes), profile)?;
-    Ok(fault_with_attributes(bytes, profile, fault))
-}
-
-/// The same of an image that is held, whole or by what is kept of it, under a profile without
-/// attributes: their trailer stands behind the full size, where nothing is kept.
-pub fn first_fault_held<A: Allocator + Copy>(
     alloc: A,
     image: &Held<'_>,
     profile: Profile,
 ) -> Result<Option<ImageFault>, AllocError>
-    requires plain { ¬ IsTrue (reads_attributes profile) }
     ensures { IfOk result (IsFaultOf profile image.now) }
 {
-    fault_to_depth(alloc, image, profile)
+    let fault = fault_to_depth(alloc, image, profile)?;
+    Ok(fault_with_attributes(image, profile, fault))
 }
 
 // The fault of an image, whatever its attributes.
@@ -84,18 +71,18 @@ fn fault_to_depth<A: Allocator + Copy>(
 // The fault of an image, where that before its attributes are looked at is known.
 #[tactic(auto, using(crate::proofs::Verdict::long_enough))]
 fn fault_with_attributes(
-    bytes: &[u8],
+    image: &Held<'_>,
     profile: Profile,
     fault: Option<ImageFault>,
 ) -> Option<ImageFault>
-    requires before { IsFaultToDepth profile bytes.now fault }
-    ensures { IsFaultOf profile bytes.now result }
+    requires before { IsFaultToDepth profile image.now fault }
+    ensures { IsFaultOf profile image.now result }
 {
     match fault {
         Some(fault) => Some(fault),
         None => {
             if profile.reads_attributes() {
-                trailer_fault(bytes)
+                trailer_fault(image)
             } else {
                 None
             }

@@ -1,8 +1,9 @@
 //! Which rule of romfs an image breaks.
 //!
 //! [`first_fault`] answers for every list of bytes, whatever a stranger made: directories whose
-//! chains merge, loop or lead anywhere, links to links, names that come twice. Most images keep
-//! every rule, and one walk down from the root shows it (`plain`, `plain_header`). Of all others it
+//! chains merge, loop or lead anywhere, links to links, names that come twice. It reads an image
+//! that is held, whole or by what is kept of it (`held_image`). Most images keep every rule, and
+//! one walk down from the root shows it (`plain`, `plain_header`). Of all others it
 //! collects sets of headers (`chains`, `same_names`, `twice`, `targets`, `ends`), as a bit for
 //! every 16 bytes of the image or as a rising list (`slot_sets`); then it goes upward once over the
 //! headers that are reached (`judge`) and asks each for the first rule that it breaks (`header`);
@@ -30,4 +31,4 @@ mod targets;
 mod twice;
 mod volume;
 
-pub use fault::{first_fault, first_fault_held};
+pub use fault::first_fault;

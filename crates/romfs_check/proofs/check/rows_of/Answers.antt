@@ -7,11 +7,11 @@ use Rattle.romfs_format.specs.Trailer.{trailer_at}
 use Rattle.romfs_check.proofs.check.rows_of.Goals as goal
 
 pub of-requires-clause-long : goal.of-requires-clause-long
-of-requires-clause-long g c = elim (cases_lt (length c.args.bytes.now) HEAD_SIZE) [
+of-requires-clause-long g c = elim (cases_lt (length c.args.image.now) HEAD_SIZE) [
   | inl l ↦ absurd (c.requires.keeps Short 0 (l, refl))
   | inr l ↦ l
 ]
 
 pub of-requires-clause-whole : goal.of-requires-clause-whole
 of-requires-clause-whole g c = λ x.
-    c.requires.keeps Attributes (trailer_at c.args.bytes.now) (sym c.reads_attributes.ensures ∙ c.if-reads_attributes.true, x, refl)
+    c.requires.keeps Attributes (trailer_at c.args.image.now) (sym c.reads_attributes.ensures ∙ c.if-reads_attributes.true, x, refl)
