@@ -16,8 +16,9 @@ pub(crate) struct KeptRow {
     mode: u32,
     uid: u32,
     gid: u32,
-    seconds_high: u32,
+    // Lower half first, as x86 has them, so that both are read at once.
     seconds_low: u32,
+    seconds_high: u32,
     nanoseconds: u32,
 }
 
@@ -49,8 +50,8 @@ impl KeptRow {
             mode: row.mode,
             uid: row.uid,
             gid: row.gid,
-            seconds_high: (row.seconds / HALF) as u32,
             seconds_low: (row.seconds % HALF) as u32,
+            seconds_high: (row.seconds / HALF) as u32,
             nanoseconds: row.nanoseconds,
         }
     }

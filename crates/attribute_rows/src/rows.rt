@@ -14,8 +14,7 @@ use romfs_format::AttributeRow;
 use std::alloc::{AllocError, Allocator};
 use std::marker::Model;
 
-/// The rows of an image's trailer, which rise by offset. A clause sees them as a list. Each takes
-/// 28 bytes.
+/// The rows of an image's trailer, which rise by offset. A clause sees them as a list.
 #[derive(Drop)]
 pub struct Rows<A: Allocator> {
     rows: Vec<KeptRow, A>,
