@@ -4,3 +4,4 @@ pub mod Fronts
 pub mod Sums
 pub mod Views
 pub mod NameBytes
+pub mod Rows

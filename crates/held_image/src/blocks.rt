@@ -29,7 +29,7 @@ const RUN_BLOCKS: usize = 18;
 const WORDS: u64 = 0x1_0000_0000;
 
 /// How many blocks have a number below this one.
-fn rank(blocks: &[u32], block: u32) -> usize
+pub(crate) fn rank(blocks: &[u32], block: u32) -> usize
     requires { Rises blocks.now }
     ensures { IsRank blocks.now block result }
 {

@@ -1,10 +1,11 @@
 //! What is kept of an image.
 
-ghost use Rattle.std.specs.Prelude.{◌≡◌, ◌<◌, ◌≤◌, ◌^◌, length, take};
-ghost use Rattle.held_image.specs.Blocks.{IsKept, filled};
+ghost use Rattle.std.specs.Prelude.{◌≡◌, ◌+◌, ◌*◌, ◌/◌, ◌%◌, ◌<◌, ◌≤◌, ◌^◌, length, take, IfOk, OnOk};
+ghost use Rattle.held_image.specs.Blocks.{AreBelow, HasRow, IsFollowed, IsKept, IsPadded, filled};
 
+use crate::blocks::{BLOCK_SIZE, rank};
 use crate::held::Held;
-use std::alloc::Allocator;
+use std::alloc::{AllocError, Allocator};
 use std::marker::Model;
 
 /// What is kept of an image: some of its blocks of 16 bytes. A clause sees a list of bytes, those
@@ -12,7 +13,7 @@ use std::marker::Model;
 #[derive(Drop)]
 pub struct Kept<A: Allocator> {
     size: u32,
-    /// The numbers of the blocks, in rising order.
+    /// The numbers of the blocks, in rising order. None lies behind the size.
     blocks: Vec<u32, A>,
     /// The bytes of the blocks, one block behind the other.
     bytes: Vec<u8, A>,
@@ -20,42 +21,30 @@ pub struct Kept<A: Allocator> {
 
 impl<A: Allocator> Model for Kept<A> {
     ghost use Rattle.std.specs.Prelude.{List, ℕ};
-    ghost use Rattle.held_image.specs.Blocks.{IsKept, filled};
+    ghost use Rattle.held_image.specs.Blocks.{AreBelow, IsKept, filled};
 
     ghost Value = { List ℕ };
 
     ghost view = { λ kept. filled kept.size kept.blocks.items kept.bytes.items };
 
-    ghost invariant = { λ kept. IsKept kept.blocks.items kept.bytes.items };
+    ghost invariant = { λ kept. IsKept kept.blocks.items kept.bytes.items
+        × AreBelow kept.size kept.blocks.items };
 }
 
 impl<A: Allocator> Kept<A> {
     /// Blocks of an image of this size in bytes: their numbers, rising, and the bytes of each, one
-    /// behind the other.
+    /// behind the other. Those behind the size are let go.
     #[tactic(auto, using(crate::proofs::Fronts::filled_long))]
-    pub fn new(size: u32, blocks: Vec<u32, A>, bytes: Vec<u8, A>) -> Kept<A>
+    pub fn new(size: u32, mut blocks: Vec<u32, A>, mut bytes: Vec<u8, A>) -> Kept<A>
         requires { IsKept blocks.items bytes.items }
         ensures bytes { result ≡ filled size blocks.items bytes.items }
         ensures size { length result ≡ size }
     {
+        cut(&mut blocks, &mut bytes, size);
         Kept {
             size,
             blocks,
             bytes,
-        }
-    }
-
-    /// The first bytes alone, so many.
-    #[tactic(auto, using(crate::proofs::Fronts::filled_long, crate::proofs::Views::first_filled))]
-    pub fn first(self, count: u32) -> Kept<A>
-        requires { count ≤ length self }
-        ensures value { result ≡ take count self }
-        ensures length { length result ≡ count }
-    {
-        Kept {
-            size: count,
-            blocks: self.blocks,
-            bytes: self.bytes,
         }
     }
 
@@ -67,4 +56,74 @@ impl<A: Allocator> Kept<A> {
     {
         Held::sparse(self.size, &self.blocks, &self.bytes)
     }
+
+    /// The first bytes alone, so many. The blocks behind them are let go.
+    #[tactic(auto, using(crate::proofs::Fronts::filled_long, crate::proofs::Views::first_filled))]
+    pub fn first(self, count: u32) -> Kept<A>
+        requires { count ≤ length self }
+        ensures value { result ≡ take count self }
+        ensures length { length result ≡ count }
+    {
+        Kept::new(count, self.blocks, self.bytes)
+    }
+
+    /// The same image, and some bytes behind it, from a multiple of 16 on.
+    pub fn followed(self, at: u32, tail: &[u8]) -> Result<Kept<A>, AllocError>
+        requires behind { length self ≤ at }
+        requires even { at % 16 ≡ 0 }
+        requires small { at + length tail.now < 2 ^ 32 }
+        ensures { IfOk result (IsFollowed self at tail.now) }
+    {
+        let mut blocks = self.blocks;
+        let mut bytes = self.bytes;
+        let count = tail.len().div_ceil(BLOCK_SIZE);
+        add_row(&mut blocks, at / 16, count as u32)?;
+        add_padded(&mut bytes, tail)?;
+        Ok(Kept {
+            size: at + tail.len() as u32,
+            blocks,
+            bytes,
+        })
+    }
+}
+
+/// Lets go the blocks behind a size.
+#[tactic(auto, using(crate::proofs::Rows::cut_kept, crate::proofs::Rows::cut_below, crate::proofs::Rows::cut_filled))]
+fn cut<A: Allocator>(blocks: &mut Vec<u32, A>, bytes: &mut Vec<u8, A>, size: u32)
+    requires { IsKept blocks.old.items bytes.old.items }
+    ensures kept { IsKept blocks.new.items bytes.new.items }
+    ensures below { AreBelow size blocks.new.items }
+    ensures same { filled size blocks.new.items bytes.new.items
+        ≡ filled size blocks.old.items bytes.old.items }
+{
+    let end = ((u64::from(size) + 15) / 16) as u32;
+    let count = rank(blocks, end);
+    blocks.truncate(count);
+    bytes.truncate(count * BLOCK_SIZE);
+}
+
+/// Adds the numbers of so many blocks, from the first on.
+fn add_row<A: Allocator>(
+    blocks: &mut Vec<u32, A>,
+    first: u32,
+    count: u32,
+) -> Result<(), AllocError>
+    requires { first + count ≤ 2 ^ 28 }
+    ensures { OnOk result (HasRow blocks.old.items first count blocks.new.items) }
+{
+    for number in 0..count {
+        blocks.push(first + number)?;
+    }
+    Ok(())
+}
+
+/// Adds some bytes, and zeros up to the end of a block.
+fn add_padded<A: Allocator>(bytes: &mut Vec<u8, A>, tail: &[u8]) -> Result<(), AllocError>
+    requires { length bytes.old.items % 16 ≡ 0 }
+    ensures { OnOk result (IsPadded bytes.old.items tail.now bytes.new.items) }
+{
+    bytes.extend_from_slice(tail)?;
+    let whole = bytes.len().div_ceil(BLOCK_SIZE) * BLOCK_SIZE;
+    bytes.resize(whole, 0)?;
+    Ok(())
 }
