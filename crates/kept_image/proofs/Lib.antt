@@ -7,3 +7,4 @@ pub mod Walks
 pub mod Alike
 pub mod Likeness
 pub mod Volumes
+pub mod Tails

@@ -3,3 +3,4 @@ pub mod Reads
 pub mod Footprint
 pub mod Gathered
 pub mod Walk
+pub mod Tails

@@ -23,9 +23,11 @@ mod packing;
 mod pieces;
 #[cfg(test)]
 mod tests;
+mod trailer;
 mod visit;
 mod window;
 
 pub use fault::GatherFault;
 pub use gathering::gather;
 pub use held_image::Kept;
+pub use trailer::gather_with_trailer;

@@ -142,7 +142,7 @@ fn next_len(len: usize, used: usize) -> usize
 }
 
 /// Reads so many bytes from a place on, in place of others.
-fn load<S: Contents, A: Allocator>(
+pub fn load<S: Contents, A: Allocator>(
     source: &S,
     bytes: &mut Vec<u8, A>,
     at: usize,
