@@ -47,9 +47,11 @@ module _ (blocks bytes : List ℕ) (kept : IsKept blocks bytes) (end count : ℕ
 
   front_kept : IsKept front_blocks front_bytes
   front_kept = record {
-    rises = record { above = λ i j l m.
-        (let z = blocks_long in let w = rank.within in let a = kept.rises.above i j l (omega arith) in
-        let e = block_at i (omega arith) in let f = block_at j (omega arith) in omega arith) };
+    rises = record {
+      above = λ i j l m.
+          (let z = blocks_long in let w = rank.within in let a = kept.rises.above i j l (omega arith) in
+          let e = block_at i (omega arith) in let f = block_at j (omega arith) in omega arith);
+    };
     long = (let z = blocks_long in let y = bytes_long in omega arith);
   }
 
@@ -59,8 +61,10 @@ module _ (blocks bytes : List ℕ) (kept : IsKept blocks bytes) (end count : ℕ
 
   pub cut_below : (size : ℕ) → end ≡ (size + 15) / 16 → AreBelow size (take count blocks)
   unfolding front_blocks
-  cut_below size e = record { each = λ i l.
-      (let z = blocks_long in let f = block_at i (omega arith) in let b = rank.below i (omega arith) in omega arith) }
+  cut_below size e = record {
+    each = λ i l.
+        (let z = blocks_long in let f = block_at i (omega arith) in let b = rank.below i (omega arith) in omega arith);
+  }
 
   byte_at : (i j : ℕ) → i < count → j < 16 → get_or front_bytes (16 * i + j) 0 ≡ get_or bytes (16 * i + j) 0
   unfolding front_bytes
@@ -112,9 +116,12 @@ module _ (blocks bytes tail all whole : List ℕ) (size at : ℕ) (kept : IsKept
   place : (i : ℕ) → i < length all → (i < length blocks) ⊎ ((length blocks ≤ i) × (get_or all i 0 ≡ at / 16 + (i - length blocks)))
   place i l = elim (cases_lt i (length blocks)) [
     | inl m ↦ inl m
-    | inr m ↦ inr (m, (let r = row.long in
-        ap (λ k. get_or all k 0) (let e : i ≡ length blocks + (i - length blocks) = omega arith in e)
-        ∙ row.row (i - length blocks) (omega arith)))
+    | inr m ↦ inr (
+      m,
+      (let r = row.long in
+          ap (λ k. get_or all k 0) (let e : i ≡ length blocks + (i - length blocks) = omega arith in e)
+          ∙ row.row (i - length blocks) (omega arith)),
+    )
   ]
 
   old_below : (i : ℕ) → i < length blocks → get_or all i 0 < at / 16
@@ -136,10 +143,12 @@ module _ (blocks bytes tail all whole : List ℕ) (size at : ℕ) (kept : IsKept
   }
 
   pub followed_below : AreBelow (at + length tail) all
-  followed_below = record { each = λ i l. elim (place i l) [
-    | inl x ↦ (let b = old_below i x in omega arith)
-    | inr y ↦ (let y0 = y.0 in let y1 = y.1 in let r = row.long in omega arith)
-  ] }
+  followed_below = record {
+    each = λ i l. elim (place i l) [
+      | inl x ↦ (let b = old_below i x in omega arith)
+      | inr y ↦ (let y0 = y.0 in let y1 = y.1 in let r = row.long in omega arith)
+    ];
+  }
 
   front_byte : (p : ℕ) → p < at → byte_of all whole p ≡ byte_of blocks bytes p
   front_byte p l = elim (find_block blocks (p / 16)) [

@@ -103,11 +103,7 @@ fn cut<A: Allocator>(blocks: &mut Vec<u32, A>, bytes: &mut Vec<u8, A>, size: u32
 }
 
 /// Adds the numbers of so many blocks, from the first on.
-fn add_row<A: Allocator>(
-    blocks: &mut Vec<u32, A>,
-    first: u32,
-    count: u32,
-) -> Result<(), AllocError>
+fn add_row<A: Allocator>(blocks: &mut Vec<u32, A>, first: u32, count: u32) -> Result<(), AllocError>
     requires { first + count ≤ 2 ^ 28 }
     ensures { OnOk result (HasRow blocks.old.items first count blocks.new.items) }
 {
