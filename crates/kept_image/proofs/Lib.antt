@@ -8,3 +8,4 @@ pub mod Alike
 pub mod Likeness
 pub mod Volumes
 pub mod Tails
+pub mod Heads
