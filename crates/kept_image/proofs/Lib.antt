@@ -9,3 +9,4 @@ pub mod Likeness
 pub mod Volumes
 pub mod Tails
 pub mod Heads
+pub mod WithTrailer

@@ -19,7 +19,7 @@ use Rattle.kept_image.specs.Reads.{HasBytesAt, IsHeld}
 use Rattle.kept_image.specs.Tails.{BeginsTrailer, IsNoTail, IsRoom, IsTail, IsTailEnd}
 
 -- the letters do not stand at a place
-and_false : (x y : Bool) → y ≡ false → (x && y) ≡ false
+pub and_false : (x y : Bool) → y ≡ false → (x && y) ≡ false
 and_false true y e = e
 and_false false y e = refl
 

@@ -187,7 +187,7 @@ module _ (b a : List ℕ) (g : IsGatheredOf b a) where
         ((header_rules profile (is_same (take (length a) b) a) g.headers (take (length a) b) a agrees g.closed r p).1
         (subst (λ l. BreaksHeader profile l r p) image_a x))
 
-    roots : root (image b) ≡ root (image a)
+    pub roots : root (image b) ≡ root (image a)
     roots = ap root image_b ∙ looks.roots ∙ ap root (sym image_a)
 
     pub root_forth : HasNoRoot (image b) → HasNoRoot (image a)

@@ -10,8 +10,9 @@ ghost use Rattle.romfs_format.specs.Fields.{word, kind, size, name, data_at};
 ghost use Rattle.romfs_format.specs.Chains.{Has};
 ghost use Rattle.romfs_format.specs.Heads.{head_of};
 ghost use Rattle.romfs_format.specs.Profiles.{reads_attributes};
-ghost use Rattle.romfs_format.specs.Rules.{Breaks, BreaksHeader, IsFaultOf};
-ghost use Rattle.kept_image.specs.Gathered.{IsGathered};
+ghost use Rattle.romfs_format.specs.Rules.{Breaks, BreaksHeader, IsFaultOf, IsSound};
+ghost use Rattle.romfs_format.specs.Trailer.{rows_shown};
+ghost use Rattle.kept_image.specs.Gathered.{IsGathered, IsGatheredWithTrailer};
 ghost use Rattle.kept_image.specs.Footprint.{Agrees, IsClosed};
 
 /// Lists that agree where the headers of a closed set are kept break the same rules of headers,
@@ -40,6 +41,21 @@ pub fn same_fault()
         IsGathered (Some b) a → (fault : Option ImageFault) →
         (IsFaultOf profile b fault → IsFaultOf profile a fault)
         × (IsFaultOf profile a fault → IsFaultOf profile b fault) }
+{}
+
+/// What was gathered of any bytes with their trailer is sound where they are, and else has their
+/// fault, whatever the profile.
+pub fn same_fault_with_trailer()
+    ensures { (profile : Profile) → (b a : List ℕ) → IsGatheredWithTrailer (Some b) a →
+        (fault : Option ImageFault) →
+        (IsFaultOf profile b fault → IsFaultOf profile a fault)
+        × (IsFaultOf profile a fault → IsFaultOf profile b fault) }
+{}
+
+/// And it shows the rows that they show, where they are sound.
+pub fn same_rows_with_trailer()
+    ensures { (profile : Profile) → (b a : List ℕ) → IsGatheredWithTrailer (Some b) a →
+        IsSound profile b → rows_shown profile a ≡ rows_shown profile b }
 {}
 
 /// Paths of lists that agree where the headers of a closed set are kept lead to the same headers,
