@@ -100,8 +100,11 @@ fn file(size: usize, most: usize, fails_at: u32) -> Slow {
 
 impl Contents for Slow {
     ghost use Rattle.std.specs.Prelude.{None};
+    ghost use Rattle.image_bytes.specs.Sources.{unknown};
 
     ghost contents = { λ _. None };
+
+    ghost source = { λ _. unknown };
 
     fn size(&self) -> u64 {
         self.size as u64
