@@ -18,18 +18,18 @@ IsKindOf m (Regular size) = IsFile (file_type m) × (size ≡ metadata_len m) ×
 IsKindOf m BlockDevice = IsBlockDevice m
 IsKindOf m Stream = (IsFile (file_type m) → metadata_len m ≡ 0) × (IsBlockDevice m → ⊥)
 
--- what the rules look at is held
-abbrev pub IsGathered : {F A : Type 0} → OpenImage F A → Type 0
-IsGathered (Gathered kept file) = ⊤
-IsGathered (Whole bytes) = ⊥
+-- the image stays in its file, beside what the rules look at
+abbrev pub StaysInFile : {F A : Type 0} → OpenImage F A → Type 0
+StaysInFile (Gathered kept file) = ⊤
+StaysInFile (Whole bytes) = ⊥
 
 -- all bytes are held, those that are known
-abbrev pub IsWhole : {F A : Type 0} → Option (List ℕ) → OpenImage F A → Type 0
-IsWhole known (Gathered kept file) = ⊥
-IsWhole known (Whole bytes) = IfSome known (λ xs. bytes.items ≡ xs)
+abbrev pub IsAllOf : {F A : Type 0} → Option (List ℕ) → OpenImage F A → Type 0
+IsAllOf known (Gathered kept file) = ⊥
+IsAllOf known (Whole bytes) = IfSome known (λ xs. bytes.items ≡ xs)
 
--- what is held of a file of this kind, of which these bytes are known
-abbrev pub IsOpened : {F A : Type 0} → FileKind → Option (List ℕ) → OpenImage F A → Type 0
-IsOpened (Regular size) known image = IsGathered image
-IsOpened BlockDevice known image = IsGathered image
-IsOpened Stream known image = IsWhole known image
+-- how the image of a file of this kind is held, of which these bytes are known
+abbrev pub IsOpenedAs : {F A : Type 0} → FileKind → Option (List ℕ) → OpenImage F A → Type 0
+IsOpenedAs (Regular size) known image = StaysInFile image
+IsOpenedAs BlockDevice known image = StaysInFile image
+IsOpenedAs Stream known image = IsAllOf known image

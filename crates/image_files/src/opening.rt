@@ -5,7 +5,7 @@
 //! bytes once, from the first to the last, and is read whole.
 
 ghost use Rattle.std.specs.Prelude.{◌↔◌, IfOk, IsTrue};
-ghost use Rattle.image_files.specs.Opening.{IsBlockDevice, IsGathered, IsKindOf, IsOpened};
+ghost use Rattle.image_files.specs.Opening.{IsBlockDevice, IsKindOf, IsOpenedAs, StaysInFile};
 
 use crate::whole::{OfFile, ReadFault, read_file};
 use image_bytes::InFile;
@@ -86,7 +86,7 @@ pub(crate) fn open_as<F: Read + Seek + OpenFile + FileExt + Drop, A: Allocator +
     mut file: F,
     kind: FileKind,
 ) -> Result<OpenImage<F, A>, ReadFault>
-    ensures { IfOk result (λ image. IsOpened kind (F.remaining file) image) }
+    ensures { IfOk result (λ image. IsOpenedAs kind (F.remaining file) image) }
 {
     match kind {
         FileKind::Regular { size } => gather_file(alloc, InFile::new(file, size)),
@@ -108,7 +108,7 @@ fn gather_file<F: FileExt + Drop, A: Allocator + Copy>(
     alloc: A,
     file: InFile<F>,
 ) -> Result<OpenImage<F, A>, ReadFault>
-    ensures { IfOk result IsGathered }
+    ensures { IfOk result StaysInFile }
 {
     match gather(alloc, &file) {
         Ok(kept) => Ok(OpenImage::Gathered { kept, file }),
