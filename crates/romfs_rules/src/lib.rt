@@ -10,6 +10,9 @@
 //! then the depth is looked at (`depth`), and at last the attribute trailer (`attribute_rows`).
 //! Each walk is a loop, and each visits a header a constant number of times. Its promise is
 //! `IsFaultOf`, of `romfs_format`.
+//!
+//! Images are read by `held_image`, so [`first_fault_held`] answers the same of what is kept of an
+//! image that stays in its file, under profiles without attributes.
 #![tactic(auto)]
 
 mod chains;

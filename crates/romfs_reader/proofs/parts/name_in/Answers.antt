@@ -1,4 +1,4 @@
-use Rattle.std.proofs.Common.{◌∙◌, sym, ap}
+use Rattle.std.proofs.Common.{ap}
 use Rattle.romfs_reader.proofs.parts.name_in.Goals as goal
 
 pub name_of-requires-clause-name : goal.name_of-requires-clause-name
