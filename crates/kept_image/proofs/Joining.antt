@@ -9,25 +9,9 @@ use Rattle.std.proofs.lemmas.List.Elements.{Contains-get_or}
 use Rattle.kept_image.specs.declared.pieces.Piece.{Piece}
 use Rattle.held_image.specs.Blocks.{byte_of, filled, IsKept}
 use Rattle.kept_image.specs.Pieces.{HasBlock, AreRight, IsPacked, IsFilled, IsSortedOut}
+use Rattle.held_image.proofs.Rows.{find_block}
 use Rattle.held_image.proofs.Runs.{byte_kept, byte_none}
 use Rattle.held_image.proofs.Fronts.{filled_at}
-
--- a number stands among the blocks, or it does not
-find_block : (blocks : List ℕ) (q : ℕ)
-    → ((i : ℕ) × (i < length blocks) × (get_or blocks i 0 ≡ q)) ⊎ ((i : ℕ) → i < length blocks → get_or blocks i 0 ≢ q)
-find_block [] q = inr (λ i l e. absurd (omega arith))
-find_block (b ∷ blocks) q = elim (cases_eq b q) [
-  | inl e ↦ inl (0, (let l : 0 < length (b ∷ blocks) = omega arith in l), e)
-  | inr n ↦ elim (find_block blocks q) [
-    | inl x ↦ inl (suc x.0, (let m = x.1 in let l : suc x.0 < length (b ∷ blocks) = omega arith in l), x.2)
-    | inr f ↦ inr (none b blocks q n f)
-  ]
-]
-  where
-    none : (b : ℕ) (blocks : List ℕ) (q : ℕ) → b ≢ q → ((i : ℕ) → i < length blocks → get_or blocks i 0 ≢ q)
-        → (i : ℕ) → i < length (b ∷ blocks) → get_or (b ∷ blocks) i 0 ≢ q
-    none b blocks q n f zero l e = n e
-    none b blocks q n f (suc i) l e = f i (omega arith) e
 
 module _ (blocks bytes new : List ℕ) (b : ℕ) (kept : IsKept blocks bytes) (whole : length new ≡ 16)
     (high : (i : ℕ) → i < length blocks → get_or blocks i 0 < b) where

@@ -5,7 +5,7 @@
 //! target of 20 bytes, and a regular file has data that look like headers. 832 of 900 bytes belong
 //! to it.
 
-use crate::{GatherFault, gather};
+use crate::{GatherFault, gather, gather_with_trailer};
 use held_image::read::word;
 use image_bytes::{Contents, Unread};
 use std::alloc::Allocator;
@@ -204,4 +204,54 @@ fn a_cut_file_is_gathered_up_to_its_end(rt: HostRuntime) {
         reads: 2,
     };
     assert_eq!(rt; look_at(rt.alloc(), &file(600, 900, 0), PLACES), Ok(told));
+}
+
+/// The same file with an attribute trailer of one row, for the header at 528, where the image ends.
+fn file_with_trailer(size: usize, fails_at: u32) -> Slow {
+    let mut file = file(size, 900, fails_at);
+    put(&mut file.image, 832, b"-attr01-\0\0\0\x01\0\0\0\0");
+    put(&mut file.image, 848, b"\0\0\x02\x10\0\0\x01\xa4");
+    file
+}
+
+// The size of what was kept with the trailer, and the first words of its head and of its row.
+fn look_behind<A: Allocator + Copy>(
+    alloc: A,
+    source: &Slow,
+) -> Result<(usize, [u32; 2]), GatherFault> {
+    let kept = gather_with_trailer(alloc, source)?;
+    let image = kept.held();
+    let size = image.len();
+    let mut words = [0; 2];
+    for i in 0..2 {
+        let place = 832 + 16 * i;
+        if place < size && 4 <= size - place {
+            words[i] = word(&image, place);
+        }
+    }
+    Ok((size, words))
+}
+
+#[test]
+fn a_trailer_is_kept_to_its_end(rt: HostRuntime) {
+    let told = look_behind(rt.alloc(), &file_with_trailer(900, 0));
+    assert_eq!(rt; told, Ok((880, [0x2d61_7474, 0x210])));
+}
+
+#[test]
+fn a_trailer_that_is_cut_off_is_kept_by_its_head(rt: HostRuntime) {
+    let told = look_behind(rt.alloc(), &file_with_trailer(870, 0));
+    assert_eq!(rt; told, Ok((848, [0x2d61_7474, 0])));
+}
+
+#[test]
+fn an_image_without_a_trailer_is_kept_as_it_is(rt: HostRuntime) {
+    let told = look_behind(rt.alloc(), &file(900, 900, 0));
+    assert_eq!(rt; told, Ok((832, [0, 0])));
+}
+
+#[test]
+fn a_failed_read_of_a_trailer_is_told(rt: HostRuntime) {
+    let told = look_behind(rt.alloc(), &file_with_trailer(900, 5));
+    assert_eq!(rt; told, Err(GatherFault::Unread));
 }
