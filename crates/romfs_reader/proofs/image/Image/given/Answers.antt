@@ -1,7 +1,0 @@
-use Rattle.romfs_reader.proofs.Given.{from_inside}
-use Rattle.romfs_reader.proofs.image.Image.given.Goals as goal
-
-pub head_at-requires-clause-inside : goal.head_at-requires-clause-inside
-head_at-requires-clause-inside g c =
-    rw (c.deref.ensures.value, c.self.view_is)
-    (from_inside c.args.self.now (rw c.self.view_is at c.self.invariant.0) c.args.offset c.requires.from).1
