@@ -24,4 +24,4 @@ pub use held_image::Kept;
 pub use kept::check_kept;
 pub use refusal::CheckFault;
 pub use romfs_format::{AttributeRow, Head, ImageFault, Kind, Profile, Rule};
-pub use romfs_reader::{Ends, Image, KeptImage, Members, Part};
+pub use romfs_reader::{Ends, Image, ImageView, KeptImage, Members, Part, views_of};

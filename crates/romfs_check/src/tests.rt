@@ -44,7 +44,8 @@ struct Seen {
 }
 
 fn look_at<A: Allocator + Copy>(alloc: A, bytes: &[u8]) -> Result<Seen, CheckFault> {
-    let image = kept(alloc, bytes)?;
+    let kept_image = kept(alloc, bytes)?;
+    let image = kept_image.view();
     let mut seen = Seen {
         full: image.full(),
         count: 0,

@@ -1,10 +1,12 @@
 -- What the name that was read says of the one that is there, where the empty name stands for one
 -- that is not ended: a name with bytes is ended (`some_name`), and none is `.` or `..` (`dotted`).
-use Rattle.std.proofs.Common.{◌≡◌, ◌≢◌, ℕ, List, [], length, Option, Some, None, IsSome, false, refl}
+-- Beyond the image there is none (`unnamed`).
+use Rattle.std.proofs.Common.{◌≡◌, ◌≢◌, sym, ℕ, ◌+◌, ◌<◌, List, [], length, Option, Some, None, IsSome, false, refl, arith}
 use Rattle.std.specs.Prelude.{unwrap_or}
 use Rattle.std.specs.Option.{option_map_or}
 use Rattle.romfs_format.specs.Fields.{name, is_dot_name}
 use Rattle.romfs_format.specs.Heads.{name_of}
+use Rattle.held_image.proofs.NameBytes.{text_bytes}
 
 some_text : (o : Option (List ℕ)) → length (unwrap_or o []) ≢ 0 → IsSome o
 some_text None n = absurd (n refl)
@@ -21,3 +23,11 @@ dotted_text (Some text) = refl
 -- the name that was read is `.` or `..` exactly where the header has such a name
 pub dotted : (a : List ℕ) (h : ℕ) → is_dot_name (name_of a h) ≡ option_map_or is_dot_name (name a h) false
 dotted a h = dotted_text (name a h)
+
+-- no name begins beyond the image
+pub unnamed : (a : List ℕ) (h : ℕ) → length a < h + 16 → name_of a h ≡ []
+unnamed a h l = none (name a h) refl
+  where
+    none : (o : Option (List ℕ)) → o ≡ name a h → unwrap_or o [] ≡ []
+    none None e = refl
+    none (Some text) e = absurd (let within = (text_bytes a text (h + 16) (sym e)).0 in omega arith)

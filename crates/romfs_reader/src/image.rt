@@ -12,12 +12,11 @@ ghost use Rattle.romfs_reader.specs.Readers.{data_of_header, bytes_at, IsHeadAt,
 
 use crate::ends::Ends;
 use crate::members::Members;
-use crate::parts::{
-    Part, bytes_in, bytes_within, data_in, data_part, end_of, members_of, name_in, place_at,
-};
+use crate::parts::{Part, bytes_in, bytes_within, data_in};
+use crate::view::ImageView;
 use held_image::Held;
 use romfs_format::limits::HEAD_SIZE;
-use romfs_format::read::{head_at, head_named, root_of, word};
+use romfs_format::read::{root_of, word};
 use romfs_format::{Head, Kind};
 use std::alloc::Allocator;
 use std::marker::Model;
@@ -71,23 +70,29 @@ impl<A: Allocator> Image<A> {
         Image { bytes, root }
     }
 
+    /// The image, lent.
+    pub fn view(&self) -> ImageView<'_>
+        ensures { result ≡ self.now }
+    {
+        ImageView::new(Held::whole(&self.bytes), self.root)
+    }
+
     /// The full size: how many bytes are accessible.
     pub fn full(&self) -> u32
         ensures value { result ≡ length self.now }
         ensures sound { IsImage self.now }
     {
-        self.bytes.len() as u32
+        self.view().full()
     }
 
     /// The header of the root, which stands after the volume name.
-    #[tactic(auto, using(crate::proofs::Keeps::root_inside, crate::proofs::Keeps::root_directory))]
     pub fn root(&self) -> Head
         ensures value { result ≡ head_of self.now (root_of self.now) }
         ensures directory { result.kind ≡ Kind.Directory }
         ensures given { IsGiven self.now result }
         ensures sound { IsImage self.now }
     {
-        head_at(&self.bytes, self.root)
+        self.view().root()
     }
 
     /// The header at an offset in bytes; none where the offset is no multiple of 16, or the header
@@ -100,7 +105,7 @@ impl<A: Allocator> Image<A> {
         ensures given { (g : Head) → IsGiven self.now g → g.offset ≡ offset →
             (result ≡ Some g) ⊎ ((offset ≡ root_of self.now) × IsNone (name self.now offset)) }
     {
-        place_at(&self.held(), self.root, offset)
+        self.view().head(offset)
     }
 
     /// The header at an offset in bytes at which this image gave one before, that header again.
@@ -109,7 +114,7 @@ impl<A: Allocator> Image<A> {
         ensures value { result ≡ head_of self.now offset }
         ensures given { IsGiven self.now result }
     {
-        head_at(&self.bytes, offset)
+        self.view().given(offset)
     }
 
     /// The same, where the length of its name in bytes is known, so that its end is not sought.
@@ -119,7 +124,7 @@ impl<A: Allocator> Image<A> {
         ensures value { result ≡ head_of self.now offset }
         ensures given { IsGiven self.now result }
     {
-        head_named(&self.bytes, offset, name_len)
+        self.view().given_named(offset, name_len)
     }
 
     /// The byte at an offset in bytes; none beyond the image. It is for whoever reads ahead what
@@ -127,7 +132,7 @@ impl<A: Allocator> Image<A> {
     pub fn glance(&self, offset: u32) -> Option<u8>
         ensures { result ≡ slice_get self.now offset }
     {
-        self.bytes.get(offset as usize).copied()
+        self.view().glance(offset)
     }
 
     /// The members of a directory, each once, in the order of its chain (romfs.rst, "next filehdr"
@@ -142,7 +147,7 @@ impl<A: Allocator> Image<A> {
         ensures other { directory.now.kind ≢ Kind.Directory → result ≡ [] }
         ensures given { All (λ head. IsGiven self.now head) result }
     {
-        members_of(&self.held(), self.root, directory)
+        self.view().members(directory)
     }
 
     /// The header that a hard link leads to, after any further hard links (romfs.rst, "spec.info").
@@ -154,7 +159,7 @@ impl<A: Allocator> Image<A> {
         ensures end { IsFinal self.now head.now.offset result.offset }
         ensures given { IsGiven self.now result }
     {
-        end_of(&self.held(), head)
+        self.view().target(head)
     }
 
     /// Finds what `target` finds, for many headers: it keeps the ends of the hard links that it
@@ -164,16 +169,15 @@ impl<A: Allocator> Image<A> {
         A: Copy,
         ensures { result ≡ self.now }
     {
-        Ends::new(alloc, &self.held())
+        self.view().ends(alloc)
     }
 
     /// The name of a header, without its zero byte. It is empty for a root whose name has no end.
-    #[tactic(auto, using(crate::proofs::Readings::given_head))]
     pub fn name(&self, head: &Head) -> &[u8]
         requires { IsGiven self.now head.now }
         ensures { result.now ≡ name_of self.now head.now.offset }
     {
-        name_in(&self.held(), head)
+        self.view().name(head)
     }
 
     /// So many bytes from where the name of the header at an offset begins, without those that
@@ -205,7 +209,7 @@ impl<A: Allocator> Image<A> {
         requires { IsGiven self.now head.now }
         ensures { IsDataPart self.now head.now.offset result }
     {
-        data_part(&self.held(), head)
+        self.view().data_part(head)
     }
 
     /// The bytes of a part that `data_part` gave.
@@ -215,13 +219,5 @@ impl<A: Allocator> Image<A> {
         ensures short { 16 + length result.now < 2 ^ 32 }
     {
         bytes_in(&self.bytes, part)
-    }
-
-    // The bytes, to be read.
-    fn held(&self) -> Held<'_>
-        ensures value { result ≡ self.now }
-        ensures sound { IsImage self.now }
-    {
-        Held::whole(&self.bytes)
     }
 }

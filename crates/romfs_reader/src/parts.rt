@@ -1,6 +1,6 @@
 //! What the readers of an image read, from its bytes.
 
-ghost use Rattle.std.specs.Prelude.{◌≡◌, ◌≢◌, [], ◌+◌, ◌^◌, ◌<◌, ◌≤◌, length, IsTrue, IsFalse, All};
+ghost use Rattle.std.specs.Prelude.{◌≡◌, ◌≢◌, [], ◌+◌, ◌^◌, ◌<◌, ◌≤◌, length, IsTrue, IsFalse, All, slice_get};
 ghost use Rattle.romfs_format.specs.Fields.{root as root_of, cleared};
 ghost use Rattle.romfs_format.specs.Links.{IsFinal};
 ghost use Rattle.romfs_reader.specs.Images.{IsImage};
@@ -9,7 +9,7 @@ ghost use Rattle.romfs_reader.specs.Readers.{data_of_header, IsHeadAt, IsGiven, 
 
 use crate::members::Members;
 use held_image::Held;
-use held_image::read::{head_at, name_of, text_at};
+use held_image::read::{byte_at, head_at, name_of, text_at};
 use romfs_format::head::{Head, Kind};
 use romfs_format::limits::HEAD_SIZE;
 use romfs_format::read::{cleared, padded};
@@ -82,6 +82,36 @@ pub(crate) fn bytes_within(image: &[u8], from: usize, len: usize) -> &[u8]
 {
     let rest = &image[from.min(image.len())..];
     &rest[..len.min(rest.len())]
+}
+
+/// The byte at an offset; none beyond the image.
+#[inline(always)]
+pub(crate) fn byte_in(image: &Held<'_>, offset: u32) -> Option<u8>
+    ensures { result ≡ slice_get image.now offset }
+{
+    let at = offset as usize;
+    if at < image.len() {
+        Some(byte_at(image, at))
+    } else {
+        None
+    }
+}
+
+/// The name of the header at any offset; the empty one where it has no end or lies beyond the
+/// image.
+#[tactic(auto, using(crate::proofs::Named::unnamed))]
+pub(crate) fn named_at<'a>(image: &Held<'a>, offset: u32) -> &'a [u8]
+    requires { length image.now < 2 ^ 32 }
+    ensures { result.now ≡ name_of image.now offset }
+{
+    let at = offset as usize + HEAD_SIZE;
+    if image.len() < at {
+        return &[];
+    }
+    match text_at(image, at) {
+        Some(name) => name,
+        None => &[],
+    }
 }
 
 /// The name of a header.

@@ -1,4 +1,4 @@
 use Rattle.romfs_reader.proofs.image.Image.members.Goals as goal
 
 pub returns-clause-given : goal.returns-clause-given
-returns-clause-given g c = rw c.held.ensures.value at c.members_of.ensures.given
+returns-clause-given g c = rw c.view.ensures at c.members.ensures.given

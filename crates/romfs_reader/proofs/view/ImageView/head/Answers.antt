@@ -1,6 +1,7 @@
 use Rattle.romfs_reader.proofs.Readings.{given_place}
-use Rattle.romfs_reader.proofs.kept.KeptImage.head.Goals as goal
+use Rattle.romfs_reader.proofs.view.ImageView.head.Goals as goal
 
 pub returns-clause-given : goal.returns-clause-given
-returns-clause-given g c =
-    given_place c.args.self.now c.held.ensures.sound c.place_at.result c.args.offset (rw c.held.ensures.value at c.place_at.ensures)
+returns-clause-given c =
+    given_place c.args.self.now (rw c.self.view_is at c.self.invariant.0) c.place_at.result c.args.offset
+    (rw c.self.view_is at c.place_at.ensures)

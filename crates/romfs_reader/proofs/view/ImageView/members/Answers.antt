@@ -1,4 +1,4 @@
-use Rattle.romfs_reader.proofs.kept.KeptImage.members.Goals as goal
+use Rattle.romfs_reader.proofs.view.ImageView.members.Goals as goal
 
 pub returns-clause-given : goal.returns-clause-given
-returns-clause-given g c = rw c.held.ensures.value at c.members_of.ensures.given
+returns-clause-given c = rw c.self.view_is at c.members_of.ensures.given
