@@ -14,15 +14,12 @@ use Rattle.std.proofs.lemmas.List.Edits.{map_over_more}
 use Rattle.std.proofs.lemmas.List.Elements.{All-map, All-push}
 use Rattle.std.proofs.lemmas.List.Prefix.{front_rest}
 use Rattle.romfs_format.specs.declared.head.Head.{Head}
-use Rattle.romfs_format.specs.declared.limits.TheConstants.{HEAD_SIZE}
 use Rattle.romfs_format.specs.Heads.{name_of, head_of}
-use Rattle.romfs_reader.specs.Readers.{bytes_at}
-use Rattle.romfs_reader.proofs.Readings.{name_bytes}
 use Rattle.name_lookup.specs.Keys.{key, AreBytes}
 use Rattle.name_lookup.proofs.Order.{all_bytes, each_byte, bytes-drop, key_order, cmp-front}
 use Rattle.name_tree.specs.Rows.{name_cmp}
 use Rattle.layer_tree.specs.declared.members.KeyedMember.{KeyedMember}
-use Rattle.layer_tree.specs.Members.{member_in, members_in, HasFront, HaveFront, ShareFront, IsRead, IsKeyed, AreKeyedBehind, AreToldApart, keyed_past, key_and_bytes, IsByName}
+use Rattle.layer_tree.specs.Members.{member_in, members_in, HasFront, HaveFront, ShareFront, IsRead, IsKeyed, AreKeyedBehind, AreToldApart, keyed_past, key_and_name, IsByName}
 
 module _ (a : List ℕ) where
   -- where names rise keys do not fall
@@ -50,19 +47,15 @@ module _ (a : List ℕ) where
       pick Equal e = refl
       pick Greater e = refl
 
-  -- where a member was read the bytes at its name's place are its name
-  bytes_are_name : (m : KeyedMember) → IsRead a m → bytes_at a (m.offset + HEAD_SIZE) m.name_len ≡ name_of a m.offset
-  bytes_are_name m r = ap (bytes_at a (m.offset + HEAD_SIZE)) r.length ∙ name_bytes a m.offset
-
-  -- members that are sorted by keys, and then by the bytes of their names, are sorted by names
-  pub by_name : (ms : List KeyedMember) → All (IsRead a) ms → AreKeyedBehind a ms
-      → IsSorted (λ x y. name_cmp (key_and_bytes a x) (key_and_bytes a y)) ms → IsByName (members_in a ms)
-  by_name ms read keyed up k d l m =
+  -- members that are sorted by keys, and then by their names, are sorted by names
+  pub by_name : (ms : List KeyedMember) → AreKeyedBehind a ms
+      → IsSorted (λ x y. name_cmp (key_and_name a x) (key_and_name a y)) ms → IsByName (members_in a ms)
+  by_name ms keyed up k d l m =
       let x : KeyedMember = record { key = 0; offset = 0; name_len = 0 } in
       let n : k + 1 < length ms = rw (length-map ms (member_in a)) at m in
       rw (get_or-map (member_in a) ms (k + 1) x d n, get_or-map (member_in a) ms k x d (omega arith))
       (not_less keyed.front (slice_index_or ms (k + 1) x) (slice_index_or ms k x) (keyed.each (k + 1) x n) (keyed.each k x (omega arith))
-      (rw (bytes_are_name _ (read (k + 1) x n), bytes_are_name _ (read k x (omega arith))) at (up k x l n)))
+      (up k x l n))
 
 -- lists whose first bytes are the same both begin with these
 pub begins_both : (n : ℕ) (x y : List ℕ) → take n x ≡ take n y → HasFront (take n x) y

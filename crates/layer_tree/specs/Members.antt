@@ -1,10 +1,9 @@
 -- The members of a directory, and how they are brought in order.
-use Rattle.std.specs.Prelude.{◌≡◌, ℕ, ◌+◌, List, ◌∷◌, ◌++◌, length, map, drop, All}
+use Rattle.std.specs.Prelude.{◌≡◌, ℕ, List, ◌∷◌, ◌++◌, length, map, drop, All}
 use Rattle.std.specs.List.Sorted.{IsSorted}
 use Rattle.romfs_format.specs.declared.head.Head.{Head}
-use Rattle.romfs_format.specs.declared.limits.TheConstants.{HEAD_SIZE}
 use Rattle.romfs_format.specs.Heads.{name_of, head_of}
-use Rattle.romfs_reader.specs.Readers.{IsGiven, bytes_at}
+use Rattle.romfs_reader.specs.Readers.{IsGiven}
 use Rattle.name_lookup.specs.Keys.{key, AreBytes}
 use Rattle.name_tree.specs.Rows.{name_cmp}
 use Rattle.layer_tree.specs.declared.members.KeyedMember.{KeyedMember}
@@ -62,9 +61,9 @@ keyed_past a n m = record {
   name_len = m.name_len;
 }
 
--- the key, and then the bytes where the name stands, as many as the member says that it has
-abbrev pub key_and_bytes : List ℕ → KeyedMember → List ℕ
-key_and_bytes a m = m.key ∷ bytes_at a (m.offset + HEAD_SIZE) m.name_len
+-- the key, and then the name
+abbrev pub key_and_name : List ℕ → KeyedMember → List ℕ
+key_and_name a m = m.key ∷ name_of a m.offset
 
 -- in the order of their names
 abbrev pub IsByName : List NamedMember → Type 0

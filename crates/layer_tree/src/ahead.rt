@@ -6,8 +6,7 @@
 //! another. No branch follows from what is read here.
 
 use crate::members::KeyedMember;
-use romfs_reader::Image;
-use std::alloc::Allocator;
+use romfs_reader::ImageView;
 
 /// How many names are read together.
 const TOGETHER: usize = 64;
@@ -28,7 +27,7 @@ impl NamesAhead {
 
     /// Goes over one member more of these; now and then the names of the next ones are read. Those
     /// of a small directory were all read just before.
-    pub(crate) fn pass<A: Allocator>(&mut self, image: &Image<A>, members: &[KeyedMember]) {
+    pub(crate) fn pass(&mut self, image: &ImageView<'_>, members: &[KeyedMember]) {
         if members.len() > TOGETHER && self.passed % TOGETHER == 0 {
             self.read(image, members);
         }
@@ -37,7 +36,7 @@ impl NamesAhead {
 
     // Reads bytes of the next headers and names.
     #[inline(never)]
-    fn read<A: Allocator>(&mut self, image: &Image<A>, members: &[KeyedMember]) {
+    fn read(&mut self, image: &ImageView<'_>, members: &[KeyedMember]) {
         if let Some(next) = members.get(self.passed..) {
             for member in next.iter().take(TOGETHER) {
                 self.sum ^= u64::from(byte_at(image, member.offset).unwrap_or(0));
@@ -47,6 +46,6 @@ impl NamesAhead {
 }
 
 // What stands in the first and the last byte of a header and of a short name.
-fn byte_at<A: Allocator>(image: &Image<A>, header: u32) -> Option<u8> {
+fn byte_at(image: &ImageView<'_>, header: u32) -> Option<u8> {
     Some(image.glance(header)? ^ image.glance(header.wrapping_add(31))?)
 }

@@ -14,10 +14,10 @@ ghost use Rattle.romfs_reader.specs.Readers.{IsGiven};
 ghost use Rattle.stack_model.specs.Stack.{marker, IsMarker};
 ghost use Rattle.name_lookup.specs.Keys.{key, AreBytes};
 ghost use Rattle.name_tree.specs.Rows.{name_cmp};
-ghost use Rattle.layer_tree.specs.Members.{members_in, IsRead, HasFront, ShareFront, IsKeyed, AreKeyedBehind, AreToldApart, keyed_past, key_and_bytes, IsByName};
+ghost use Rattle.layer_tree.specs.Members.{members_in, IsRead, HasFront, ShareFront, IsKeyed, AreKeyedBehind, AreToldApart, keyed_past, key_and_name, IsByName};
 ghost use Rattle.layer_tree.specs.Reading.{AreSorted};
 
-use romfs_reader::{Head, Image, Kind, Members};
+use romfs_reader::{Head, ImageView, Kind, Members};
 use std::alloc::{AllocError, Allocator};
 use std::cmp::Ordering;
 use whiteout_tree::is_marker;
@@ -40,7 +40,7 @@ pub(crate) struct KeyedMember {
 #[inline(never)]
 pub(crate) fn sorted_members<A: Allocator + Copy>(
     alloc: A,
-    image: &Image<A>,
+    image: &ImageView<'_>,
     directory: &Head,
 ) -> Result<Vec<KeyedMember, A>, AllocError>
     requires sound { IsImage image.now }
@@ -70,7 +70,7 @@ pub(crate) fn whiteout_of(name: &[u8]) -> Option<&[u8]>
 /// front.
 fn keyed_members<A: Allocator + Copy>(
     alloc: A,
-    image: &Image<A>,
+    image: &ImageView<'_>,
     members: Members<'_>,
 ) -> Result<(Vec<KeyedMember, A>, usize), AllocError>
     requires { All (λ head. IsGiven image.now head) members }
@@ -121,7 +121,7 @@ fn shared<'a>(x: &'a [u8], y: &[u8]) -> &'a [u8]
 }
 
 /// Gives members whose names begin alike keys that tell them apart.
-fn tell_apart<A: Allocator>(image: &Image<A>, members: &mut [KeyedMember], shared: usize)
+fn tell_apart(image: &ImageView<'_>, members: &mut [KeyedMember], shared: usize)
     requires read { All (IsRead image.now) members.old }
     requires keyed { All (IsKeyed image.now []) members.old }
     requires shared { ShareFront image.now shared members.old }
@@ -133,7 +133,7 @@ fn tell_apart<A: Allocator>(image: &Image<A>, members: &mut [KeyedMember], share
 }
 
 /// Gives each member the key of what stands behind the first `shared` bytes of its name.
-fn set_keys<A: Allocator>(image: &Image<A>, members: &mut [KeyedMember], shared: usize)
+fn set_keys(image: &ImageView<'_>, members: &mut [KeyedMember], shared: usize)
     requires read { All (IsRead image.now) members.old }
     requires long { All (λ m. shared ≤ length (name_of image.now m.offset)) members.old }
     ensures { members.new ≡ map (keyed_past image.now shared) members.old }
@@ -146,24 +146,20 @@ fn set_keys<A: Allocator>(image: &Image<A>, members: &mut [KeyedMember], shared:
 }
 
 /// Sorts members by name, byte by byte.
-fn sort_by_name<A: Allocator>(image: &Image<A>, members: &mut Vec<KeyedMember, A>)
-    requires read { All (IsRead image.now) members.old.items }
-    requires keyed { AreKeyedBehind image.now members.old.items }
+fn sort_by_name<A: Allocator>(image: &ImageView<'_>, members: &mut Vec<KeyedMember, A>)
+    requires { AreKeyedBehind image.now members.old.items }
     ensures same { IsPermutation members.old.items members.new.items }
     ensures sorted { IsByName (members_in image.now members.new.items) }
 {
     members.sort_unstable_by(|x, y| order(image, x, y));
 }
 
-/// How members stand by their keys, and by their names where these are equal: by as many bytes as
-/// each says that its name has, so that no end is sought.
-fn order<A: Allocator>(image: &Image<A>, x: &KeyedMember, y: &KeyedMember) -> Ordering
-    ensures { result ≡ name_cmp (key_and_bytes image.now x.now) (key_and_bytes image.now y.now) }
+/// How members stand by their keys, and by their names where these are equal.
+fn order(image: &ImageView<'_>, x: &KeyedMember, y: &KeyedMember) -> Ordering
+    ensures { result ≡ name_cmp (key_and_name image.now x.now) (key_and_name image.now y.now) }
 {
     match x.key.cmp(&y.key) {
-        Ordering::Equal => image
-            .name_bytes(x.offset, x.name_len)
-            .cmp(image.name_bytes(y.offset, y.name_len)),
+        Ordering::Equal => image.name_at(x.offset).cmp(image.name_at(y.offset)),
         other => other,
     }
 }

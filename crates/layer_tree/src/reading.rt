@@ -19,7 +19,7 @@ use crate::ahead::NamesAhead;
 use crate::members::{KeyedMember, sorted_members, whiteout_of};
 use name_tree::{Branch, Name, child};
 use romfs_format::limits::MAX_NAMES;
-use romfs_reader::{Ends, Head, Image, Kind};
+use romfs_reader::{Ends, Head, Image, ImageView, Kind};
 use std::alloc::{AllocError, Allocator};
 use tree_merge::merge;
 use whiteout_tree::{Child, Entry, Mark, Place, Tree, is_marker};
@@ -56,23 +56,34 @@ impl<A: Allocator + Copy> OfLayer for Tree<A> {
 
     type Image = Image<A>;
 
-    /// The tree of one layer, which has this number among the layers.
-    ///
-    /// A marker is a mark and no entry, with all below it; a marker that ends after `.wh.` marks
-    /// the empty name. A hard link has the kind and the place of the header where it ends.
-    /// `AllocError` comes only where memory was refused.
+    /// The tree of one layer, as [`tree_of`] makes it of the image that is lent.
     fn of(alloc: A, image: &Image<A>, layer: u16) -> Result<Tree<A>, AllocError>
         ensures { IfOk result (λ tree. IsTreeOf layer (image.now ∷ []) tree) }
     {
-        let read = Layer {
-            alloc,
-            image,
-            number: layer,
-        };
-        let mut ends = image.ends(alloc);
-        let (entries, marks) = directory(&read, &mut ends, &[], &image.root(), MAX_NAMES)?;
-        Ok(Tree { entries, marks })
+        tree_of(alloc, &image.view(), layer)
     }
+}
+
+/// The tree of one layer, which has this number among the layers.
+///
+/// A marker is a mark and no entry, with all below it; a marker that ends after `.wh.` marks the
+/// empty name. A hard link has the kind and the place of the header where it ends. `AllocError`
+/// comes only where memory was refused.
+pub fn tree_of<A: Allocator + Copy>(
+    alloc: A,
+    image: &ImageView<'_>,
+    layer: u16,
+) -> Result<Tree<A>, AllocError>
+    ensures { IfOk result (λ tree. IsTreeOf layer (image.now ∷ []) tree) }
+{
+    let read = Layer {
+        alloc,
+        image,
+        number: layer,
+    };
+    let mut ends = image.ends(alloc);
+    let (entries, marks) = directory(&read, &mut ends, &[], &image.root(), MAX_NAMES)?;
+    Ok(Tree { entries, marks })
 }
 
 /// A branch with nothing below.
@@ -86,7 +97,7 @@ pub(crate) fn leaf<T: Copy + Drop, A: Allocator>(alloc: A, name: Name<A>, value:
 #[derive(Drop)]
 struct Layer<'a, A: Allocator> {
     alloc: A,
-    image: &'a Image<A>,
+    image: &'a ImageView<'a>,
     /// Its number among the layers.
     number: u16,
 }
@@ -322,8 +333,7 @@ fn markers_of<A: Allocator + Copy>(
     members: &[KeyedMember],
     below: &Branches<A>,
 ) -> Result<Vec<Branch<Mark, A>, A>, AllocError>
-    requires read { All (IsRead layer.now.image.now) members.now }
-    requires built { AreBuilt layer.now.image.now layer.now.number
+    requires { AreBuilt layer.now.image.now layer.now.number
         (members_in layer.now.image.now members.now)
         below.now.entries.items below.now.marks.items }
     ensures { IfOk result
@@ -338,17 +348,15 @@ fn markers_of<A: Allocator + Copy>(
 /// The marks of markers, in the same order.
 fn whiteouts_of<A: Allocator + Copy>(
     alloc: A,
-    image: &Image<A>,
+    image: &ImageView<'_>,
     members: &[KeyedMember],
 ) -> Result<Vec<Branch<Mark, A>, A>, AllocError>
-    requires { All (IsRead image.now) members.now }
     ensures { IfOk result
         (λ marks. AreWhiteouts (members_in image.now members.now) marks.items) }
 {
     let mut marks = Vec::new(alloc);
     for member in members {
-        let name = image.name_bytes(member.offset, member.name_len);
-        let Some(name) = whiteout_of(name) else {
+        let Some(name) = whiteout_of(image.name_at(member.offset)) else {
             continue;
         };
         let name = Name::of(alloc, name)?;

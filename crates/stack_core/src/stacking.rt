@@ -7,8 +7,8 @@ ghost use denote.Param.Send.{IsSend, Frees};
 ghost use Rattle.stack_model.specs.declared.limits.TheConstants.{MAX_LAYERS};
 ghost use Rattle.whiteout_tree.specs.Trees.{IsTreeOf, entry_at};
 
-use layer_tree::{OfLayer, Place, Tree, lay};
-use romfs_reader::Image;
+use layer_tree::{Place, Tree, lay, tree_of};
+use romfs_reader::{Image, ImageView, views_of};
 use std::alloc::{AllocError, Allocator};
 use std::thread::{Threads, join};
 use work_gate::{Gate, Work};
@@ -16,16 +16,31 @@ use work_gate::{Gate, Work};
 /// How many times a list is cut into halves that are stacked at the same time.
 const FORKS: u32 = 4;
 
+/// The tree of a list of layers, the lowest first, as [`stack_views`] makes it of the images that
+/// are lent.
+pub fn stack<R: Threads + Sync, A: Allocator + Copy + Send + Sync, G: Gate + Sync>(
+    rt: &R,
+    alloc: A,
+    images: &[Image<A>],
+    gate: &G,
+) -> Result<Tree<A>, AllocError>
+    requires some { 1 ≤ length images.now }
+    requires few { length images.now ≤ MAX_LAYERS }
+    ensures { IfOk result (λ tree. IsTreeOf 0 images.now tree) }
+{
+    stack_views(rt, alloc, &views_of(alloc, images)?, gate)
+}
+
 /// The tree of a list of layers, the lowest first.
 ///
 /// The list is cut in two, and so on, and at most 16 parts are stacked at the same time. The gate
 /// is passed with `Work::Tree` and the layer's number before its tree is made. Images are only
 /// read. A path of n layers that meets in every layer is gone over log n times. `AllocError` comes
 /// only where memory was refused, in whichever thread.
-pub fn stack<R: Threads + Sync, A: Allocator + Copy + Send + Sync, G: Gate + Sync>(
+pub fn stack_views<R: Threads + Sync, A: Allocator + Copy + Send + Sync, G: Gate + Sync>(
     rt: &R,
     alloc: A,
-    images: &[Image<A>],
+    images: &[ImageView<'_>],
     gate: &G,
 ) -> Result<Tree<A>, AllocError>
     requires some { 1 ≤ length images.now }
@@ -50,7 +65,7 @@ fn stack_from<R: Threads + Sync, A: Allocator + Copy + Send + Sync, G: Gate + Sy
     rt: &R,
     alloc: A,
     first: u16,
-    images: &[Image<A>],
+    images: &[ImageView<'_>],
     gate: &G,
     forks: u32,
 ) -> Result<Tree<A>, AllocError>
@@ -88,7 +103,7 @@ fn stack_from<R: Threads + Sync, A: Allocator + Copy + Send + Sync, G: Gate + Sy
 fn stack_in_turn<A: Allocator + Copy, G: Gate>(
     alloc: A,
     first: u16,
-    images: &[Image<A>],
+    images: &[ImageView<'_>],
     gate: &G,
 ) -> Result<Tree<A>, AllocError>
     requires some { 1 ≤ length images.now }
@@ -97,7 +112,7 @@ fn stack_in_turn<A: Allocator + Copy, G: Gate>(
 {
     if let [image] = images {
         gate.pass(Work::Tree, u32::from(first));
-        return Tree::of(alloc, image, first);
+        return tree_of(alloc, image, first);
     }
     let (lows, highs) = images.split_at(images.len() / 2);
     let after = first + lows.len() as u16;

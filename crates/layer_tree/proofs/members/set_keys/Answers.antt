@@ -6,22 +6,22 @@ use Rattle.layer_tree.proofs.Keyed.{named, one_keyed, still_read, still_long}
 use Rattle.layer_tree.proofs.members.set_keys.Goals as goal
 
 pub given_named-head-requires : goal.given_named-head-requires
-given_named-head-requires g c =
+given_named-head-requires c =
     let read = still_read c.args.image.now c.args.shared c.args.members.now c.loop-member.members c.loop-member.member-index nowhere_kept
     (omega arith) c.loop-member.invariant c.requires.read in
     record { head = read.given; name = read.length }
 
 pub slice_bounds-key_of-start : goal.slice_bounds-key_of-start
-slice_bounds-key_of-start g c =
+slice_bounds-key_of-start c =
     let long = still_long c.args.image.now c.args.shared c.args.members.now c.loop-member.members c.loop-member.member-index nowhere_kept
     (omega arith) c.loop-member.invariant c.requires.long in
     omega (arith, long, ap length (named _ _ _ _ c.name-name.ensures c.given_named-head.ensures.value))
 
 pub slice_bounds-key_of-count : goal.slice_bounds-key_of-count
-slice_bounds-key_of-count g c = omega (arith, slice_bounds-key_of-start g c)
+slice_bounds-key_of-count c = omega (arith, slice_bounds-key_of-start c)
 
 pub loop-member-preserved : goal.loop-member-preserved
-loop-member-preserved g c =
+loop-member-preserved c =
     let a = c.args.image.now in
     let i = c.loop-member.member-index in
     let old : i < length c.args.members.now = omega arith in

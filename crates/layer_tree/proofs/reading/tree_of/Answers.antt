@@ -3,7 +3,7 @@ use Rattle.romfs_format.specs.declared.head.Head.{Head}
 use Rattle.romfs_format.specs.Fields.{root}
 use Rattle.layer_tree.specs.Reading.{AreBranchesOf}
 use Rattle.layer_tree.proofs.Layered.{root_stays, root_kept, tree_of_layer}
-use Rattle.layer_tree.proofs.reading.TreeOfLayer.of.Goals as goal
+use Rattle.layer_tree.proofs.reading.tree_of.Goals as goal
 
 pub invariant_of-result : goal.invariant_of-result
 invariant_of-result g c =
