@@ -4,7 +4,7 @@
 use Rattle.std.proofs.Common.{◌≡◌, ◌≢◌, ◌∙◌, sym, ap, ℕ, zero, suc, ◌+◌, ◌-◌, ◌*◌, ◌/◌, ◌%◌, ◌<◌, ◌≤◌, ◌⊎◌, inl, inr, List, [], ◌∷◌, ◌++◌, length, take, get_or, refl, arith, length-take-le, length-append}
 use Rattle.std.proofs.lemmas.Bool.{cases_lt, cases_eq}
 use Rattle.std.proofs.lemmas.List.{get_or-take, get_or_append_left, get_or_at, ext_get_or}
-use Rattle.held_image.specs.Blocks.{byte_of, filled, IsKept, IsRank, AreBelow, HasRow, IsPadded, IsFollowed}
+use Rattle.held_image.specs.Blocks.{byte_of, filled, IsKept, IsRank, AreBelow, HasNumbers, IsPadded, IsFollowed}
 use Rattle.held_image.proofs.Runs.{byte_kept, byte_none}
 use Rattle.held_image.proofs.Fronts.{filled_at, filled_long}
 
@@ -92,12 +92,12 @@ module _ (blocks bytes : List ℕ) (kept : IsKept blocks bytes) (end count : ℕ
       ext_get_or 0 (filled size front_blocks front_bytes) (filled size blocks bytes) (omega arith) (λ p l.
       filled_at size front_blocks front_bytes p (omega arith) ∙ same_byte p (omega arith) ∙ sym (filled_at size blocks bytes p (omega arith)))
 
--- one number more
-pub row_none : (old : List ℕ) (first : ℕ) → HasRow old first 0 old
+-- no number, and one more
+pub row_none : (old : List ℕ) (first : ℕ) → HasNumbers old first 0 old
 row_none old first = record { long = omega arith; front = λ i l. refl; row = λ i l. absurd (omega arith) }
 
-pub row_more : (old mid new : List ℕ) (first count : ℕ) → HasRow old first count mid → new ≡ mid ++ (first + count) ∷ []
-    → HasRow old first (count + 1) new
+pub row_more : (old mid new : List ℕ) (first count : ℕ) → HasNumbers old first count mid → new ≡ mid ++ (first + count) ∷ []
+    → HasNumbers old first (count + 1) new
 row_more old mid new first count r e = record {
   long = (let l = r.long in let a = ap length e in let b = length-append mid ((first + count) ∷ []) in omega arith);
   front = λ i l. ap (λ xs. get_or xs i 0) e
@@ -111,7 +111,7 @@ row_more old mid new first count r e = record {
 
 -- blocks below a place, and a row from there on with its bytes
 module _ (blocks bytes tail all whole : List ℕ) (size at : ℕ) (kept : IsKept blocks bytes) (below : AreBelow size blocks)
-    (behind : size ≤ at) (even : at % 16 ≡ 0) (row : HasRow blocks (at / 16) ((length tail + 15) / 16) all)
+    (behind : size ≤ at) (even : at % 16 ≡ 0) (row : HasNumbers blocks (at / 16) ((length tail + 15) / 16) all)
     (padded : IsPadded bytes tail whole) where
   place : (i : ℕ) → i < length all → (i < length blocks) ⊎ ((length blocks ≤ i) × (get_or all i 0 ≡ at / 16 + (i - length blocks)))
   place i l = elim (cases_lt i (length blocks)) [

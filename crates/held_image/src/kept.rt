@@ -1,7 +1,7 @@
 //! What is kept of an image.
 
 ghost use Rattle.std.specs.Prelude.{◌≡◌, ◌+◌, ◌*◌, ◌/◌, ◌%◌, ◌<◌, ◌≤◌, ◌^◌, length, take, IfOk, OnOk};
-ghost use Rattle.held_image.specs.Blocks.{AreBelow, HasRow, IsFollowed, IsKept, IsPadded, filled};
+ghost use Rattle.held_image.specs.Blocks.{AreBelow, HasNumbers, IsFollowed, IsKept, IsPadded, filled};
 
 use crate::blocks::{BLOCK_SIZE, rank};
 use crate::held::Held;
@@ -105,7 +105,7 @@ fn cut<A: Allocator>(blocks: &mut Vec<u32, A>, bytes: &mut Vec<u8, A>, size: u32
 /// Adds the numbers of so many blocks, from the first on.
 fn add_row<A: Allocator>(blocks: &mut Vec<u32, A>, first: u32, count: u32) -> Result<(), AllocError>
     requires { first + count ≤ 2 ^ 28 }
-    ensures { OnOk result (HasRow blocks.old.items first count blocks.new.items) }
+    ensures { OnOk result (HasNumbers blocks.old.items first count blocks.new.items) }
 {
     for number in 0..count {
         blocks.push(first + number)?;

@@ -1,12 +1,11 @@
 -- What is read of a trailer: whether one begins at a place (not_there, letters_there), how much of it
 -- is kept (end_read), and what (tail_read). Put behind what was gathered it is gathered, too (with_none,
 -- with_tail).
-use Rattle.std.proofs.Common.{◌≡◌, ◌∙◌, sym, ap, subst, ℕ, ◌+◌, ◌-◌, ◌*◌, ◌/◌, ◌%◌, ◌^◌, ◌<◌, ◌≤◌, ◌⊎◌, inl, inr, min, true, false, Bool, List, length, take, drop, get_or, Option, Some, None, IsTrue, refl, arith, length-drop, length-take, length-take-le, take_all, ◌&&◌}
+use Rattle.std.proofs.Common.{◌≡◌, ◌∙◌, sym, ap, subst, ℕ, ◌+◌, ◌-◌, ◌^◌, ◌<◌, ◌≤◌, ◌⊎◌, inl, inr, min, true, false, Bool, List, length, take, drop, Option, Some, None, refl, arith, length-drop, length-take, length-take-le, take_all, ◌&&◌}
 use Rattle.std.specs.Prelude.{nat_eq, nat_lt, codes}
-use Rattle.std.specs.List.{starts_with}
 use Rattle.std.specs.Cmp.Lexicographic.{pointwise}
 use Rattle.std.proofs.lemmas.Bool.{cases_lt, le-ltb, lt-ltb, true≢false}
-use Rattle.std.proofs.lemmas.List.{get_or-drop, get_or-take, get_or_past, ext_get_or}
+use Rattle.std.proofs.lemmas.List.{get_or-drop, get_or-take, ext_get_or}
 use Rattle.romfs_format.specs.Fields.{word, padded}
 use Rattle.romfs_format.specs.Trailer.{row_count}
 use Rattle.image_bytes.specs.Contents.{IsSizeOf}
@@ -16,7 +15,7 @@ use Rattle.held_image.proofs.Views.{short_front}
 use Rattle.kept_image.specs.Footprint.{reach}
 use Rattle.kept_image.specs.Gathered.{begins_trailer, kept_end, kept_tail, IsGathered, IsGatheredOf, IsGatheredWithTrailer, IsGatheredWithTrailerOf}
 use Rattle.kept_image.specs.Reads.{HasBytesAt, IsHeld}
-use Rattle.kept_image.specs.Tails.{BeginsTrailer, IsNoTail, IsRoom, IsTail, IsTailEnd}
+use Rattle.kept_image.specs.Tails.{BeginsTrailer, IsRoom, IsTail, IsTailEnd}
 
 -- the letters do not stand at a place
 pub and_false : (x y : Bool) → y ≡ false → (x && y) ≡ false

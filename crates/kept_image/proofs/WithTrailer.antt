@@ -1,10 +1,10 @@
 -- What was gathered with its trailer breaks the rules that the bytes break (twins_forth, twins_back),
 -- those of attributes, too (broken_forth, broken_back), and shows the same rows (rows_alike). Its front
 -- looks the same to the volume's rules (front_volume), and has the same accessible bytes (image_front).
-use Rattle.std.proofs.Common.{◌≡◌, ◌≢◌, ◌∙◌, sym, ap, subst, ℕ, ◌+◌, ◌/◌, ◌*◌, ◌^◌, ◌<◌, ◌≤◌, ◌⊎◌, ◌&&◌, inl, inr, min, true, false, Bool, List, [], IsTrue, length, take, drop, get_or, Option, Some, None, if◌then◌else◌, refl, arith, length-drop, length-take, take_all}
+use Rattle.std.proofs.Common.{◌≡◌, ◌∙◌, sym, ap, subst, ℕ, ◌+◌, ◌^◌, ◌<◌, ◌≤◌, ◌⊎◌, ◌&&◌, inl, inr, min, true, false, Bool, List, [], length, take, drop, get_or, Option, if◌then◌else◌, refl, arith, length-drop, length-take, take_all}
 use Rattle.std.specs.Prelude.{nat_eq, nat_le, nat_lt, codes}
 use Rattle.std.specs.List.{starts_with}
-use Rattle.std.proofs.lemmas.Bool.{cases_lt, true≢false}
+use Rattle.std.proofs.lemmas.Bool.{cases_lt}
 use Rattle.std.proofs.lemmas.Bool.Decides.{nat_tests}
 use Rattle.std.proofs.lemmas.List.{get_or-take, get_or_past, ext_get_or, take-take}
 use Rattle.romfs_format.specs.declared.attribute_row.AttributeRow.{AttributeRow}

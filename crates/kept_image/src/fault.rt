@@ -10,7 +10,7 @@ use std::alloc::{AllocError, AllocFailed};
 pub enum GatherFault {
     /// A read failed, or the bytes ended before the size that was told.
     Unread,
-    /// Memory was refused.
+    /// Memory was refused, or a trailer ends where no place of what is kept can be.
     Memory,
 }
 

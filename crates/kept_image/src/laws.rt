@@ -26,7 +26,7 @@ pub fn same_header_rules()
 
 /// What was gathered of bytes that have their full size breaks the rules that they break, and no
 /// others, each at the same places, under a profile that does not read attributes: their trailer
-/// stands behind the full size, and is not gathered.
+/// stands behind the full size.
 pub fn same_rules()
     ensures { (profile : Profile) → ¬ IsTrue (reads_attributes profile) → (b a : List ℕ) →
         IsGathered (Some b) a → HEAD_SIZE ≤ word b 8 → word b 8 ≤ length b → (r : Rule) (p : ℕ) →

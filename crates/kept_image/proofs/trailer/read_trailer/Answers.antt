@@ -1,4 +1,4 @@
-use Rattle.std.proofs.Common.{◌∙◌, ap, subst, ◌-◌, true, arith}
+use Rattle.std.proofs.Common.{◌∙◌, subst}
 use Rattle.kept_image.specs.Tails.{BeginsTrailer}
 use Rattle.kept_image.proofs.Tails.{room_is, tail_read}
 use Rattle.kept_image.proofs.trailer.read_trailer.Goals as goal

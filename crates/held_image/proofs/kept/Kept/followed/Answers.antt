@@ -1,5 +1,5 @@
 use Rattle.std.proofs.Common.{◌≡◌, ◌≤◌, ap, subst, arith, ◌+◌, ◌/◌, length}
-use Rattle.held_image.specs.Blocks.{HasRow, IsFollowed, filled}
+use Rattle.held_image.specs.Blocks.{HasNumbers, IsFollowed, filled}
 use Rattle.held_image.proofs.Fronts.{filled_long}
 use Rattle.held_image.proofs.Rows.{followed_kept, followed_below, followed_filled}
 use Rattle.held_image.proofs.kept.Kept.followed.Given.{Over}
@@ -14,10 +14,10 @@ module _ (g : Over) (c : In_ok-add_padded g) where
       let b = c.requires.behind in
       omega arith
 
-  row : HasRow c.self.inside.blocks.items (c.args.at / 16) ((length c.args.tail.now + 15) / 16) c.add_row.new.blocks.items
+  row : HasNumbers c.self.inside.blocks.items (c.args.at / 16) ((length c.args.tail.now + 15) / 16) c.add_row.new.blocks.items
   row =
       let count : c.div_ceil-count.result ≡ (length c.args.tail.now + 15) / 16 = omega (arith, c.div_ceil-count.ensures) in
-      subst (λ n. HasRow c.self.inside.blocks.items (c.args.at / 16) n c.add_row.new.blocks.items) count c.in_ok-add_row.ensures
+      subst (λ n. HasNumbers c.self.inside.blocks.items (c.args.at / 16) n c.add_row.new.blocks.items) count c.in_ok-add_row.ensures
 
 pub invariant_of-result : goal.invariant_of-result
 invariant_of-result g c = (
