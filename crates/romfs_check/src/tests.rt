@@ -28,7 +28,8 @@ fn kept<A: Allocator + Copy>(alloc: A, bytes: &[u8]) -> Result<KeptImage<A>, Che
     let Ok(gathered) = gather(alloc, &InMemory::new(bytes)) else {
         return Err(CheckFault::Memory);
     };
-    Ok(KeptImage::of_sound(check_kept(alloc, gathered, Profile::Usual)?))
+    let (kept, _rows) = check_kept(alloc, gathered, Profile::Usual)?;
+    Ok(KeptImage::of_sound(kept))
 }
 
 /// What is read of it.
