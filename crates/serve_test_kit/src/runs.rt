@@ -214,15 +214,15 @@ pub fn ran<R: Threads + Sync, A: Allocator + Copy + Send + Sync, G: Gate + Sync>
     Some(Finished::of(done, pieces, taker))
 }
 
-/// The bytes that a run of the script puts, over a table and the files of its layers.
-pub fn put_from<R: Threads + Sync, D: Contents + Sync>(
+/// A run of a stream over a table and the files of its layers, by one worker.
+pub fn ran_from<R: Threads + Sync, D: Contents + Sync>(
     rt: &R,
     global: Global,
     served: Served<'_, Global, D>,
-) -> Option<Vec<u8>> {
+    stream: &[u8],
+) -> Option<Finished<Global>> {
     let plan = Plan::new(1, 1)?;
-    let stream = script(global).ok()?;
-    let mut pieces = pieces_of(&stream, WHOLE, None);
+    let mut pieces = pieces_of(stream, WHOLE, None);
     let mut taker = taker_of(global, WHOLE, None);
     let terms = Terms {
         first: Session::Fresh,
@@ -235,7 +235,7 @@ pub fn put_from<R: Threads + Sync, D: Contents + Sync>(
     let done = run_from(rt, global, served, &mut tap, &mut spout, &terms);
     drop(tap);
     drop(spout);
-    done.is_ok().then_some(taker.taken)
+    Some(Finished::of(done, pieces, taker))
 }
 
 /// What is seen of a run of a stream, the first of these two, over a table.

@@ -3,12 +3,13 @@
 
 use image_bytes::{Contents, Unread};
 use serve_core::Served;
-use serve_test_kit::runs::{put_from, sample_table};
+use serve_test_kit::runs::{ran_from, sample_table};
 use std::alloc::Global;
 use std::test::Fail;
 use std::thread::Threads;
+use table_reader::Table;
 use test_kit::sample_images::sample;
-use test_kit::script::script_replies;
+use test_kit::script::{script, script_replies};
 
 /// The reply of EIO to the script's READ, which is its third request.
 const UNREAD: [u8; 16] = [16, 0, 0, 0, 251, 255, 255, 255, 3, 0, 0, 0, 0, 0, 0, 0];
@@ -47,19 +48,24 @@ impl Contents for Slow<'_> {
     }
 }
 
-/// What the script is replied over the sample image in such a file.
-fn replied<R: Threads + Sync>(rt: &R, global: Global, fails_at: u32) -> Option<Vec<u8>> {
-    let table = sample_table(rt, global)?;
-    let image = sample(global).ok()?;
-    let files = [Slow {
-        bytes: &image,
-        fails_at,
-    }];
+/// Whether the script is replied so over a table whose layer is in such a file: with the bytes that
+/// its READ asks for, or with EIO in their place.
+fn is_told<R: Threads + Sync>(
+    rt: &R,
+    global: Global,
+    table: &Table<Global>,
+    file: Slow<'_>,
+    is_read: bool,
+) -> Option<bool> {
+    let stream = script(global).ok()?;
+    let wanted = wanted(global, is_read)?;
+    let files = [file];
     let served = Served {
-        table: &table,
+        table,
         files: &files,
     };
-    put_from(rt, global, served)
+    let ran = ran_from(rt, global, served, &stream)?;
+    Some(ran.end().is_ok() && ran.put == wanted)
 }
 
 /// The replies to the script, or those of which that to the READ is EIO's.
@@ -74,13 +80,30 @@ fn wanted(global: Global, is_read: bool) -> Option<Vec<u8>> {
     Some(other)
 }
 
-/// The file's data begin at 128, and are read from 4,096 to their end at 5,000.
+/// The first place at which a file fails and the script is not replied as it is to be. The data of
+/// the file that is asked for begin at 128, and are read from 4,096 to their end at 5,000.
+fn wrong_place<R: Threads + Sync>(
+    rt: &R,
+    global: Global,
+    table: &Table<Global>,
+    bytes: &[u8],
+) -> Option<u32> {
+    for (fails_at, is_read) in [(5128, true), (5127, false), (4224, false)] {
+        let file = Slow { bytes, fails_at };
+        if is_told(rt, global, table, file, is_read) != Some(true) {
+            return Some(fails_at);
+        }
+    }
+    None
+}
+
 #[test]
 fn what_a_file_gives_is_told(rt: HostRuntime) -> Result<(), Fail> {
-    for (fails_at, is_read) in [(5128, true), (5127, false), (4224, false)] {
-        let replied = replied(&rt, rt.alloc(), fails_at);
-        let wanted = wanted(rt.alloc(), is_read);
-        assert!(rt; replied.is_some() && replied == wanted, "{fails_at}");
-    }
+    let table = sample_table(&rt, rt.alloc()).ok_or("a table")?;
+    let image = sample(rt.alloc()).ok().ok_or("an image")?;
+    let wrong = wrong_place(&rt, rt.alloc(), &table, &image);
+    drop(image);
+    drop(table);
+    assert_eq!(rt; wrong, None);
     Ok(())
 }
