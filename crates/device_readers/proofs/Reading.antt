@@ -66,7 +66,8 @@ module _ {A : Type 0} (first : Session) (stack : Stacked) (turns : ℕ) where
       → IfOk ended.done (λ v. v.items ≡ done_of result)
       → IsAlone first stack turns unused ended
   by_new_devices result old new input output ended p q does i o end done =
-      subst (λ from. IsAlone first stack turns from ended) (new_counts old p q) (by_devices result old new input output ended does i o end done)
+      subst (λ from. IsAlone first stack turns from ended) (new_counts old p q) (by_devices result old new input output ended does i o end
+      done)
 
   -- a reader that had no memory for its room
   pub roomless : (ended : Ended A) → ended.end ≡ end_of {A = A} (Err Memory) false false → IfOk ended.done (λ v. v.items ≡ [])

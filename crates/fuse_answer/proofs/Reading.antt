@@ -111,7 +111,8 @@ nothing_told None unique bytes none = refl
 nothing_told (Some reading) unique [] none = inl (record {
   long = refl;
   head = refl;
-  given = subst (MayGive reading.source reading.place) (sym (no_data unique)) (gives_none reading.source.given reading.source.fails reading.place);
+  given = subst (MayGive reading.source reading.place) (sym (no_data unique)) (gives_none reading.source.given reading.source.fails
+      reading.place);
 })
 nothing_told (Some reading) unique (x ∷ xs) none = absurd (omega arith)
 

@@ -84,13 +84,15 @@ module _ (blocks bytes : List ℕ) (kept : IsKept blocks bytes) (end count : ℕ
         ∙ sym (byte_none blocks bytes p n)
   ]
 
-  pub cut_filled : (size : ℕ) → end ≡ (size + 15) / 16 → filled size (take count blocks) (take (count * 16) bytes) ≡ filled size blocks bytes
+  pub cut_filled : (size : ℕ) → end ≡ (size + 15) / 16 → filled size (take count blocks) (take (count * 16) bytes) ≡ filled size blocks
+      bytes
   unfolding front_blocks front_bytes
   cut_filled size e =
       let x = filled_long size front_blocks front_bytes in
       let y = filled_long size blocks bytes in
       ext_get_or 0 (filled size front_blocks front_bytes) (filled size blocks bytes) (omega arith) (λ p l.
-      filled_at size front_blocks front_bytes p (omega arith) ∙ same_byte p (omega arith) ∙ sym (filled_at size blocks bytes p (omega arith)))
+      filled_at size front_blocks front_bytes p (omega arith) ∙ same_byte p (omega arith) ∙ sym (filled_at size blocks bytes p (omega
+      arith)))
 
 -- no number, and one more
 pub row_none : (old : List ℕ) (first : ℕ) → HasNumbers old first 0 old
@@ -175,6 +177,7 @@ module _ (blocks bytes tail all whole : List ℕ) (size at : ℕ) (kept : IsKept
   followed_filled = record {
     long = filled_long (at + length tail) all whole;
     same = λ p l. (let f = filled_long size blocks bytes in
-        filled_at (at + length tail) all whole p (omega arith) ∙ front_byte p (omega arith) ∙ sym (filled_at size blocks bytes p (omega arith)));
+        filled_at (at + length tail) all whole p (omega arith) ∙ front_byte p (omega arith) ∙ sym (filled_at size blocks bytes p (omega
+        arith)));
     back = λ i l. filled_at (at + length tail) all whole (at + i) (omega arith) ∙ tail_byte i l;
   }

@@ -182,7 +182,8 @@ module _ (b a : List ℕ) (g : IsGatheredWithTrailerOf b a) where
           ∙ sym (ap (λ x. shown x (first_rows (trailer b) (row_count (trailer b)))) e)
     ]
       where
-        by_has : has_trailer a ≡ has_trailer b → first_rows (trailer a) (row_count (trailer a)) ≡ first_rows (trailer b) (row_count (trailer b))
+        by_has : has_trailer a ≡ has_trailer b → first_rows (trailer a) (row_count (trailer a)) ≡ first_rows (trailer b) (row_count
+            (trailer b))
             → rows a ≡ rows b
         by_has e f = ap (λ x. shown x (first_rows (trailer a) (row_count (trailer a)))) e ∙ ap (λ xs. shown (has_trailer b) xs) f
 

@@ -9,11 +9,11 @@
 //!   refused for depends on these bytes alone.
 //!
 //! `specs/` says what is looked at (`Footprint`) and what was gathered (`Gathered`); the other
-//! definitions are those of the layers between: blocks as they are read (`Pieces`), reads (`Reads`),
-//! the walk (`Walk`), the trailer (`Tails`). Where the bytes are known, as those in memory are, a contract says that what
-//! is kept has their bytes at all that the rules look at. Of a file it says nothing: what was kept
-//! is then all that is known of it. The crate stands on `image_bytes` for bytes, and on
-//! `held_image`.
+//! definitions are those of the layers between: blocks as they are read (`Pieces`), reads
+//! (`Reads`), the walk (`Walk`), the trailer (`Tails`). Where the bytes are known, as those in
+//! memory are, a contract says that what is kept has their bytes at all that the rules look at. Of
+//! a file it says nothing: what was kept is then all that is known of it. The crate stands on
+//! `image_bytes` for bytes, and on `held_image`.
 #![tactic(auto)]
 
 mod fault;

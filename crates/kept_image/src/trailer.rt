@@ -23,9 +23,9 @@ const LETTERS: &[u8; 8] = b"-attr01-";
 /// Where nothing is kept: places are numbers of 32 bits.
 const PLACES: u64 = 1 << 32;
 
-/// Keeps of an image what [`gather`] keeps, and behind it the attribute trailer, if there is one: all
-/// of it; or its head alone, where it is cut off, or has more rows than there are places for headers,
-/// so that it is broken whatever they say.
+/// Keeps of an image what [`gather`] keeps, and behind it the attribute trailer, if there is one:
+/// all of it; or its head alone, where it is cut off, or has more rows than there are places for
+/// headers, so that it is broken whatever they say.
 ///
 /// The errors are those of `gather`. `Memory` comes, too, where a trailer ends at 2^32 or behind,
 /// for which there is no room. It takes three reads more, and 32 bytes for each row twice while

@@ -106,14 +106,16 @@ module _ (stack : Stacked) (s : Session) (unique node : ℕ) (bytes : List ℕ) 
   read_told offset size p is None e t = t
   read_told offset size p is (Some a) e t =
       held_told a (data_start stack.layers p + offset) unique (defined (at_node (read offset size))) bytes
-      (read_there offset size p a is (sym e) (refusal stack s node (at_node (read offset size))) (defined (at_node (read offset size))) refl) t
+      (read_there offset size p a is (sym e) (refusal stack s node (at_node (read offset size))) (defined (at_node (read offset size)))
+      refl) t
 
   node_told : (op : NodeOp) (o : Option Place) → o ≡ node_of stack.entries node
       → IsTold (option_and_then (reading_at by op) o) unique (defined (at_node op)) bytes → bytes ≡ defined (at_node op)
   node_told op None e t = t
   node_told (read offset size) (Some p) e t =
       read_told offset size p (sym e) (slice_get stack.layers p.0) refl
-      (subst (λ (o : Option Source). IsTold (option_map (λ source. record { source = source; place = data_start stack.layers p + offset }) o)
+      (subst (λ (o : Option Source). IsTold (option_map (λ source. record { source = source; place = data_start stack.layers p + offset })
+      o)
       unique (defined (at_node (read offset size))) bytes) (slice_get-map held stack.layers p.0) t)
   node_told _ (Some p) e t = t
 

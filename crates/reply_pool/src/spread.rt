@@ -32,8 +32,8 @@ struct Taken<'a, A: Allocator> {
 
 /// Answers so many of the first messages of a stream, or as many as are whole: 1 to 256 of them, by
 /// workers of a plan, over a table that holds all data. The batches are the plan's, or smaller, so
-/// that there is one for each worker. `AllocError` comes only where memory was refused, in whichever
-/// thread.
+/// that there is one for each worker. `AllocError` comes only where memory was refused, in
+/// whichever thread.
 pub fn spread_out<R: Threads + Sync, A: Allocator + Copy + Send + Sync, G: Gate + Sync>(
     rt: &R,
     alloc: A,

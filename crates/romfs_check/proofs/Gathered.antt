@@ -17,7 +17,8 @@ module _ (profile : Profile) (plain : ¬ IsTrue (reads_attributes profile)) (b a
   refused_alike (Broken fault) = (let s = same_fault profile plain b a g (Some fault) in (s.1, s.0))
   refused_alike Memory = (λ x. x, λ x. x)
 
-  pub judged_alike : (IsSound profile a ↔ IsSound profile b) × ((fault : CheckFault) → IsRefusal profile a fault ↔ IsRefusal profile b fault)
+  pub judged_alike : (IsSound profile a ↔ IsSound profile b) × ((fault : CheckFault) → IsRefusal profile a fault ↔ IsRefusal profile b
+      fault)
   judged_alike = (let s = same_fault profile plain b a g None in ((s.1, s.0), refused_alike))
 
 module _ (profile : Profile) (b a : List ℕ) (g : IsGatheredWithTrailer (Some b) a) where

@@ -16,11 +16,13 @@ use std::alloc::Allocator;
 
 /// Checks what is kept of an image, by the rules of a profile, and gives back what is kept of its
 /// accessible bytes, with the rows that the profile shows beside it. Nothing else of the image is
-/// looked at: of a trailer that was not kept nothing is said. The blocks of one that was are let go.
+/// looked at: of a trailer that was not kept nothing is said. The blocks of one that was are let
+/// go.
 ///
 /// `Broken` names the fault as [`Check::check_as`](crate::Check::check_as) does; of an image whose
-/// bytes are known it is the fault of these bytes ([`laws`](crate::laws)). `Memory` comes only where
-/// memory was refused. It takes the steps and the memory of that check, and 28 bytes for each row.
+/// bytes are known it is the fault of these bytes ([`laws`](crate::laws)). `Memory` comes only
+/// where memory was refused. It takes the steps and the memory of that check, and 28 bytes for each
+/// row.
 pub fn check_kept<A: Allocator + Copy>(
     alloc: A,
     kept: Kept<A>,

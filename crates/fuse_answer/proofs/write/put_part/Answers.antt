@@ -28,5 +28,6 @@ pub returns-in-None : goal.returns-in-None
 returns-in-None g c =
     let place = placed c.args.part.now.node.now.place in
     let none : slice_get c.args.served.files.now place.0 ≡ None = slice_get_past _ _ c.in-None.ensures.lookup.3 in
-    appends_told _ _ c.args.out.now c.put_data-in-None.new.out _ _ (table_told g.D.Contents.source c.args.served.files.now c.args.served.table.now c.args.part.now.offset place
+    appends_told _ _ c.args.out.now c.put_data-in-None.new.out _ _ (table_told g.D.Contents.source c.args.served.files.now
+    c.args.served.table.now c.args.part.now.offset place
     none c.args.unique (reply_with c.args.unique c.args.part.now.bytes.now)) c.put_data-in-None.ensures

@@ -15,6 +15,7 @@ returns-then-place-eq-PLACES-clause-ok g c =
 
 pub returns-clause-ok : goal.returns-clause-ok
 returns-clause-ok g c =
-    letters_there _ _ _ c.read_tail.new.tail.items _ c.requires.room (omega (arith, c.requires.place, c.if-place-eq-PLACES.false)) (omega arith)
+    letters_there _ _ _ c.read_tail.new.tail.items _ c.requires.room (omega (arith, c.requires.place, c.if-place-eq-PLACES.false)) (omega
+    arith)
     c.in_ok-read_tail.ensures.held c.in_ok-read_tail.ensures.long
     (c.starts_with.ensures.value ∙ ap (λ t. pointwise nat_eq (codes "-attr01-") (take 8 t)) c.deref.ensures.value)

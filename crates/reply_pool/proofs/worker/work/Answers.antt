@@ -44,7 +44,8 @@ loop-number-preserved g c =
     let piece : Piece g.row.B.Denot = record { number = n; bytes = rounded.bytes; moves = rounded.moves } in
     let more = c.in_ok-push.ensures.items in
     let Right : Piece g.row.B.Denot → Type 0 = IsPiece (sourced_by g.D.Contents.source c.args.served) c.args.jobs.now c.args.size in
-    let right : Right piece = piece_of (sourced_by g.D.Contents.source c.args.served) c.args.jobs.now c.args.size rounded piece c.batch.result.now
+    let right : Right piece = piece_of (sourced_by g.D.Contents.source c.args.served) c.args.jobs.now c.args.size rounded piece
+    c.batch.result.now
     c.in_ok-bytes.ensures.rounded c.batch.ensures.jobs refl refl in
     let Small : Piece g.row.B.Denot → Type 0 = λ p. weight p.moves.items ≤ 2 ^ 104 in
     record {

@@ -6,7 +6,8 @@ use Rattle.reply_pieces.proofs.Hands.{both_all, fresh_all, light_both}
 use Rattle.reply_pool.proofs.workers.+crew.Goals as goal
 
 pub returns-clause-pieces : goal.returns-clause-pieces
-returns-clause-pieces g t c = both_all (sourced_by g.D.Contents.source c.args.served) c.args.jobs.now c.args.size c.args.board.now _ _ _ c.both.result _ _
+returns-clause-pieces g t c = both_all (sourced_by g.D.Contents.source c.args.served) c.args.jobs.now c.args.size c.args.board.now _ _ _
+    c.both.result _ _
     c.rejoin.ensures.positions
     c.rejoin.ensures.hand.seen c.both.ensures c.join-mine.ensures.first.1.0 c.join-mine.ensures.second.1.0
 
@@ -19,7 +20,8 @@ returns-then-workers-le1-clause-hand g t c = c.work-pieces.ensures.hand.share
 pub returns-then-workers-le1-clause-pieces : goal.returns-then-workers-le1-clause-pieces
 returns-then-workers-le1-clause-pieces g t c =
     IfOk-weaker c.work-pieces.result _ _
-    (λ pieces worked. fresh_all (sourced_by g.D.Contents.source c.args.served) c.args.jobs.now c.args.size c.args.board.now c.args.hand c.work-pieces.new.hand
+    (λ pieces worked. fresh_all (sourced_by g.D.Contents.source c.args.served) c.args.jobs.now c.args.size c.args.board.now c.args.hand
+    c.work-pieces.new.hand
     pieces.items c.requires.fresh worked) c.work-pieces.ensures.pieces
 
 pub work-pieces-requires-clause-few : goal.work-pieces-requires-clause-few

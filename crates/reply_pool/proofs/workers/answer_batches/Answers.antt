@@ -4,11 +4,13 @@ use Rattle.reply_pieces.proofs.Hands.{every_batch, no_batch}
 use Rattle.reply_pool.proofs.workers.answer_batches.Goals as goal
 
 pub returns-then-total-eq0 : goal.returns-then-total-eq0
-returns-then-total-eq0 g c = no_batch (sourced_by g.D.Contents.source c.args.served) c.args.jobs.now c.args.size c.new.result.items c.new.ensures.items
+returns-then-total-eq0 g c = no_batch (sourced_by g.D.Contents.source c.args.served) c.args.jobs.now c.args.size c.new.result.items
+    c.new.ensures.items
     (sym c.count_batches-total.ensures ∙ c.if-total-eq0.true)
 
 pub returns : goal.returns
-returns g c = every_batch (sourced_by g.D.Contents.source c.args.served) c.args.jobs.now c.args.size c.in_ok-board.board c.draw_all-pieces.result.0
+returns g c = every_batch (sourced_by g.D.Contents.source c.args.served) c.args.jobs.now c.args.size c.in_ok-board.board
+    c.draw_all-pieces.result.0
     c.draw_all-pieces.result.1 c.close.result
     (c.in_ok-board.ensures.board.0 ∙ c.count_batches-total.ensures) c.draw_all-pieces.ensures.pieces c.draw_all-pieces.ensures.light
     (record { positions = c.close.ensures.positions; seen = c.close.ensures.seen })

@@ -20,6 +20,7 @@ pub returns : goal.returns
 returns g c =
     let a = c.in_ok-pieces.ensures in
     IfOk-weaker c.in_order.result _ _
-    (λ rounded joined. rounds (sourced_by g.D.Contents.source c.args.served) c.args.jobs.now c.batch.result c.in_ok-pieces.pieces.items rounded c.batch.ensures.some
+    (λ rounded joined. rounds (sourced_by g.D.Contents.source c.args.served) c.args.jobs.now c.batch.result c.in_ok-pieces.pieces.items
+    rounded c.batch.ensures.some
     a.answered a.once joined)
     c.in_order.ensures
