@@ -1,10 +1,10 @@
--- Blocks that are cut behind a size hold the same up to it (cut_kept, cut_below, cut_filled); blocks
+-- Blocks that are cut behind a size hold the same up to it (cut_is); blocks
 -- that are followed by a row, and bytes by its bytes, hold both (followed_kept, followed_below,
 -- followed_filled).
 use Rattle.std.proofs.Common.{◌≡◌, ◌≢◌, ◌∙◌, sym, ap, ℕ, zero, suc, ◌+◌, ◌-◌, ◌*◌, ◌/◌, ◌%◌, ◌<◌, ◌≤◌, ◌⊎◌, inl, inr, List, [], ◌∷◌, ◌++◌, length, take, get_or, refl, arith, length-take-le, length-append}
 use Rattle.std.proofs.lemmas.Bool.{cases_lt, cases_eq}
 use Rattle.std.proofs.lemmas.List.{get_or-take, get_or_append_left, get_or_at, ext_get_or}
-use Rattle.held_image.specs.Blocks.{byte_of, filled, IsKept, IsRank, AreBelow, HasNumbers, IsPadded, IsFollowed}
+use Rattle.held_image.specs.Blocks.{byte_of, filled, IsKept, IsRank, AreBelow, IsCut, HasNumbers, IsPadded, IsFollowed}
 use Rattle.held_image.proofs.Runs.{byte_kept, byte_none}
 use Rattle.held_image.proofs.Fronts.{filled_at, filled_long}
 
@@ -55,11 +55,11 @@ module _ (blocks bytes : List ℕ) (kept : IsKept blocks bytes) (end count : ℕ
     long = (let z = blocks_long in let y = bytes_long in omega arith);
   }
 
-  pub cut_kept : IsKept (take count blocks) (take (count * 16) bytes)
+  cut_kept : IsKept (take count blocks) (take (count * 16) bytes)
   unfolding front_blocks front_bytes
   cut_kept = front_kept
 
-  pub cut_below : (size : ℕ) → end ≡ (size + 15) / 16 → AreBelow size (take count blocks)
+  cut_below : (size : ℕ) → end ≡ (size + 15) / 16 → AreBelow size (take count blocks)
   unfolding front_blocks
   cut_below size e = record {
     each = λ i l.
@@ -84,15 +84,18 @@ module _ (blocks bytes : List ℕ) (kept : IsKept blocks bytes) (end count : ℕ
         ∙ sym (byte_none blocks bytes p n)
   ]
 
-  pub cut_filled : (size : ℕ) → end ≡ (size + 15) / 16 → filled size (take count blocks) (take (count * 16) bytes) ≡ filled size blocks
-      bytes
+  cut_filled : (size : ℕ) → end ≡ (size + 15) / 16
+      → filled size (take count blocks) (take (count * 16) bytes) ≡ filled size blocks bytes
   unfolding front_blocks front_bytes
   cut_filled size e =
       let x = filled_long size front_blocks front_bytes in
       let y = filled_long size blocks bytes in
       ext_get_or 0 (filled size front_blocks front_bytes) (filled size blocks bytes) (omega arith) (λ p l.
-      filled_at size front_blocks front_bytes p (omega arith) ∙ same_byte p (omega arith) ∙ sym (filled_at size blocks bytes p (omega
-      arith)))
+      filled_at size front_blocks front_bytes p (omega arith) ∙ same_byte p (omega arith)
+      ∙ sym (filled_at size blocks bytes p (omega arith)))
+
+  pub cut_is : (size : ℕ) → end ≡ (size + 15) / 16 → IsCut size blocks bytes (take count blocks) (take (count * 16) bytes)
+  cut_is size e = record { kept = cut_kept; below = cut_below size e; same = cut_filled size e }
 
 -- no number, and one more
 pub row_none : (old : List ℕ) (first : ℕ) → HasNumbers old first 0 old
@@ -177,7 +180,7 @@ module _ (blocks bytes tail all whole : List ℕ) (size at : ℕ) (kept : IsKept
   followed_filled = record {
     long = filled_long (at + length tail) all whole;
     same = λ p l. (let f = filled_long size blocks bytes in
-        filled_at (at + length tail) all whole p (omega arith) ∙ front_byte p (omega arith) ∙ sym (filled_at size blocks bytes p (omega
-        arith)));
+        filled_at (at + length tail) all whole p (omega arith) ∙ front_byte p (omega arith)
+        ∙ sym (filled_at size blocks bytes p (omega arith)));
     back = λ i l. filled_at (at + length tail) all whole (at + i) (omega arith) ∙ tail_byte i l;
   }

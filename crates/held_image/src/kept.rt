@@ -1,7 +1,7 @@
 //! What is kept of an image.
 
 ghost use Rattle.std.specs.Prelude.{◌≡◌, ◌+◌, ◌*◌, ◌/◌, ◌%◌, ◌<◌, ◌≤◌, ◌^◌, length, take, IfOk, OnOk};
-ghost use Rattle.held_image.specs.Blocks.{AreBelow, HasNumbers, IsFollowed, IsKept, IsPadded, filled};
+ghost use Rattle.held_image.specs.Blocks.{HasNumbers, IsCut, IsFollowed, IsKept, IsPadded, filled};
 
 use crate::blocks::{BLOCK_SIZE, rank};
 use crate::held::Held;
@@ -88,13 +88,9 @@ impl<A: Allocator> Kept<A> {
 }
 
 /// Lets go the blocks behind a size.
-#[tactic(auto, using(crate::proofs::Rows::cut_kept, crate::proofs::Rows::cut_below, crate::proofs::Rows::cut_filled))]
 fn cut<A: Allocator>(blocks: &mut Vec<u32, A>, bytes: &mut Vec<u8, A>, size: u32)
     requires { IsKept blocks.old.items bytes.old.items }
-    ensures kept { IsKept blocks.new.items bytes.new.items }
-    ensures below { AreBelow size blocks.new.items }
-    ensures same { filled size blocks.new.items bytes.new.items
-        ≡ filled size blocks.old.items bytes.old.items }
+    ensures { IsCut size blocks.old.items bytes.old.items blocks.new.items bytes.new.items }
 {
     let end = ((u64::from(size) + 15) / 16) as u32;
     let count = rank(blocks, end);
