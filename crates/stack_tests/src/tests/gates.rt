@@ -56,6 +56,8 @@ fn a_tree_is_made_behind_its_gate(rt: HostRuntime) -> Result<(), Fail> {
     let begun = memory.requests();
     let gate = Noting::new(&memory);
     let is_made = stack(&rt, &memory, &images, &gate).is_ok_and(|it| !it.children(&[]).is_empty());
-    assert!(rt; is_made && begun < memory.requests() && gate.before() == begun);
+    // The list of the images that are lent is taken before.
+    let listed = begun.wrapping_add(1);
+    assert!(rt; is_made && listed < memory.requests() && gate.before() == listed);
     Ok(())
 }
