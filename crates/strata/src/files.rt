@@ -15,8 +15,10 @@ pub fn open_requests<R: Files>(rt: &R, path: Option<&str>) -> Result<Option<R::F
     let Some(path) = path else {
         return Ok(None);
     };
-    let file = fs::open(rt, path).map_err(|_| Fault::RequestsFile)?;
-    Ok(Some(file))
+    match fs::open(rt, path) {
+        Ok(file) => Ok(Some(file)),
+        Err(_) => Err(Fault::RequestsFile),
+    }
 }
 
 /// An empty file at the path, if one is named. Where it cannot be created, `fault` tells it.
@@ -31,6 +33,8 @@ pub fn create_named<R: Files>(
     let Some(path) = path else {
         return Ok(None);
     };
-    let file = fs::create(rt, path).map_err(|_| fault)?;
-    Ok(Some(file))
+    match fs::create(rt, path) {
+        Ok(file) => Ok(Some(file)),
+        Err(_) => Err(fault),
+    }
 }

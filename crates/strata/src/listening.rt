@@ -61,5 +61,8 @@ fn bind<R: Files + Net>(rt: &R, path: &str) -> Result<UnixListener, Fault>
     if path.is_empty() {
         return Err(Fault::Bind);
     }
-    UnixListener::bind(rt, path).map_err(|_| Fault::Bind)
+    match UnixListener::bind(rt, path) {
+        Ok(listener) => Ok(listener),
+        Err(_) => Err(Fault::Bind),
+    }
 }
