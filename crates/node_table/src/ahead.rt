@@ -6,7 +6,7 @@
 //! of these reads waits for another. No node follows from what is read here.
 
 use crate::walk::Walked;
-use romfs_reader::Image;
+use romfs_reader::ImageView;
 use std::alloc::Allocator;
 use whiteout_tree::Entry;
 
@@ -34,7 +34,7 @@ impl HeadersAhead {
     /// next ones are read.
     pub(crate) fn pass<A: Allocator>(
         &mut self,
-        images: &[Image<A>],
+        images: &[ImageView<'_>],
         walk: &Walked<'_, Entry, A>,
         starts: &[usize],
     ) {
@@ -48,7 +48,7 @@ impl HeadersAhead {
     #[inline(never)]
     fn read<A: Allocator>(
         &mut self,
-        images: &[Image<A>],
+        images: &[ImageView<'_>],
         walk: &Walked<'_, Entry, A>,
         starts: &[usize],
     ) {
@@ -63,7 +63,7 @@ impl HeadersAhead {
 // What stands in the first and the last byte of the header of the branch at a place, and of a short
 // name.
 fn byte_at<A: Allocator>(
-    images: &[Image<A>],
+    images: &[ImageView<'_>],
     walk: &Walked<'_, Entry, A>,
     start: usize,
 ) -> Option<u8> {

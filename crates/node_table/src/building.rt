@@ -12,7 +12,7 @@ use crate::numbering::Numbered;
 use crate::walk::Walked;
 use name_lookup::add_keys;
 use name_tree::Branch;
-use romfs_reader::{Image, Kind};
+use romfs_reader::{ImageView, Kind};
 use std::alloc::{AllocError, Allocator};
 use table_reader::{Directories, Directory, Node, Row};
 use whiteout_tree::{Child, Entry};
@@ -39,7 +39,7 @@ pub(crate) struct First<'t, A: Allocator> {
 // The nodes of all first branches, in the order of their numbers, and their directories.
 pub(crate) fn make<A: Allocator + Copy>(
     alloc: A,
-    images: &[Image<A>],
+    images: &[ImageView<'_>],
     walk: &Walked<'_, Entry, A>,
     numbered: &Numbered<A>,
 ) -> Result<TableParts<A>, AllocError>
@@ -80,7 +80,7 @@ pub(crate) fn make<A: Allocator + Copy>(
 // directory.
 fn add_node<A: Allocator + Copy>(
     alloc: A,
-    images: &[Image<A>],
+    images: &[ImageView<'_>],
     walk: &Walked<'_, Entry, A>,
     numbers: &[u64],
     first: &First<'_, A>,
@@ -99,7 +99,7 @@ fn add_node<A: Allocator + Copy>(
 
 // The node of a branch with so many links, before it is completed.
 fn node_of<A: Allocator>(
-    images: &[Image<A>],
+    images: &[ImageView<'_>],
     branch: &Branch<Entry, A>,
     nlink: u32,
     directory: usize,

@@ -8,8 +8,7 @@ ghost use Rattle.stack_model.specs.Attributes.{blocks_all, mode_of, rdev_of};
 ghost use Rattle.node_table.specs.Building.{completed};
 
 use rayon::prelude::*;
-use romfs_reader::{Image, Kind};
-use std::alloc::Allocator;
+use romfs_reader::{ImageView, Kind};
 use std::thread::Threads;
 use table_reader::Node;
 
@@ -34,7 +33,7 @@ pub(crate) fn complete_all<R: Threads + Sync>(rt: &R, nodes: &mut [Node])
 }
 
 // The full sizes of images in blocks of 512 bytes, each rounded up, then summed.
-pub(crate) fn blocks_of<A: Allocator>(images: &[Image<A>]) -> u64
+pub(crate) fn blocks_of(images: &[ImageView<'_>]) -> u64
     requires { length images.now ≤ MAX_LAYERS }
     ensures blocks { result ≡ blocks_all images.now }
     ensures sound { AllByRecursion IsImage images.now }

@@ -1,18 +1,19 @@
 //! A table made of a tree.
 
-ghost use Rattle.std.specs.Prelude.{◌≤◌, length, IfOk};
+ghost use Rattle.std.specs.Prelude.{◌≡◌, ◌≤◌, length, IfOk};
 ghost use Rattle.std.specs.List.{AllByRecursion};
 ghost use Rattle.stack_model.specs.declared.limits.TheConstants.{MAX_LAYERS};
 ghost use Rattle.romfs_reader.specs.Images.{IsImage};
 ghost use Rattle.whiteout_tree.specs.Trees.{IsTreeOf};
 ghost use Rattle.table_reader.specs.Stacked.{IsTableOf, IsTableWith};
+ghost use Rattle.stack_model.specs.Attributes.{blocks_all};
 ghost use Rattle.node_table.specs.Agreement.{AreMade};
 
 use crate::building::{TableParts, make};
 use crate::completing::{blocks_of, complete_all};
 use crate::numbering::number_places;
 use crate::walk::{Walked, count_branches, walk};
-use romfs_reader::Image;
+use romfs_reader::{Image, ImageView, views_of};
 use std::alloc::{AllocError, Allocator};
 use std::thread::Threads;
 use table_reader::{Attributes, Table};
@@ -111,21 +112,38 @@ impl<A: Allocator + Copy> OfTree for Table<A> {
         ensures { IfOk result (λ table. IsTableWith images.items attributes.rows.items
             attributes.owner table) }
     {
-        let blocks = blocks_of(&images);
+        let (blocks, parts) = read_all(alloc, &tree, &images)?;
         let TableParts {
             mut nodes,
             directories,
-        } = parts_of(alloc, &tree, &images)?;
+        } = parts;
         complete_all(rt, &mut nodes);
         Table::of_parts(alloc, images, nodes, directories, blocks, attributes)
     }
+}
+
+// The blocks of images, and of the tree of their stack what `parts_of` makes.
+fn read_all<A: Allocator + Copy>(
+    alloc: A,
+    tree: &Tree<A>,
+    images: &[Image<A>],
+) -> Result<(u64, TableParts<A>), AllocError>
+    requires tree { IsTreeOf 0 images.now tree.now }
+    requires few { length images.now ≤ MAX_LAYERS }
+    ensures blocks { IfOk result (λ it. it.0 ≡ blocks_all images.now) }
+    ensures made { IfOk result (λ it. AreMade images.now it.1.nodes.items it.1.directories) }
+{
+    let views = views_of(alloc, images)?;
+    let blocks = blocks_of(&views);
+    let parts = parts_of(alloc, tree, &views)?;
+    Ok((blocks, parts))
 }
 
 // The nodes of a tree, but for what their headers say, their rows, and the rows' keys.
 fn parts_of<A: Allocator + Copy>(
     alloc: A,
     tree: &Tree<A>,
-    images: &[Image<A>],
+    images: &[ImageView<'_>],
 ) -> Result<TableParts<A>, AllocError>
     requires tree { IsTreeOf 0 images.now tree.now }
     requires sound { AllByRecursion IsImage images.now }

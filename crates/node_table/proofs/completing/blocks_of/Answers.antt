@@ -4,34 +4,34 @@ use Rattle.node_table.proofs.Completed.{sums_nothing}
 use Rattle.node_table.proofs.completing.blocks_of.Goals as goal
 
 pub loop-image-init : goal.loop-image-init
-loop-image-init g c = sums_nothing c.args.images.now
+loop-image-init c = sums_nothing c.args.images.now
 
 pub from-requires : goal.from-requires
-from-requires g c = tt
+from-requires c = tt
 
 pub offset_bounds-images-image-index : goal.offset_bounds-images-image-index
-offset_bounds-images-image-index g c = omega arith
+offset_bounds-images-image-index c = omega arith
 
 pub bounds-images-image-index : goal.bounds-images-image-index
-bounds-images-image-index g c = omega arith
+bounds-images-image-index c = omega arith
 
 pub overflow_add-blocks : goal.overflow_add-blocks
-overflow_add-blocks g c = omega arith
+overflow_add-blocks c = omega arith
 
 pub overflow_add-blocks-in-loop-image : goal.overflow_add-blocks-in-loop-image
-overflow_add-blocks-in-loop-image g c = omega arith
+overflow_add-blocks-in-loop-image c = omega arith
 
 pub loop-image-smaller : goal.loop-image-smaller
-loop-image-smaller g c = omega arith
+loop-image-smaller c = omega arith
 
 pub full-requires : goal.full-requires
-full-requires g c κs = grind (arith, common_steps)
+full-requires c = tt
 
 pub loop-image-preserved : goal.loop-image-preserved
-loop-image-preserved g c = grind (arith, common_steps)
+loop-image-preserved c = grind (arith, common_steps)
 
 pub returns-clause-blocks : goal.returns-clause-blocks
-returns-clause-blocks g c = grind (arith, common_steps)
+returns-clause-blocks c = grind (arith, common_steps)
 
 pub returns-clause-sound : goal.returns-clause-sound
-returns-clause-sound g c = grind (arith, common_steps)
+returns-clause-sound c = grind (arith, common_steps)
