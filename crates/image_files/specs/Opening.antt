@@ -1,5 +1,5 @@
 -- How a file is read, by what stat(2) tells of it.
-use Rattle.std.specs.Prelude.{◌≡◌, ◌<◌, ℕ, List, Option, IfSome, ⊤, bit_and}
+use Rattle.std.specs.Prelude.{◌≡◌, ◌<◌, ℕ, List, Option, IfSome, ⊤, bit_and, map}
 use Rattle.std.specs.Fs.{IsFile, file_type, metadata_len, metadata_mode}
 use Rattle.std.specs.declared.fs.attrs.Metadata.{Metadata}
 use Rattle.image_files.specs.declared.opening.TheConstants.{FILE_TYPE, BLOCK_DEVICE}
@@ -7,6 +7,9 @@ use Rattle.image_files.specs.declared.opening.FileKind.{FileKind}
 use Rattle.image_files.specs.declared.opening.FileKind.TheVariants.{Regular, BlockDevice, Stream}
 use Rattle.image_files.specs.declared.opening.OpenImage.{OpenImage}
 use Rattle.image_files.specs.declared.opening.OpenImage.TheVariants.{Gathered, Whole}
+use Rattle.std.specs.declared.vec.Vec.{Vec}
+use Rattle.image_files.specs.declared.opening.HeldImage.{HeldImage}
+use Rattle.image_files.specs.declared.opening.HeldImage.TheVariants as held
 
 -- the mode is that of a block device
 abbrev pub IsBlockDevice : Metadata → Type 0
@@ -33,3 +36,12 @@ abbrev pub IsOpenedAs : {F A : Type 0} → FileKind → Option (List ℕ) → Op
 IsOpenedAs (Regular size) known image = StaysInFile image
 IsOpenedAs BlockDevice known image = StaysInFile image
 IsOpenedAs Stream known image = IsAllOf known image
+
+-- the bytes that are held of an image, and zeros where nothing is
+abbrev pub held_bytes : {A : Type 0} → HeldImage A → List ℕ
+held_bytes (held.Kept kept) = kept
+held_bytes (held.Whole bytes) = bytes.items
+
+-- those of a list of images
+abbrev pub held_contents : {A B : Type 0} → Vec (HeldImage A) B → List (List ℕ)
+held_contents images = map held_bytes images.items

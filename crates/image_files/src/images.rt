@@ -10,8 +10,8 @@ ghost use Rattle.image_files.specs.Unread.{IsReadUpTo};
 ghost use Rattle.image_files.specs.declared.images.FilesFault.TheVariants.{Unread, Memory};
 ghost use denote.Param.Send.{IsSync, IsSend, Frees};
 
-use crate::opening::OpenImage;
-use crate::whole::{OfFile, ReadFault};
+use crate::opening::{HeldImage, OpenImage};
+use crate::whole::{OfFile, ReadFault, Trailers};
 use std::alloc::{AllocError, AllocFailed, Allocator};
 use std::fs;
 use std::fs::Files;
@@ -67,7 +67,7 @@ where
     ensures err { IfErr result (λ fault. (fault ≡ Memory)
         ⊎ ((image : ℕ) × (image < length paths.now) × (fault ≡ Unread image))) }
 {
-    let Run { images, end } = read_from(rt, alloc, 0, paths, FORKS);
+    let Run { images, end } = read_from(rt, alloc, 0, paths, Trailers::Read, FORKS);
     end?;
     Ok(images)
 }
@@ -85,6 +85,7 @@ pub fn open_images<R: Files + Threads + Sync, A: Allocator + Copy + Send + Sync>
     rt: &R,
     alloc: A,
     paths: &[&str],
+    trailers: Trailers,
 ) -> Result<Vec<OpenImage<R::File, A>, A>, FilesFault>
 where
     R::File: FileExt + Send,
@@ -93,7 +94,27 @@ where
     ensures err { IfErr result (λ fault. (fault ≡ Memory)
         ⊎ ((image : ℕ) × (image < length paths.now) × (fault ≡ Unread image))) }
 {
-    let Run { images, end } = read_from(rt, alloc, 0, paths, FORKS);
+    let Run { images, end } = read_from(rt, alloc, 0, paths, trailers, FORKS);
+    end?;
+    Ok(images)
+}
+
+/// What is held of the images at these paths, as [`open_images`] reads it, and no file: each is let
+/// go before the next one of its part is opened, so there may be any number of them.
+pub fn gather_images<R: Files + Threads + Sync, A: Allocator + Copy + Send + Sync>(
+    rt: &R,
+    alloc: A,
+    paths: &[&str],
+    trailers: Trailers,
+) -> Result<Vec<HeldImage<A>, A>, FilesFault>
+where
+    R::File: FileExt + Send,
+    R::Dir: Send,
+    ensures ok { IfOk result (λ images. vec_len images ≡ length paths.now) }
+    ensures err { IfErr result (λ fault. (fault ≡ Memory)
+        ⊎ ((image : ℕ) × (image < length paths.now) × (fault ≡ Unread image))) }
+{
+    let Run { images, end } = read_from(rt, alloc, 0, paths, trailers, FORKS);
     end?;
     Ok(images)
 }
@@ -112,7 +133,7 @@ fn read_from<
     R: Files + Threads + Sync,
     A: Allocator + Copy + Send + Sync,
     T: OfFile<R::File, A> + Send + Drop,
->(rt: &R, alloc: A, first: usize, paths: &[&str], forks: u32) -> Run<T, A>
+>(rt: &R, alloc: A, first: usize, paths: &[&str], trailers: Trailers, forks: u32) -> Run<T, A>
 where
     R::File: Send,
     R::Dir: Send,
@@ -120,7 +141,7 @@ where
     ensures { IsReadUpTo first (length paths.now) (vec_len result.images) result.end }
 {
     if forks == 0 || paths.len() < MANY {
-        return read_in_turn(rt, alloc, first, paths);
+        return read_in_turn(rt, alloc, first, paths, trailers);
     }
     let less = forks - 1;
     let half = paths.len() / 2;
@@ -133,12 +154,12 @@ where
             requires { IsSync R.row × IsSync A.row × IsSend A.row
                 × Frees A.Allocator A.dealloc_token × (next + length highs.now < 2 ^ 64) }
             ensures { IsReadUpTo next (length highs.entry.now) (vec_len result.images) result.end }
-        { read_from(rt, alloc, next, highs, less) },
+        { read_from(rt, alloc, next, highs, trailers, less) },
         move || -> Run<T, A>
             requires { IsSync R.row × IsSync A.row × IsSend A.row
                 × Frees A.Allocator A.dealloc_token × (first + length lows.now < 2 ^ 64) }
             ensures { IsReadUpTo first (length lows.entry.now) (vec_len result.images) result.end }
-        { read_from(rt, alloc, first, lows, less) },
+        { read_from(rt, alloc, first, lows, trailers, less) },
     );
     both(low, high)
 }
@@ -179,12 +200,13 @@ fn read_in_turn<R: Files, A: Allocator + Copy, T: OfFile<R::File, A> + Drop>(
     alloc: A,
     first: usize,
     paths: &[&str],
+    trailers: Trailers,
 ) -> Run<T, A>
     requires { first + length paths.now < 2 ^ 64 }
     ensures { IsReadUpTo first (length paths.now) (vec_len result.images) result.end }
 {
     let mut images = Vec::new(alloc);
-    let end = add_in_turn(rt, alloc, first, paths, &mut images);
+    let end = add_in_turn(rt, alloc, first, paths, trailers, &mut images);
     Run { images, end }
 }
 
@@ -195,6 +217,7 @@ fn add_in_turn<R: Files, A: Allocator + Copy, T: OfFile<R::File, A> + Drop>(
     alloc: A,
     first: usize,
     paths: &[&str],
+    trailers: Trailers,
     images: &mut Vec<T, A>,
 ) -> Result<(), FilesFault>
     requires empty { vec_len images.old ≡ 0 }
@@ -203,7 +226,7 @@ fn add_in_turn<R: Files, A: Allocator + Copy, T: OfFile<R::File, A> + Drop>(
 {
     images.reserve_exact(paths.len())?;
     for (at, path) in paths.iter().enumerate() {
-        images.push(read_image(rt, alloc, (first + at) as u64, path)?)?;
+        images.push(read_image(rt, alloc, (first + at) as u64, path, trailers)?)?;
     }
     Ok(())
 }
@@ -213,11 +236,12 @@ fn read_image<R: Files, A: Allocator, T: OfFile<R::File, A>>(
     alloc: A,
     image: u64,
     path: &str,
+    trailers: Trailers,
 ) -> Result<T, FilesFault>
     ensures { IfErr result (λ fault. (fault ≡ Unread image) ⊎ (fault ≡ Memory)) }
 {
     let file = fs::open(rt, path).map_err(|_| FilesFault::Unread { image })?;
-    match T::of_file(alloc, file) {
+    match T::of_file(alloc, file, trailers) {
         Ok(read) => Ok(read),
         Err(ReadFault::Failed) => Err(FilesFault::Unread { image }),
         Err(ReadFault::Memory) => Err(FilesFault::Memory),

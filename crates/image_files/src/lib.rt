@@ -6,6 +6,7 @@
 //! - [`open_images`] opens them. Of a file that can be read at a place headers, names and targets
 //!   are read (`kept_image`), in memory in proportion to these, and the file stays open; others are
 //!   read whole. Which of both it was, each [`OpenImage`] says.
+//! - [`gather_images`] reads as much, and keeps no file open: [`HeldImage`].
 //!
 //! Of a long list up to four parts are read at the same time; the lowest image that cannot be read
 //! is told.
@@ -21,5 +22,6 @@ mod opening;
 mod tests;
 mod whole;
 
-pub use images::{FilesFault, open_images, read_images};
-pub use opening::OpenImage;
+pub use images::{FilesFault, gather_images, open_images, read_images};
+pub use opening::{HeldImage, OpenImage};
+pub use whole::Trailers;

@@ -7,9 +7,9 @@
 ghost use Rattle.std.specs.Prelude.{◌↔◌, IfOk, IsTrue};
 ghost use Rattle.image_files.specs.Opening.{IsBlockDevice, IsKindOf, IsOpenedAs, StaysInFile};
 
-use crate::whole::{OfFile, ReadFault, read_file};
+use crate::whole::{OfFile, ReadFault, Trailers, read_file};
 use image_bytes::InFile;
-use kept_image::{GatherFault, Kept, gather};
+use kept_image::{GatherFault, Kept, gather, gather_with_trailer};
 use std::alloc::Allocator;
 use std::fs::{Metadata, OpenFile};
 use std::io::{Read, Seek, SeekFrom};
@@ -33,9 +33,29 @@ pub enum OpenImage<F, A: Allocator> {
 
 impl<F: Read + Seek + OpenFile + FileExt + Drop, A: Allocator + Copy> OfFile<F, A>
     for OpenImage<F, A> {
-    fn of_file(alloc: A, file: F) -> Result<OpenImage<F, A>, ReadFault> {
+    fn of_file(alloc: A, file: F, trailers: Trailers) -> Result<OpenImage<F, A>, ReadFault> {
         let kind = told_kind(&file);
-        open_as(alloc, file, kind)
+        open_as(alloc, file, kind, trailers)
+    }
+}
+
+/// What is held of an image whose file was let go.
+#[derive(Drop)]
+pub enum HeldImage<A: Allocator> {
+    /// What the rules look at.
+    Kept(Kept<A>),
+    /// All bytes of a file that cannot be read at a place.
+    Whole(Vec<u8, A>),
+}
+
+impl<F: Read + Seek + OpenFile + FileExt + Drop, A: Allocator + Copy> OfFile<F, A>
+    for HeldImage<A> {
+    fn of_file(alloc: A, file: F, trailers: Trailers) -> Result<HeldImage<A>, ReadFault> {
+        let kind = told_kind(&file);
+        match open_as(alloc, file, kind, trailers)? {
+            OpenImage::Gathered { kept, .. } => Ok(HeldImage::Kept(kept)),
+            OpenImage::Whole(bytes) => Ok(HeldImage::Whole(bytes)),
+        }
     }
 }
 
@@ -85,14 +105,15 @@ pub(crate) fn open_as<F: Read + Seek + OpenFile + FileExt + Drop, A: Allocator +
     alloc: A,
     mut file: F,
     kind: FileKind,
+    trailers: Trailers,
 ) -> Result<OpenImage<F, A>, ReadFault>
     ensures { IfOk result (λ image. IsOpenedAs kind (F.remaining file) image) }
 {
     match kind {
-        FileKind::Regular { size } => gather_file(alloc, InFile::new(file, size)),
+        FileKind::Regular { size } => gather_file(alloc, InFile::new(file, size), trailers),
         FileKind::BlockDevice => {
             let size = end_of(&mut file)?;
-            gather_file(alloc, InFile::new(file, size))
+            gather_file(alloc, InFile::new(file, size), trailers)
         }
         FileKind::Stream => Ok(OpenImage::Whole(read_file(alloc, file)?)),
     }
@@ -107,10 +128,15 @@ fn end_of<F: Seek>(file: &mut F) -> Result<u64, ReadFault> {
 fn gather_file<F: FileExt + Drop, A: Allocator + Copy>(
     alloc: A,
     file: InFile<F>,
+    trailers: Trailers,
 ) -> Result<OpenImage<F, A>, ReadFault>
     ensures { IfOk result StaysInFile }
 {
-    match gather(alloc, &file) {
+    let gathered = match trailers {
+        Trailers::Read => gather_with_trailer(alloc, &file),
+        Trailers::Left => gather(alloc, &file),
+    };
+    match gathered {
         Ok(kept) => Ok(OpenImage::Gathered { kept, file }),
         Err(GatherFault::Unread) => Err(ReadFault::Failed),
         Err(GatherFault::Memory) => Err(ReadFault::Memory),

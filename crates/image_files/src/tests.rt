@@ -5,7 +5,7 @@
 
 use crate::opening::{FileKind, open_as};
 use crate::whole::ReadFault;
-use crate::{FilesFault, OpenImage, open_images};
+use crate::{FilesFault, OpenImage, Trailers, open_images};
 use held_image::Held;
 use held_image::read::word;
 use image_bytes::{Contents, fill};
@@ -100,7 +100,7 @@ where
     R::Dir: Send,
 {
     let paths = [low, high, high, other, low, high, other, low, high];
-    let images = open_images(rt, alloc, &paths)?;
+    let images = open_images(rt, alloc, &paths, Trailers::Left)?;
     let mut all = Vec::with_capacity(alloc, images.len())?;
     for image in &images {
         all.push(look_at(image))?;
@@ -111,7 +111,7 @@ where
 /// What is seen of a file that is opened as one of this kind; none where it cannot be.
 fn seen_as(rt: &HostRuntime, path: &str, kind: FileKind) -> Option<Seen> {
     let file = fs::open(rt, path).ok()?;
-    let image = open_as(rt.alloc(), file, kind).ok()?;
+    let image = open_as(rt.alloc(), file, kind, Trailers::Read).ok()?;
     Some(look_at(&image))
 }
 
@@ -119,7 +119,7 @@ fn seen_as(rt: &HostRuntime, path: &str, kind: FileKind) -> Option<Seen> {
 fn is_unread(rt: &HostRuntime, path: &str, size: u64) -> bool {
     match fs::open(rt, path) {
         Ok(file) => {
-            let opened = open_as(rt.alloc(), file, FileKind::Regular { size });
+            let opened = open_as(rt.alloc(), file, FileKind::Regular { size }, Trailers::Left);
             matches!(opened, Err(ReadFault::Failed))
         }
         Err(_) => false,

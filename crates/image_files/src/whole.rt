@@ -29,15 +29,22 @@ impl From<AllocError> for ReadFault {
     }
 }
 
+/// Whether attribute trailers are read, which stand behind the images.
+#[derive(Clone, Copy, Debug, PartialEq, Eq)]
+pub enum Trailers {
+    Read,
+    Left,
+}
+
 /// What is read of the file of an image.
 pub(crate) trait OfFile<F, A: Allocator>: Sized {
     /// What is read of this file, which is at its beginning.
-    fn of_file(alloc: A, file: F) -> Result<Self, ReadFault>;
+    fn of_file(alloc: A, file: F, trailers: Trailers) -> Result<Self, ReadFault>;
 }
 
 impl<F: Read + OpenFile + Drop, A: Allocator> OfFile<F, A> for Vec<u8, A> {
-    /// All bytes.
-    fn of_file(alloc: A, file: F) -> Result<Vec<u8, A>, ReadFault> {
+    /// All bytes, with those of the trailer.
+    fn of_file(alloc: A, file: F, _trailers: Trailers) -> Result<Vec<u8, A>, ReadFault> {
         read_file(alloc, file)
     }
 }

@@ -13,13 +13,18 @@ use Rattle.image_files.specs.declared.images.FilesFault.{FilesFault}
 use Rattle.image_files.specs.declared.images.FilesFault.TheVariants as files
 use Rattle.strata.specs.declared.faults.Fault.{Fault}
 use Rattle.strata.specs.declared.faults.Fault.TheVariants.{Usage, ImageFile, RequestsFile, RepliesFile, BalancesFile, Bind, Accept, Broken, InSession, Stopped}
-use Rattle.strata.specs.Faults.{status_of, stop_status, files_told_of}
+use Rattle.strata.specs.Faults.{AreUnread, status_of, stop_status, files_told_of}
 use Rattle.strata.specs.Ending.{NamesAsMany, IsDoneOver, IsStoppedOver, IsDone, EndsInFault, IsOverWith}
 
 -- as many images as paths
 pub all_named : {X Y Z : Type 0} (line : Line) (bytes : X → List ℕ) (images : Vec X Z) (paths : List Y) → vec_len images ≡ length paths
     → length paths ≡ vec_len line.images → NamesAsMany line (map bytes images.items)
 all_named line bytes images paths e p = length-map images.items bytes ∙ sym images.ok.0 ∙ e ∙ p
+
+-- as many images as the line names
+pub all_held : {X Z : Type 0} (line : Line) (bytes : X → List ℕ) (images : Vec X Z) → vec_len images ≡ vec_len line.images
+    → NamesAsMany line (map bytes images.items)
+all_held line bytes images e = length-map images.items bytes ∙ sym images.ok.0 ∙ e
 
 -- what the words say, over the images that were read
 module _ (A : Type 0) (words : List (List ℕ)) (line : Line) (images : List (List ℕ)) (verb : Verb) (old new : Devices)
@@ -60,13 +65,21 @@ module _ (A : Type 0) (words : List (List ℕ)) (line : Line) (images : List (Li
       subst (λ r. IfOk r (λ status. IsOverWith A words status old new) × IfErr r (λ fault. EndsInFault A words fault old new)) (sym same)
       (tt, begun fault (s fault stopped))
 
+-- what the files of images were not read for is told as it is
+pub told_unread : {X : Type 0} (count : ℕ) (fault : FilesFault)
+    → (fault ≡ files.Memory) ⊎ ((image : ℕ) × (image < count) × (fault ≡ files.Unread image)) → (r : Result X Fault)
+    → IsErrAnd r (λ told. told ≡ files_told_of fault) → IfErr r (AreUnread count)
+told_unread count fault f (Ok u) e = absurd e
+told_unread count fault (inl f) (Err told) e = inr (e ∙ ap files_told_of f)
+told_unread count fault (inr f) (Err told) e = inl (f.0, f.1, e ∙ ap files_told_of f.2)
+
 -- an image that was not read, or memory that ran out before all were
-pub unread : {X : Type 0} {words : List (List ℕ)} {line : Line} (A : Type 0) (old : Devices) → IsLineOf words line → (fault : FilesFault)
-    → (fault ≡ files.Memory) ⊎ ((image : ℕ) × (image < vec_len line.images) × (fault ≡ files.Unread image))
-    → (r : Result X Fault) → IsErrAnd r (λ told. told ≡ files_told_of fault) → IfErr r (λ told. EndsInFault A words told old old)
+pub unread : {X : Type 0} {words : List (List ℕ)} {line : Line} (A : Type 0) (old : Devices) → IsLineOf words line → (fault : Fault)
+    → AreUnread (vec_len line.images) fault → (r : Result X Fault) → IsErrAnd r (λ told. told ≡ fault)
+    → IfErr r (λ told. EndsInFault A words told old old)
 unread A old l fault f (Ok u) e = absurd e
-unread A old l fault (inl f) (Err told) e = inl (record { kept = refl; which = inr (inr (e ∙ ap files_told_of f)) })
-unread {line = line} A old l fault (inr f) (Err told) e =
+unread A old l fault (inr f) (Err told) e = inl (record { kept = refl; which = inr (inr (e ∙ f)) })
+unread {line = line} A old l fault (inl f) (Err told) e =
     inl (record {
       kept = refl;
       which = inr (inl (record {
@@ -74,7 +87,7 @@ unread {line = line} A old l fault (inr f) (Err told) e =
         image = f.0;
         line_is = l;
         named = f.1;
-        told = e ∙ ap files_told_of f.2;
+        told = e ∙ f.2;
       }));
     })
 

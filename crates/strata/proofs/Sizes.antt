@@ -1,12 +1,13 @@
 -- Images that are checked one after another. `one_more` is the step of the loop: the next image is
--- good, and its size is put behind the others.
-use Rattle.std.proofs.Common.{◌≡◌, ◌∙◌, sym, ap, refl, arith, ℕ, List, [], ◌∷◌, ◌++◌, append_assoc, length, map}
-use Rattle.std.proofs.lemmas.List.{map-append}
+-- good, and its size is put behind the others. `first_refused` ends it: the next image is not good.
+use Rattle.std.proofs.Common.{◌≡◌, ◌∙◌, sym, ap, refl, subst, arith, ℕ, List, [], ◌∷◌, ◌++◌, append_assoc, length, map, inl, Result, Ok, Err, IfErr, IsErrAnd}
+use Rattle.std.proofs.lemmas.List.{length-map, map-append}
 use Rattle.std.proofs.lemmas.List.Elements.{All-push}
 use Rattle.romfs_format.specs.declared.rule.Profile.{Profile}
 use Rattle.romfs_format.specs.Fields.{image}
 use Rattle.romfs_format.specs.Rules.{IsSound}
-use Rattle.strata.specs.Faults.{AreSizes}
+use Rattle.strata.specs.declared.faults.Fault.{Fault}
+use Rattle.strata.specs.Faults.{AreSizes, IsFirstFault, IsImageFault}
 
 -- the images before those that are left are good, and these are their sizes
 pub record AreSized {X : Type 0} (v : X → List ℕ) (profile : Profile) (all : List (List ℕ)) (left : List X) (sizes : List ℕ) : Type 0 where
@@ -35,3 +36,19 @@ one_more {v = v} {profile} {sizes = sizes} s x rest l full f d = record {
         ∙ sym (map-append (λ b. length (image b)) s.before (v x ∷ []));
   };
 }
+
+-- an image that is not good is the first one
+pub first_refused : {X Y : Type 0} {v : X → List ℕ} {profile : Profile} {all : List (List ℕ)} {left : List X} {sizes : List ℕ}
+    → AreSized v profile all left sizes → (x : X) (rest : List X) → left ≡ x ∷ rest → (n : ℕ) → n ≡ length sizes → (fault : Fault)
+    → IsImageFault profile n (v x) fault → (r : Result Y Fault) → IsErrAnd r (λ told. told ≡ fault) → IfErr r (IsFirstFault profile all)
+first_refused s x rest l n e fault f (Ok y) same = absurd same
+first_refused {v = v} {profile} {all} s x rest l n e fault f (Err told) same =
+    subst (IsFirstFault profile all) (sym same) (inl (record {
+      before = s.before;
+      after = map v rest;
+      bytes = v x;
+      images_are = s.split ∙ ap (λ xs. s.before ++ map v xs) l;
+      sound = s.good.sound;
+      refused = subst (λ n. IsImageFault profile n (v x) fault)
+          (e ∙ ap (λ (xs : List ℕ). length xs) s.good.sizes_are ∙ length-map s.before (λ b. length (image b))) f;
+    }))

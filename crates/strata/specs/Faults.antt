@@ -1,5 +1,5 @@
 -- What the program ends with, and for what.
-use Rattle.std.specs.Prelude.{◌≡◌, ℕ, ◌⊎◌, List, ◌∷◌, ◌++◌, length, map, All}
+use Rattle.std.specs.Prelude.{◌≡◌, ◌<◌, ℕ, ◌⊎◌, List, ◌∷◌, ◌++◌, length, map, All}
 use Rattle.romfs_format.specs.declared.rule.Profile.{Profile}
 use Rattle.romfs_format.specs.declared.rule.ImageFault.{ImageFault}
 use Rattle.romfs_format.specs.Fields.{image}
@@ -56,6 +56,11 @@ line_told_of line.Memory = out_of_memory
 abbrev pub files_told_of : FilesFault → Fault
 files_told_of (files.Unread image) = ImageFile image
 files_told_of files.Memory = out_of_memory
+
+-- the file of one of so many images was not read, or memory ran out
+abbrev pub AreUnread : ℕ → Fault → Type 0
+AreUnread count fault =
+    ((image : ℕ) × (image < count) × (fault ≡ ImageFile image)) ⊎ (fault ≡ out_of_memory)
 
 -- what the program says where a list was not written
 abbrev pub list_told_of : ListFault → Fault

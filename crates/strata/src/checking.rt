@@ -3,7 +3,8 @@
 ghost use Rattle.std.specs.Prelude.{◌≡◌, ◌<◌, ◌^◌, length, string_bytes, OnOk, IfOk, IfErr};
 ghost use Rattle.romfs_format.specs.Fields.{image};
 ghost use Rattle.romfs_format.specs.Rules.{IsSound};
-ghost use Rattle.stack_prepare.specs.Layers.{contents_of};
+ghost use Rattle.romfs_check.specs.Refusals.{IsRefusal};
+ghost use Rattle.image_files.specs.Opening.{held_bytes, held_contents};
 ghost use Rattle.strata.specs.Faults.{AreSizes, IsFirstFault, IsImageFault};
 ghost use Rattle.strata.specs.Texts.{size_lines};
 ghost use Rattle.strata.specs.Ending.{AreGood, AreNotGood};
@@ -11,21 +12,23 @@ ghost use Rattle.strata.specs.Ending.{AreGood, AreNotGood};
 use crate::faults::Fault;
 use crate::lines::put_lines;
 use devices::Sink;
-use romfs_check::{Check, CheckFault, Image, Profile};
+use image_files::HeldImage;
+use romfs_check::{Check, CheckFault, Image, Profile, check_kept};
 use std::alloc::{AllocError, Allocator};
 use std::io::Write;
 
-/// Checks the images in order, and puts a line for each if all are good. Else nothing is put.
+/// Checks the images in order, by what is held of them, and puts a line for each if all are good.
+/// Else nothing is put.
 pub fn check<A: Allocator + Copy, K: Sink>(
     alloc: A,
-    images: Vec<Vec<u8, A>, A>,
+    images: Vec<HeldImage<A>, A>,
     profile: Profile,
     output: &mut K,
 ) -> Result<(), Fault>
     requires { (K.state output.old).counts.failures < 2 ^ 63 }
-    ensures done { OnOk result (AreGood profile (contents_of images)
+    ensures done { OnOk result (AreGood profile (held_contents images)
         (K.state output.old) (K.state output.new)) }
-    ensures stopped { IfErr result (λ fault. AreNotGood profile (contents_of images) fault
+    ensures stopped { IfErr result (λ fault. AreNotGood profile (held_contents images) fault
         (K.state output.old) (K.state output.new)) }
 {
     let sizes = checked_sizes(alloc, images, profile)?;
@@ -48,37 +51,56 @@ fn lines_of<A: Allocator>(alloc: A, sizes: &[u32]) -> Result<String<A>, AllocErr
 // first that is not.
 fn checked_sizes<A: Allocator + Copy>(
     alloc: A,
-    images: Vec<Vec<u8, A>, A>,
+    images: Vec<HeldImage<A>, A>,
     profile: Profile,
 ) -> Result<Vec<u32, A>, Fault>
-    ensures ok { IfOk result (λ sizes. AreSizes profile (contents_of images) sizes.items) }
-    ensures err { IfErr result (λ fault. IsFirstFault profile (contents_of images) fault) }
+    ensures ok { IfOk result (λ sizes. AreSizes profile (held_contents images) sizes.items) }
+    ensures err { IfErr result (λ fault. IsFirstFault profile (held_contents images) fault) }
 {
     let mut sizes = Vec::with_capacity(alloc, images.len())?;
-    for bytes in images {
+    for held in images {
         let image = sizes.len() as u64;
-        sizes.push(checked_size(alloc, image, bytes, profile)?)?;
+        sizes.push(checked_size(alloc, image, held, profile)?)?;
     }
     Ok(sizes)
 }
 
-// How many bytes of an image are accessible.
+// How many bytes of the image of this number are accessible.
 fn checked_size<A: Allocator + Copy>(
     alloc: A,
     number: u64,
-    bytes: Vec<u8, A>,
+    held: HeldImage<A>,
     profile: Profile,
 ) -> Result<u32, Fault>
-    ensures ok { IfOk result (λ full. (full ≡ length (image bytes.items))
-        × IsSound profile bytes.items) }
-    ensures err { IfErr result (λ fault. IsImageFault profile number bytes.items fault) }
+    ensures ok { IfOk result (λ full. (full ≡ length (image (held_bytes held)))
+        × IsSound profile (held_bytes held)) }
+    ensures err { IfErr result (λ fault. IsImageFault profile number (held_bytes held) fault) }
 {
-    match Image::check_as(alloc, bytes, profile) {
-        Ok(image) => Ok(image.full()),
+    match full_size(alloc, held, profile) {
+        Ok(full) => Ok(full),
         Err(CheckFault::Broken(fault)) => Err(Fault::Broken {
             image: number,
             fault,
         }),
         Err(CheckFault::Memory) => Err(Fault::out_of_memory()),
+    }
+}
+
+// The same of any image.
+fn full_size<A: Allocator + Copy>(
+    alloc: A,
+    held: HeldImage<A>,
+    profile: Profile,
+) -> Result<u32, CheckFault>
+    ensures ok { IfOk result (λ full. (full ≡ length (image (held_bytes held)))
+        × IsSound profile (held_bytes held)) }
+    ensures err { IfErr result (IsRefusal profile (held_bytes held)) }
+{
+    match held {
+        HeldImage::Kept(kept) => {
+            let (kept, _rows) = check_kept(alloc, kept, profile)?;
+            Ok(kept.held().len() as u32)
+        }
+        HeldImage::Whole(bytes) => Ok(Image::check_as(alloc, bytes, profile)?.full()),
     }
 }

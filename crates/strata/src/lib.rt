@@ -20,6 +20,7 @@ mod checking;
 mod clients;
 pub mod faults;
 mod files;
+mod images;
 pub mod laws;
 mod lines;
 mod listening;

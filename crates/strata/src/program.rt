@@ -16,6 +16,7 @@ ghost use Rattle.strata.specs.Mounts.{mounted, status_on_device, IsRunAsSaid, Is
 use crate::by_readers::mount_by_readers;
 use crate::checking::check;
 use crate::faults::Fault;
+use crate::images::{gather_all, read_all};
 use crate::listening::listen;
 use crate::listing::list;
 use crate::serving::serve;
@@ -24,13 +25,13 @@ use crate::version::tell_version;
 use command_line::{Line, NoLine, Verb, line};
 use devices::{Sink, Source, Spout, Tap};
 use fuse_device::{MessageTap, ReplySpout};
-use image_files::read_images;
 use serve_core::Stop;
 use std::alloc::{Allocator, Global};
 use std::convert::AsStr;
 use std::fs::Files;
 use std::io::{Read, Write};
 use std::net::Net;
+use std::os::unix::fs::FileExt;
 use std::thread::Threads;
 
 /// Runs the program on the words after its name, over a reader and a writer that were not used
@@ -63,7 +64,7 @@ pub fn command<
     faults: &mut E,
 ) -> u8
 where
-    R::File: Send,
+    R::File: FileExt + Send,
     R::Dir: Send,
     ensures { IsRunAsSaid A (map S.text words.now) result
         (I.remaining reader) (O.contents writer) }
@@ -86,7 +87,7 @@ fn command_of_line<
     E: Write,
 >(rt: &R, alloc: A, line: &Line<'_>, reader: I, writer: O, shared: (X, Y), faults: &mut E) -> u8
 where
-    R::File: Send,
+    R::File: FileExt + Send,
     R::Dir: Send,
     requires limits { IsInLimits line.now }
     requires socket { NamesSocket line.now }
@@ -113,7 +114,7 @@ fn mount<
     E: Write,
 >(rt: &R, alloc: A, line: &Line<'_>, reader: I, writer: O, faults: &mut E) -> u8
 where
-    R::File: Send,
+    R::File: FileExt + Send,
     R::Dir: Send,
     requires device { line.now.device ≡ true }
     requires limits { IsInLimits line.now }
@@ -148,7 +149,7 @@ pub fn command_on_streams<
     E: Write,
 >(rt: &R, alloc: A, line: &Line<'_>, input: &mut T, output: &mut K, faults: &mut E) -> u8
 where
-    R::File: Send,
+    R::File: FileExt + Send,
     R::Dir: Send,
     requires streams { line.now.device ≡ false }
     requires limits { IsInLimits line.now }
@@ -185,7 +186,7 @@ pub fn command_on_device<
     faults: &mut E,
 ) -> u8
 where
-    R::File: Send,
+    R::File: FileExt + Send,
     R::Dir: Send,
     requires device { line.now.device ≡ true }
     requires limits { IsInLimits line.now }
@@ -218,7 +219,7 @@ fn do_steps<
     faults: &mut E,
 ) -> Result<u8, Fault>
 where
-    R::File: Send,
+    R::File: FileExt + Send,
     R::Dir: Send,
     requires new { AreNew (devices (T.state input.old) (K.state output.old)) }
     requires limits { IsInLimits line.now }
@@ -232,12 +233,23 @@ where
         (devices (T.state input.old) (K.state output.old))
         (devices (T.state input.new) (K.state output.new))) }
 {
-    let images = read_images(rt, alloc, line.images.as_slice())?;
     match line.verb {
-        Verb::Serve => as_status(serve(rt, alloc, line, images, input, output)),
-        Verb::Socket => listen(rt, alloc, line, images, faults),
-        Verb::Check => as_status(check(alloc, images, profile_of(line), output)),
-        Verb::List => as_status(list(rt, alloc, line, images, output)),
+        Verb::Serve => {
+            let images = read_all(rt, alloc, line)?;
+            as_status(serve(rt, alloc, line, images, input, output))
+        }
+        Verb::Socket => {
+            let images = read_all(rt, alloc, line)?;
+            listen(rt, alloc, line, images, faults)
+        }
+        Verb::Check => {
+            let images = gather_all(rt, alloc, line)?;
+            as_status(check(alloc, images, profile_of(line), output))
+        }
+        Verb::List => {
+            let images = read_all(rt, alloc, line)?;
+            as_status(list(rt, alloc, line, images, output))
+        }
     }
 }
 

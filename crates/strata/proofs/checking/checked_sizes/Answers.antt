@@ -1,15 +1,16 @@
+use Rattle.std.proofs.Common.{◌∙◌}
 use Rattle.std.proofs.lemmas.Result.{IfOk-from_err}
-use Rattle.strata.proofs.Sizes.{one_more}
+use Rattle.strata.proofs.Sizes.{first_refused, one_more}
 use Rattle.strata.proofs.checking.checked_sizes.Goals as goal
 
-pub loop-bytes-preserved : goal.loop-bytes-preserved
-loop-bytes-preserved g c =
+pub loop-held-preserved : goal.loop-held-preserved
+loop-held-preserved g c =
     let good = c.in_ok-checked_size.ensures.ok in
     record {
       can_next = tt;
       is_finite = tt;
       done = rw c.in_ok-push.ensures.items
-          (one_more c.loop-bytes.invariant.done c.in-Some.bytes _ c.in-Some.ensures.steps.0 _ good.0 good.1);
+          (one_more c.loop-held.invariant.done c.in-Some.held _ c.in-Some.ensures.steps.0 _ good.0 good.1);
     }
 
 pub returns-in_err-sizes-clause-ok : goal.returns-in_err-sizes-clause-ok
@@ -24,3 +25,10 @@ returns-in_err-push-clause-ok g c = IfOk-from_err c.from_residual-in_err-push.re
 
 pub returns-clause-err : goal.returns-clause-err
 returns-clause-err g c = tt
+
+pub returns-in_err-checked_size-clause-err : goal.returns-in_err-checked_size-clause-err
+returns-in_err-checked_size-clause-err g c =
+    first_refused c.loop-held.invariant.done c.in-Some.held _ c.in-Some.ensures.steps.0 _
+    (c.len-image.ensures ∙ c.loop-held.sizes.ok.0)
+    c.in_err-checked_size.field-0.0 c.in_err-checked_size.ensures.err c.from_residual-in_err-checked_size.result
+    c.from_residual-in_err-checked_size.ensures.1

@@ -1,13 +1,14 @@
 use Rattle.std.proofs.Common.{map}
 use Rattle.std.specs.Vec.Iter.{into_iter_items}
+use Rattle.image_files.specs.Opening.{held_bytes}
 use Rattle.strata.proofs.Sizes.{AreSized}
 use Rattle.strata.proofs.checking.checked_sizes.Given as goal
 
 -- the images so far are good, and these are their sizes
-abbrev pub invariant-loop-bytes : goal.invariant-loop-bytes
-invariant-loop-bytes g l = record {
-  can_next : (goal.iterator-loop-bytes g).can_next l.bytes-iterator;
-  is_finite : (goal.iterator-loop-bytes g).is_finite l.bytes-iterator;
-  done : AreSized (λ image. image.items) l.fn.profile (map (λ image. image.items) l.fn.images.items)
-      (into_iter_items l.bytes-iterator) l.sizes.items;
+abbrev pub invariant-loop-held : goal.invariant-loop-held
+invariant-loop-held g l = record {
+  can_next : (goal.iterator-loop-held g).can_next l.held-iterator;
+  is_finite : (goal.iterator-loop-held g).is_finite l.held-iterator;
+  done : AreSized held_bytes l.fn.profile (map held_bytes l.fn.images.items)
+      (into_iter_items l.held-iterator) l.sizes.items;
 }

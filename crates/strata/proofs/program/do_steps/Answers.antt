@@ -1,67 +1,94 @@
 use Rattle.std.proofs.Common.{List, ℕ, refl, subst}
 use Rattle.std.proofs.lemmas.Result.{IfOk-from_err}
-use Rattle.stack_prepare.specs.Layers.{contents_of}
+use Rattle.image_files.specs.Opening.{held_contents}
 use Rattle.strata.specs.Ending.{AreGood, AreNotGood}
 use Rattle.command_line.specs.CommandLine.{IsLineOf}
-use Rattle.strata.proofs.Ended.{all_named, ended, unread}
+use Rattle.strata.proofs.Ended.{all_held, ended, unread}
 use Rattle.strata.proofs.AtSocket.{over_there, stopped_there}
 use Rattle.command_line.specs.declared.options.Verb.TheVariants as verbs
 use Rattle.strata.proofs.program.do_steps.Goals as goal
 
-pub returns-in_err-images-clause-stopped : goal.returns-in_err-images-clause-stopped
-returns-in_err-images-clause-stopped g c = λ words read.
-    unread g.row.A.Denot _ read c.in_err-images.field-0.0 (rw c.as_slice.ensures.len at c.in_err-images.ensures.err)
+pub returns-in_err-images-in-Serve-clause-stopped : goal.returns-in_err-images-in-Serve-clause-stopped
+returns-in_err-images-in-Serve-clause-stopped g c = λ words read.
+    unread g.row.A.Denot _ read c.in_err-images-in-Serve.field-0.0 c.in_err-images-in-Serve.ensures.err
     c.from_residual.result c.from_residual.ensures.1
 
-pub returns-in-Serve : goal.returns-in-Serve
-returns-in-Serve g c =
+pub returns-in_err-images-in-Serve-clause-over : goal.returns-in_err-images-in-Serve-clause-over
+returns-in_err-images-in-Serve-clause-over g c =
+    λ words read. IfOk-from_err c.from_residual.result _ c.from_residual.ensures.0
+
+pub returns-in_err-images-in-Socket-clause-stopped : goal.returns-in_err-images-in-Socket-clause-stopped
+returns-in_err-images-in-Socket-clause-stopped g c = λ words read.
+    unread g.row.A.Denot _ read c.in_err-images-in-Socket.field-0.0 c.in_err-images-in-Socket.ensures.err
+    c.from_residual-in_err-images-in-Socket.result c.from_residual-in_err-images-in-Socket.ensures.1
+
+pub returns-in_err-images-in-Socket-clause-over : goal.returns-in_err-images-in-Socket-clause-over
+returns-in_err-images-in-Socket-clause-over g c =
+    λ words read. IfOk-from_err c.from_residual-in_err-images-in-Socket.result _ c.from_residual-in_err-images-in-Socket.ensures.0
+
+pub returns-in_err-images-in-Check-clause-stopped : goal.returns-in_err-images-in-Check-clause-stopped
+returns-in_err-images-in-Check-clause-stopped g c = λ words read.
+    unread g.row.A.Denot _ read c.in_err-images-in-Check.field-0.0 c.in_err-images-in-Check.ensures.err
+    c.from_residual-in_err-images-in-Check.result c.from_residual-in_err-images-in-Check.ensures.1
+
+pub returns-in_err-images-in-Check-clause-over : goal.returns-in_err-images-in-Check-clause-over
+returns-in_err-images-in-Check-clause-over g c =
+    λ words read. IfOk-from_err c.from_residual-in_err-images-in-Check.result _ c.from_residual-in_err-images-in-Check.ensures.0
+
+pub returns-in_err-images-in-List-clause-stopped : goal.returns-in_err-images-in-List-clause-stopped
+returns-in_err-images-in-List-clause-stopped g c = λ words read.
+    unread g.row.A.Denot _ read c.in_err-images-in-List.field-0.0 c.in_err-images-in-List.ensures.err
+    c.from_residual-in_err-images-in-List.result c.from_residual-in_err-images-in-List.ensures.1
+
+pub returns-in_err-images-in-List-clause-over : goal.returns-in_err-images-in-List-clause-over
+returns-in_err-images-in-List-clause-over g c =
+    λ words read. IfOk-from_err c.from_residual-in_err-images-in-List.result _ c.from_residual-in_err-images-in-List.ensures.0
+
+pub returns-in_ok-images-in-Serve : goal.returns-in_ok-images-in-Serve
+returns-in_ok-images-in-Serve g c =
     let line = c.args.line.now in
     let both = λ (words : List (List ℕ)) (is : IsLineOf words c.args.line.now).
-    let named = all_named line _ c.in_ok-images.images _ c.in_ok-images.ensures.ok c.as_slice.ensures.len in
+    let named = all_held line _ c.in_ok-images-in-Serve.images c.in_ok-images-in-Serve.ensures.ok in
     ended g.row.A.Denot words line _ verbs.Serve _ _ is named c.in-Serve.is c.serve.result c.as_status.result c.as_status.ensures
     c.serve.ensures.done c.serve.ensures.stopped (λ d. d) (λ fault s. s) in
     record { over = λ words read. (both words read).0; stopped = λ words read. (both words read).1 }
 
-pub returns-in-Socket-clause-over : goal.returns-in-Socket-clause-over
-returns-in-Socket-clause-over g c = λ words is.
+pub returns-in_ok-images-in-Socket-clause-over : goal.returns-in_ok-images-in-Socket-clause-over
+returns-in_ok-images-in-Socket-clause-over g c = λ words is.
     let line = c.args.line.now in
-    let named = all_named line _ c.in_ok-images.images _ c.in_ok-images.ensures.ok c.as_slice.ensures.len in
+    let named = all_held line _ c.in_ok-images-in-Socket.images c.in_ok-images-in-Socket.ensures.ok in
     over_there g.row.A.Denot _ line _ _ is named c.in-Socket.is c.listen.result c.listen.ensures.ended
 
-pub returns-in-Socket-clause-stopped : goal.returns-in-Socket-clause-stopped
-returns-in-Socket-clause-stopped g c = λ words is.
+pub returns-in_ok-images-in-Socket-clause-stopped : goal.returns-in_ok-images-in-Socket-clause-stopped
+returns-in_ok-images-in-Socket-clause-stopped g c = λ words is.
     let line = c.args.line.now in
-    let named = all_named line _ c.in_ok-images.images _ c.in_ok-images.ensures.ok c.as_slice.ensures.len in
+    let named = all_held line _ c.in_ok-images-in-Socket.images c.in_ok-images-in-Socket.ensures.ok in
     stopped_there g.row.A.Denot _ line _ _ is named c.in-Socket.is c.listen.result c.listen.ensures.stopped
 
-pub returns-in-Check : goal.returns-in-Check
-returns-in-Check g c =
+pub returns-in_ok-images-in-Check : goal.returns-in_ok-images-in-Check
+returns-in_ok-images-in-Check g c =
     let line = c.args.line.now in
     let both = λ (words : List (List ℕ)) (is : IsLineOf words c.args.line.now).
-    let named = all_named line _ c.in_ok-images.images _ c.in_ok-images.ensures.ok c.as_slice.ensures.len in
+    let named = all_held line _ c.in_ok-images-in-Check.images c.in_ok-images-in-Check.ensures.ok in
     ended g.row.A.Denot words line _ verbs.Check _ _ is named c.in-Check.is c.check.result
     c.as_status-in-Check.result c.as_status-in-Check.ensures
     c.check.ensures.done c.check.ensures.stopped (λ d. (
       refl,
-      subst (λ p. AreGood p (contents_of c.in_ok-images.images) (g.K.Sink.state c.args.output.now) (g.K.Sink.state c.check.new.output))
-          c.profile_of.ensures d,
+      subst (λ p. AreGood p (held_contents c.in_ok-images-in-Check.images) (g.K.Sink.state c.args.output.now)
+          (g.K.Sink.state c.check.new.output)) c.profile_of.ensures d,
     )) (λ fault s. (
       refl,
-      subst (λ p. AreNotGood p (contents_of c.in_ok-images.images) fault (g.K.Sink.state c.args.output.now)
+      subst (λ p. AreNotGood p (held_contents c.in_ok-images-in-Check.images) fault (g.K.Sink.state c.args.output.now)
           (g.K.Sink.state c.check.new.output)) c.profile_of.ensures s,
     )) in
     record { over = λ words read. (both words read).0; stopped = λ words read. (both words read).1 }
 
-pub returns-in-List : goal.returns-in-List
-returns-in-List g c =
+pub returns-in_ok-images-in-List : goal.returns-in_ok-images-in-List
+returns-in_ok-images-in-List g c =
     let line = c.args.line.now in
     let both = λ (words : List (List ℕ)) (is : IsLineOf words c.args.line.now).
-    let named = all_named line _ c.in_ok-images.images _ c.in_ok-images.ensures.ok c.as_slice.ensures.len in
+    let named = all_held line _ c.in_ok-images-in-List.images c.in_ok-images-in-List.ensures.ok in
     ended g.row.A.Denot words line _ verbs.List _ _ is named c.in-List.is c.list.result
     c.as_status-in-List.result c.as_status-in-List.ensures
     c.list.ensures.done c.list.ensures.stopped (λ d. (refl, d)) (λ fault s. (refl, s)) in
     record { over = λ words read. (both words read).0; stopped = λ words read. (both words read).1 }
-
-pub returns-in_err-images-clause-over : goal.returns-in_err-images-clause-over
-returns-in_err-images-clause-over g c =
-    λ words read. IfOk-from_err c.from_residual.result _ c.from_residual.ensures.0
