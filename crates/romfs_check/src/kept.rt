@@ -1,8 +1,6 @@
 //! Whether what is kept of an image that stays in its file is sound.
 
-ghost use Rattle.std.specs.Prelude.{◌≡◌, ◌≤◌, length, IfOk, IfErr};
-ghost use Rattle.romfs_format.specs.declared.limits.TheConstants.{HEAD_SIZE};
-ghost use Rattle.romfs_format.specs.Fields.{image, word as word_of};
+ghost use Rattle.std.specs.Prelude.{IfOk, IfErr};
 ghost use Rattle.romfs_check.specs.Checks.{IsCheckedWithRows};
 ghost use Rattle.romfs_check.specs.Refusals.{IsRefusal};
 
@@ -10,11 +8,11 @@ use crate::check::{hold, rows_of};
 use crate::refusal::CheckFault;
 use attribute_rows::Rows;
 use held_image::Kept;
-use held_image::read::word;
 use romfs_format::Profile;
+use romfs_reader::KeptImage;
 use std::alloc::Allocator;
 
-/// Checks what is kept of an image, by the rules of a profile, and gives back what is kept of its
+/// Checks what is kept of an image, by the rules of a profile, and keeps what is kept of its
 /// accessible bytes, with the rows that the profile shows beside it. Nothing else of the image is
 /// looked at: of a trailer that was not kept nothing is said. The blocks of one that was are let
 /// go.
@@ -23,26 +21,16 @@ use std::alloc::Allocator;
 /// bytes are known it is the fault of these bytes ([`laws`](crate::laws)). `Memory` comes only
 /// where memory was refused. It takes the steps and the memory of that check, and 28 bytes for each
 /// row.
+#[tactic(auto, using(romfs_format::proofs::Faults::profile_sound))]
 pub fn check_kept<A: Allocator + Copy>(
     alloc: A,
     kept: Kept<A>,
     profile: Profile,
-) -> Result<(Kept<A>, Rows<A>), CheckFault>
+) -> Result<(KeptImage<A>, Rows<A>), CheckFault>
     ensures ok { IfOk result (λ both. IsCheckedWithRows profile kept both.0 both.1) }
     ensures err { IfErr result (IsRefusal profile kept) }
 {
     hold(alloc, &kept.held(), profile)?;
     let rows = rows_of(alloc, &kept.held(), profile)?;
-    Ok((accessible(kept), rows))
-}
-
-/// What is kept of the accessible bytes.
-#[tactic(auto, unfolding(romfs_format::specs::Fields::image))]
-fn accessible<A: Allocator>(kept: Kept<A>) -> Kept<A>
-    requires long { HEAD_SIZE ≤ length kept }
-    requires within { word_of kept 8 ≤ length kept }
-    ensures { result ≡ image kept }
-{
-    let full = word(&kept.held(), 8);
-    kept.first(full)
+    Ok((KeptImage::of_sound(kept), rows))
 }

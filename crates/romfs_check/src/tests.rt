@@ -28,8 +28,8 @@ fn kept<A: Allocator + Copy>(alloc: A, bytes: &[u8]) -> Result<KeptImage<A>, Che
     let Ok(gathered) = gather(alloc, &InMemory::new(bytes)) else {
         return Err(CheckFault::Memory);
     };
-    let (kept, _rows) = check_kept(alloc, gathered, Profile::Usual)?;
-    Ok(KeptImage::of_sound(kept))
+    let (image, _rows) = check_kept(alloc, gathered, Profile::Usual)?;
+    Ok(image)
 }
 
 /// What is read of it.

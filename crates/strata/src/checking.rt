@@ -98,8 +98,8 @@ fn full_size<A: Allocator + Copy>(
 {
     match held {
         HeldImage::Kept(kept) => {
-            let (kept, _rows) = check_kept(alloc, kept, profile)?;
-            Ok(kept.held().len() as u32)
+            let (image, _rows) = check_kept(alloc, kept, profile)?;
+            Ok(image.full())
         }
         HeldImage::Whole(bytes) => Ok(Image::check_as(alloc, bytes, profile)?.full()),
     }
