@@ -4,6 +4,7 @@ use super::program::{file_path, image_file, status_of};
 use std::alloc::Global;
 use std::fs::{self, Files};
 use std::net::Net;
+use std::os::unix::fs::FileExt;
 use std::test::Fail;
 use std::thread::Threads;
 use test_kit::memories::{Memories, refuse_in_turn};
@@ -18,7 +19,7 @@ fn is_told<R: Files + Net + Threads + Sync>(
     whole: &[u8],
 ) -> bool
 where
-    R::File: Send,
+    R::File: FileExt + Send,
     R::Dir: Send,
 {
     let (global, refusing) = (memories.global, &memories.refusing);
@@ -36,7 +37,7 @@ where
 /// nothing else.
 fn version_is_told<R: Files + Net + Threads + Sync>(rt: &R, memories: &Memories) -> bool
 where
-    R::File: Send,
+    R::File: FileExt + Send,
     R::Dir: Send,
 {
     let (global, refusing) = (memories.global, &memories.refusing);
@@ -59,7 +60,7 @@ fn told_refusals<R: Files + Net + Threads + Sync>(
     whole: &[u8],
 ) -> Result<u64, u64>
 where
-    R::File: Send,
+    R::File: FileExt + Send,
     R::Dir: Send,
 {
     refuse_in_turn(global, |memories| is_told(rt, memories, words, whole))

@@ -5,6 +5,7 @@ use std::alloc::{Allocator, Global};
 use std::fs::{self, Files};
 use std::io::{self, Error, Read, Write};
 use std::net::Net;
+use std::os::unix::fs::FileExt;
 use std::test::Fail;
 use std::thread::Threads;
 use strata::command;
@@ -63,7 +64,7 @@ fn status_of<R: Files + Net + Threads + Sync, A: Allocator + Copy + Send + Sync>
     line: &[u8],
 ) -> Option<u8>
 where
-    R::File: Send,
+    R::File: FileExt + Send,
     R::Dir: Send,
 {
     let input = Messages(&REQUESTS);
@@ -96,7 +97,7 @@ fn replies_of(alloc: Global, left: Option<u32>, number: i32) -> Replies {
 /// replies; or else wrote both.
 fn is_told<R: Files + Net + Threads + Sync>(rt: &R, memories: &Memories, words: &[&str]) -> bool
 where
-    R::File: Send,
+    R::File: FileExt + Send,
     R::Dir: Send,
 {
     let (global, refusing) = (memories.global, &memories.refusing);
@@ -133,7 +134,7 @@ fn end_of<R: Files + Net + Threads + Sync>(
     number: i32,
 ) -> (Option<u8>, usize)
 where
-    R::File: Send,
+    R::File: FileExt + Send,
     R::Dir: Send,
 {
     let mut replies = replies_of(global, Some(left), number);
@@ -146,7 +147,7 @@ where
 /// alone.
 fn end_at<R: Files + Net + Threads + Sync>(rt: &R, global: Global, words: &[&str]) -> Option<u8>
 where
-    R::File: Send,
+    R::File: FileExt + Send,
     R::Dir: Send,
 {
     let mut replies = replies_of(global, None, ENODEV);

@@ -4,6 +4,7 @@ use std::alloc::{Allocator, Global};
 use std::fs::Files;
 use std::io::{self, Read, Write};
 use std::net::Net;
+use std::os::unix::fs::FileExt;
 use std::test::Fail;
 use std::thread::Threads;
 use std::{env, fs, process};
@@ -19,7 +20,7 @@ pub fn status_of<
     O: Write + Drop,
 >(rt: &R, global: Global, alloc: A, words: &[&str], input: I, output: O, line: &[u8]) -> Option<u8>
 where
-    R::File: Send,
+    R::File: FileExt + Send,
     R::Dir: Send,
 {
     let mut faults = Vec::new(global);
