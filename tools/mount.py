@@ -45,7 +45,7 @@ class Plan(argparse.Namespace):
     name, source = "strata-mount", "strata"
     program, images, folder = STRATA, (), None
     words, owner, workers, readers = (), None, None, None
-    background = strict = replace = debug = verify = False
+    background = strict = whole = replace = debug = verify = False
     may_replace, stats, store = True, None, None
     # open files that mark layers of the store as in use while strata runs
     marks = ()
@@ -124,7 +124,7 @@ def answers_first(plan, server):
     asking.start()
     if sys.stderr.isatty() and not plan.is_relayed():
         import mount_progress
-        mount_progress.watch(asking, server.pid, plan.images)
+        mount_progress.watch(asking, server.pid, plan.images if plan.whole else None)
     asking.join()
     return told[0]
 
@@ -133,7 +133,7 @@ def answers_first(plan, server):
 
 def serve_words(plan):
     """How strata is called."""
-    words = [plan.program, "serve", "--device", "--attributes", *["--strict"] * plan.strict]
+    words = [plan.program, "serve", "--device", "--attributes", *["--strict"] * plan.strict, *["--whole"] * plan.whole]
     words += ["--workers", str(plan.workers)] * (plan.workers is not None)
     words += ["--readers", str(plan.readers)] * (plan.readers is not None)
     words += ["--owner", plan.owner] * (plan.owner is not None)
@@ -275,6 +275,7 @@ def settle(plan, options):
     relayed = [RELAYED_READ] * (plan.is_relayed() and "max_read" not in {it.partition("=")[0] for it in options.mount})
     plan.words = [*WORDS.split(","), *relayed, *options.mount]
     plan.strict = plan.strict or "strict" in options.strata
+    plan.whole = "whole" in options.strata
     plan.workers = options.strata.get("workers")
     plan.readers = options.strata.get("readers")
     plan.owner = options.owner()
@@ -286,8 +287,8 @@ def parser_of(name):
         epilog="DIR shows what the stacked images show until `umount DIR`, or `fusermount3 -u DIR` for who is not root.")
     parser.add_argument("--background", action="store_true", help="return once the mount answers")
     parser.add_argument("-o", metavar="OPTIONS", default="",
-                        help="allow_other, noexec, max_read=N, .. of the mount; strict, workers=N, readers=N, uid=N, "
-                        "gid=N of strata")
+                        help="allow_other, noexec, max_read=N, .. of the mount; strict, whole, workers=N, readers=N, "
+                        "uid=N, gid=N of strata")
     parser.add_argument("--strict", action="store_true", help="ask a right checksum of every header, too")
     parser.add_argument("--replace", action="store_true", help="take a dead mount away that stands at DIR")
     parser.add_argument("--store", metavar="DIR", help="the store of container images, in which names that are no files are")

@@ -16,7 +16,7 @@ IGNORED_FRONTS = ("x-", "X-")
 # what is no word of -o, since strata-mount says it itself, or it is fusermount3's own affair
 OWN = ("fd", "rootmode", "user_id", "group_id", "fsname", "subtype", "auto_unmount")
 # strata's own words, and whether a number stands behind them
-STRATA = {"strict": False, "workers": True, "readers": True, "uid": True, "gid": True}
+STRATA = {"strict": False, "whole": False, "workers": True, "readers": True, "uid": True, "gid": True}
 OWNER_MOST = 2 ** 32 - 1
 
 # words stand between commas, but for those in quotation marks

@@ -25,9 +25,11 @@ def read_by(process):
 
 
 def watch(asking, server, images):
-    """Tells how far a server is until a thread has ended, which asks whether the mount answers."""
-    total = sum(map(size_of, images))
+    """Tells how far a server is until a thread has ended, which asks whether the mount answers. Of images that are read whole
+    it is known how many bytes there are; else, with None, how many were read is all that is told."""
+    total = sum(map(size_of, images)) if images else None
     with Progress("images", total) as progress:
         while asking.is_alive():
-            progress.add(min(read_by(server), total) - progress.count)
+            count = read_by(server)
+            progress.add((count if total is None else min(count, total)) - progress.count)
             asking.join(STEP)

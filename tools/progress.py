@@ -9,7 +9,8 @@ MEGABYTE = 1_000_000
 
 
 class Progress:
-    """Bytes of all. `add` tells how many more were read; `end` takes the line away."""
+    """Bytes of all, or None where it is not known how many there are. `add` tells how many more
+    were read; `end` takes the line away."""
 
     def __init__(self, what, total):
         self.what, self.total, self.count = what, total, 0
@@ -23,7 +24,8 @@ class Progress:
         self.count += count
         if self.is_shown and time.monotonic() >= self.due:
             self.due, self.is_written = time.monotonic() + NEXT_AFTER, True
-            line = "%s: %d of %d MB" % (self.what, self.count // MEGABYTE, self.total // MEGABYTE)
+            of_all = "" if self.total is None else " of %d" % (self.total // MEGABYTE)
+            line = "%s: %d%s MB" % (self.what, self.count // MEGABYTE, of_all)
             sys.stderr.write("\r" + line + "\x1b[K")
             sys.stderr.flush()
 

@@ -3,7 +3,8 @@
 python3 checks fuzz PROGRAM [--seed N] [--tries N] [--minutes N] [PART..]
 
 Each try of a part makes its inputs of a seed of its own, from N (1) on, and goes by any plan, strictly or not, with attributes or
-not, and with any owner. Some images have an attribute trailer, right or broken. The parts:
+not, over images that stay in their files or are read whole, and with any owner. Some images have an attribute trailer, right or
+broken. The parts:
 
 - `images`: images, most of them broken, through `check` and `list`; `stacks`: stacks of 1 to 6 layers, too.
 - `streams`: requests over such stacks through `serve`, from files and through pipes in pieces, lastingly or not, with
@@ -45,11 +46,12 @@ MOST_PACKET = 131072
 # --- images ---
 
 class Profile:
-    """By which rules images are looked at, and whether their trailers are read: at random, `--strict` so often as is said."""
+    """By which rules images are looked at, whether their trailers are read, and whether they are read whole, which changes
+    nothing: at random, `--strict` so often as is said."""
 
     def __init__(self, rng, strictly):
         self.strict, self.attributes = rng.random() < strictly, rng.random() < 0.4
-        self.words = ["--strict"] * self.strict + ["--attributes"] * self.attributes
+        self.words = ["--strict"] * self.strict + ["--attributes"] * self.attributes + ["--whole"] * (rng.random() < 0.3)
         self.rules = self.strict, self.attributes
 
     def images(self, rng, images):

@@ -15,7 +15,7 @@ NOT_MOUNTED, WRONG_WORDS = 32, 1
 OTHER = 65534
 # every word of fstab(5) and mount(8) that says when, by whom, or how a file system of the usual kind is mounted
 FSTAB_WORDS = ("defaults,auto,nouser,nofail,_netdev,nonempty,async,relatime,nodiratime,lazytime,x-systemd.automount,"
-               "x-systemd.requires=srv.mount,X-mount.mkdir,comment=of a tree,strict,workers=2,noexec,nosuid,nodev,allow_other")
+               "x-systemd.requires=srv.mount,X-mount.mkdir,comment=of a tree,strict,whole,workers=2,noexec,nosuid,nodev,allow_other")
 
 
 def tried(root):
@@ -115,7 +115,7 @@ def words(root):
         done = root.run("mount", "-t", "strata", STACK, "/srv/made", "-o", said)
         hold("the status of -o %s" % said, WRONG_WORDS, done.status)
         hold_in("-o " + said, "mount.strata: -o: not known: nonsense", done.err)
-    for said in ("workers=many", "strict=yes", "fd=3", "uid=-1"):
+    for said in ("workers=many", "strict=yes", "whole=yes", "fd=3", "uid=-1"):
         hold("the status of -o %s" % said, WRONG_WORDS, root.run("mount", "-t", "strata", STACK, "/srv/made", "-o", said).status)
     hold("mounts", [], places())
     owner(root)

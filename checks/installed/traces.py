@@ -91,7 +91,8 @@ def stats(root):
 
 
 def progress(root):
-    """Where the images take more than a second, a line on a terminal says how far they are, and none in a log."""
+    """Where the images take more than a second, a line on a terminal says how far they are, and of how many bytes where they
+    are read whole. A log has none."""
     root.install()
     slow, place = "/tmp/slow", "/mnt/slow"
     os.mkdir(place)
@@ -99,24 +100,30 @@ def progress(root):
         out.write("#!/bin/sh\nuntil [ -e /tmp/go ]; do sleep 0.1; done\nexec /usr/local/bin/strata \"$@\"\n")
     os.chmod(slow, 0o755)
     words = ["strata-mount", "--background", "--strata", slow, "/srv/lower.romfs", place]
-    ours, theirs = pty.openpty()
-    child = subprocess.Popen(words, stdin=subprocess.DEVNULL, stderr=theirs)
-    os.close(theirs)
-    text = b""
-    while b"images: 0 of 0 MB" not in text:
-        text += os.read(ours, 4096)
-    go()
-    text += rest_of(ours)
-    hold("the status", 0, child.wait())
-    hold("the line is taken away", b"\r\x1b[K", text[-4:])
-    root.good("umount", place)
-    os.unlink("/tmp/go")
+    for more, line in (([], b"images: 0 MB"), (["-o", "whole"], b"images: 0 of 0 MB")):
+        hold_progress([*words, *more], line)
+        root.good("umount", place)
+        os.unlink("/tmp/go")
     child = subprocess.Popen(words, stdin=subprocess.DEVNULL, stderr=subprocess.PIPE)
     time.sleep(1.5)
     go()
     hold("what a log holds", (b"", 0), (child.communicate()[1], child.returncode))
     root.good("umount", place)
     return "one line on a terminal, taken away at the end; nothing in a log"
+
+
+def hold_progress(words, line):
+    """Holds that a mount on a terminal writes this line and takes it away."""
+    ours, theirs = pty.openpty()
+    child = subprocess.Popen(words, stdin=subprocess.DEVNULL, stderr=theirs)
+    os.close(theirs)
+    text = b""
+    while line not in text:
+        text += os.read(ours, 4096)
+    go()
+    text += rest_of(ours)
+    hold("the status", 0, child.wait())
+    hold("the line is taken away", b"\r\x1b[K", text[-4:])
 
 
 def go():

@@ -76,7 +76,8 @@ plan_options = value_option (codes "workers") ∷ value_option (codes "batch") �
 
 -- the images, and how they are taken
 abbrev pub images : List Rule
-images = flag (codes "strict") ∷ flag (codes "attributes") ∷ words (codes "image") ∷ []
+images = flag (codes "strict") ∷ flag (codes "attributes") ∷ flag (codes "whole")
+    ∷ words (codes "image") ∷ []
 
 -- the images that are served, what the client is told of them, and whom their files belong to
 abbrev pub served_images : List Rule
@@ -200,6 +201,7 @@ pub record LineParts : Type 0 where
   pub verb : Verb
   pub strict : Bool
   pub attributes : Bool
+  pub whole : Bool
   pub device : Bool
   pub readers : ℕ
   pub lasting : Bool
@@ -225,6 +227,7 @@ parts_of verb rows = record {
   verb = verb;
   strict = is_given (codes "strict") rows;
   attributes = is_given (codes "attributes") rows;
+  whole = is_given (codes "whole") rows;
   device = is_given (codes "device") rows;
   readers = number_in (codes "readers") rows;
   lasting = is_given (codes "lasting") rows;
@@ -245,6 +248,7 @@ parts_in line = record {
   verb = line.verb;
   strict = line.strict;
   attributes = line.attributes;
+  whole = line.whole;
   device = line.device;
   readers = line.readers;
   lasting = line.lasting;
@@ -347,7 +351,8 @@ IsFlagFilled id rows = MatchOption (one_of id rows) (is_given id rows ≡ false)
 
 -- the flags of the program
 abbrev pub flags : List Text
-flags = codes "strict" ∷ codes "attributes" ∷ codes "device" ∷ codes "lasting" ∷ []
+flags = codes "strict" ∷ codes "attributes" ∷ codes "whole" ∷ codes "device" ∷ codes "lasting"
+    ∷ []
 
 -- the option of this name is one of them
 abbrev pub is_flag : Text → Bool

@@ -24,6 +24,7 @@ plain verb images = record {
   verb = verb;
   strict = false;
   attributes = false;
+  whole = false;
   device = false;
   readers = 1;
   lasting = false;
@@ -54,7 +55,7 @@ pub record ReadsAs (text : Text) (parts : LineParts) : Type 0 where
 abbrev pub every_option : Text
 every_option =
     codes "serve --workers 2 --batch 3 --requests q --replies r --balances b --readers 6"
-    ++ codes " --owner 7:8 --attributes --strict --lasting f"
+    ++ codes " --owner 7:8 --attributes --strict --whole --lasting f"
 
 -- words that are a command, and what they say
 pub record TakenLines : Type 0 where
@@ -64,11 +65,15 @@ pub record TakenLines : Type 0 where
       (record (plain verbs.Check (codes "a")) { strict = true })
   pub check_attributes : ReadsAs (codes "check --attributes a")
       (record (plain verbs.Check (codes "a")) { attributes = true })
+  pub check_whole : ReadsAs (codes "check --whole a")
+      (record (plain verbs.Check (codes "a")) { whole = true })
   pub list_one : ReadsAs (codes "list f.img") (plain verbs.List (codes "f.img"))
   pub list_strict : ReadsAs (codes "list a b --strict")
       (record (plain verbs.List (codes "a b")) { strict = true })
   pub list_attributes : ReadsAs (codes "list a b --attributes")
       (record (plain verbs.List (codes "a b")) { attributes = true })
+  pub list_whole : ReadsAs (codes "list a --whole b")
+      (record (plain verbs.List (codes "a b")) { whole = true })
   pub serve_one : ReadsAs (codes "serve f.img") (plain verbs.Serve (codes "f.img"))
   pub serve_device : ReadsAs (codes "serve --device --workers 2 f")
       (record (plain verbs.Serve (codes "f")) { device = true; workers = 2 })
@@ -81,6 +86,7 @@ pub record TakenLines : Type 0 where
         verb = verbs.Serve;
         strict = true;
         attributes = true;
+        whole = true;
         device = false;
         readers = 6;
         lasting = true;
@@ -97,10 +103,11 @@ pub record TakenLines : Type 0 where
   pub socket_one : ReadsAs (codes "socket --listen s f") (at_socket (codes "s") (codes "f"))
   pub socket_options : ReadsAs
       (codes "socket --workers 2 --batch 3 --listen s --sessions 5 --lasting --strict"
-      ++ codes " --owner 7:8 --attributes f g")
+      ++ codes " --owner 7:8 --attributes --whole f g")
       (record (at_socket (codes "s") (codes "f g")) {
         strict = true;
         attributes = true;
+        whole = true;
         lasting = true;
         workers = 2;
         batch = 3;
@@ -153,7 +160,9 @@ pub record RefusedLines : Type 0 where
   pub option_twice : HasOneFault (codes "serve --requests=a --requests=b c") kind.ArgumentConflict
   pub number_twice : HasOneFault (codes "serve --workers 4 --workers 4 a") kind.ArgumentConflict
   pub flag_twice : HasOneFault (codes "check --strict --strict a") kind.ArgumentConflict
+  pub whole_twice : HasOneFault (codes "list --whole a --whole") kind.ArgumentConflict
   pub flag_with_value : HasOneFault (codes "check --strict=true a") kind.TooManyValues
+  pub whole_with_value : HasOneFault (codes "serve --whole=x a") kind.TooManyValues
   pub option_without_file : HasOneFault (codes "serve a --requests") kind.InvalidValue
   pub device_of_check : HasOneFault (codes "check --device a") kind.UnknownArgument
   pub lasting_list : HasOneFault (codes "list --lasting a") kind.UnknownArgument

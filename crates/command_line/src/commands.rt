@@ -109,6 +109,12 @@ const ATTRIBUTES: Argument = Argument {
     help: "Reads owners, modes and times that stand behind images",
 };
 
+const WHOLE: Argument = Argument {
+    name: "whole",
+    form: Form::Flag,
+    help: "Reads images whole into memory, in place of leaving them in their files",
+};
+
 const OWNER: Argument = Argument {
     name: "owner",
     form: Form::Value("UID:GID"),
@@ -168,7 +174,7 @@ fn serve<'a>(alloc: Global) -> Result<Command<'a>, AllocError>
         "Answers FUSE requests over the stacked images",
         &[
             WORKERS, BATCH, REQUESTS, REPLIES, BALANCES, DEVICE, READERS, LASTING, OWNER, STRICT,
-            ATTRIBUTES, IMAGE,
+            ATTRIBUTES, WHOLE, IMAGE,
         ],
     )
 }
@@ -181,7 +187,7 @@ fn socket<'a>(alloc: Global) -> Result<Command<'a>, AllocError>
         "socket",
         "Answers FUSE requests of one client after another at a Unix socket",
         &[
-            WORKERS, BATCH, LISTEN, SESSIONS, LASTING, OWNER, STRICT, ATTRIBUTES, IMAGE,
+            WORKERS, BATCH, LISTEN, SESSIONS, LASTING, OWNER, STRICT, ATTRIBUTES, WHOLE, IMAGE,
         ],
     )
 }
@@ -190,7 +196,7 @@ fn socket<'a>(alloc: Global) -> Result<Command<'a>, AllocError>
 fn over_images<'a>(alloc: Global, name: &'a str, about: &'a str) -> Result<Command<'a>, AllocError>
     ensures { IsApp result (images_command name.entry.now) }
 {
-    command_with(alloc, name, about, &[STRICT, ATTRIBUTES, IMAGE])
+    command_with(alloc, name, about, &[STRICT, ATTRIBUTES, WHOLE, IMAGE])
 }
 
 // The command of this name, with these arguments.

@@ -35,6 +35,8 @@ pub struct Line<'a> {
     pub strict: bool,
     /// The attribute trailers of images are read, checked and shown.
     pub attributes: bool,
+    /// Images are read whole into memory, and not left in their files.
+    pub whole: bool,
     /// Standard input and output are one open `/dev/fuse`. No file is named in place of one of
     /// them, nor for the balances.
     pub device: bool,

@@ -1,12 +1,12 @@
 -- The opening of a session over a table: what the serving loop says of it, as what serving came to.
-use Rattle.std.proofs.Common.{◌≡◌, ◌∙◌, ap, subst, refl, ℕ, List, [], length, map, Result, Ok, Err, IsErrAnd}
+use Rattle.std.proofs.Common.{◌≡◌, ◌∙◌, ap, subst, refl, ℕ, List, length, map, Result, Ok, Err, IsErrAnd}
 use Rattle.devices.specs.States.{Devices}
-use Rattle.stack_model.specs.Numbers.{nodes}
 use Rattle.stack_model.specs.Listing.{Stacked}
-use Rattle.reply_model.specs.declared.session.Session.{Session}
+use Rattle.stack_model.specs.Numbers.{nodes}
 use Rattle.image_bytes.specs.Sources.{Source}
-use Rattle.reply_model.specs.Readings.{in_memory, sourced}
-use Rattle.reply_pool.specs.Answers.{answering, answering_from}
+use Rattle.reply_model.specs.declared.session.Session.{Session}
+use Rattle.reply_model.specs.Readings.{Sourced, sourced}
+use Rattle.reply_pool.specs.Answers.{answering_from}
 use Rattle.serve_loop.specs.declared.opening.Opening.{Opening}
 use Rattle.serve_loop.specs.declared.opening.Opening.TheVariants as openings
 use Rattle.serve_loop.specs.declared.stream_fault.StreamFault.{StreamFault}
@@ -16,41 +16,35 @@ use Rattle.serve_core.specs.declared.stop.Stop.{Stop}
 use Rattle.serve_core.specs.Stops.{stop_of_fault}
 use Rattle.device_readers.specs.Readers.{IsOpenedOver}
 
--- over a stack without files all layers are held
-pub held_alone : {D : Type 0} (source : D → Source) (stack other : Stacked) (files : List D) → stack ≡ other → files ≡ []
-    → sourced stack (map source files) ≡ in_memory other
-held_alone source stack other files e none = ap (λ s. sourced s (map source files)) e ∙ ap (λ fs. sourced other (map source fs)) none
+-- the same stack with the same files gives the same
+pub same_served : {D : Type 0} (source : D → Source) (stack other : Stacked) (files more : List D) → stack ≡ other → files ≡ more
+    → sourced stack (map source files) ≡ sourced other (map source more)
+same_served source stack other files more e f =
+    ap (λ s. sourced s (map source files)) e ∙ ap (λ fs. sourced other (map source fs)) f
 
--- what the loop says of a stream that begins in this session, over a stack
-abbrev pub Opened : {A : Type 0} → ℕ → Result (Opening A) StreamFault → Devices → Devices → Session → Stacked → Type 0
-Opened turns result old new first stack = Does (λ t. IsOpened (answering first stack) (length (nodes stack.entries)) turns t result) old new
+-- what the loop says of a stream that begins in this session, over a stack and its sources
+abbrev pub Opened : {A : Type 0} → ℕ → Result (Opening A) StreamFault → Devices → Devices → Session → Sourced → Type 0
+Opened turns result old new first by =
+    Does (λ t. IsOpened (answering_from first by) (length (nodes by.stack.entries)) turns t result) old new
 
 module _ {A : Type 0} (turns : ℕ) (old new : Devices) where
-  -- the same over a stack and some files of its layers
-  abbrev OpenedFrom : {D : Type 0} → Result (Opening A) StreamFault → (D → Source) → Session → Stacked → List D → Type 0
-  OpenedFrom result source first stack files =
-      Does (λ t. IsOpened (answering_from first (sourced stack (map source files))) (length (nodes stack.entries)) turns t result) old new
-
-  -- the same of the session and the stack that a pool was made of, which has no files
-  pub opened_by : {D : Type 0} (result : Result (Opening A) StreamFault) (source : D → Source) (first second : Session)
-      (stack other : Stacked) (files : List D) → first ≡ second
-      → stack ≡ other → files ≡ []
-      → OpenedFrom result source first stack files → Opened turns result old new second other
-  opened_by result source first second stack other files e f none o =
-      subst (λ fs. OpenedFrom result source second other fs) none
-      (subst (λ s. OpenedFrom result source second s files) f (subst (λ s. OpenedFrom result source s stack files) e o))
+  -- the same of the session and the stack that a pool was made of
+  pub opened_by : (result : Result (Opening A) StreamFault) (first second : Session) (over by : Sourced) → first ≡ second → over ≡ by
+      → Opened turns result old new first over → Opened turns result old new second by
+  opened_by result first second over by e same o =
+      subst (λ b. Opened turns result old new second b) same (subst (λ s. Opened turns result old new s over) e o)
 
   -- it stopped
-  pub open_stopped : (first : Session) (stack : Stacked) (fault : StreamFault) (result : Result (Opening A) Stop)
+  pub open_stopped : (first : Session) (by : Sourced) (fault : StreamFault) (result : Result (Opening A) Stop)
       → IsErrAnd result (λ said. said ≡ stop_of_fault fault)
-      → Opened {A = A} turns (Err fault) old new first stack → Does (λ t. IsOpenedOver first stack turns t result) old new
-  open_stopped first stack fault (Ok opening) e o = absurd e
-  open_stopped first stack fault (Err said) e (got, put, took, held, run) =
+      → Opened {A = A} turns (Err fault) old new first by → Does (λ t. IsOpenedOver first by turns t result) old new
+  open_stopped first by fault (Ok opening) e o = absurd e
+  open_stopped first by fault (Err said) e (got, put, took, held, run) =
       (got, put, took, held, record { ended = Err fault; result_is = ap Err e; run = run })
 
   -- the session has begun, or the stream came to its end before
-  pub opened_well : (first : Session) (stack : Stacked) (opening : Opening A) → Opened turns (Ok opening) old new first stack
-      → Does (λ t. IsOpenedOver first stack turns t (Ok opening)) old new
-  opened_well first stack (openings.Begun begun) o = o
-  opened_well first stack (openings.Ended done) (got, put, took, held, run) =
+  pub opened_well : (first : Session) (by : Sourced) (opening : Opening A) → Opened turns (Ok opening) old new first by
+      → Does (λ t. IsOpenedOver first by turns t (Ok opening)) old new
+  opened_well first by (openings.Begun begun) o = o
+  opened_well first by (openings.Ended done) (got, put, took, held, run) =
       (got, put, took, held, record { ended = Ok done; result_is = refl; run = run })

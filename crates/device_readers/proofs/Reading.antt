@@ -8,9 +8,9 @@ use Rattle.devices.specs.declared.counts.Pulls.{Pulls}
 use Rattle.devices.specs.declared.counts.Pushes.{Pushes}
 use Rattle.devices.specs.declared.limits.TheConstants.{MAX_TURNS}
 use Rattle.stack_model.specs.Numbers.{nodes}
-use Rattle.stack_model.specs.Listing.{Stacked}
 use Rattle.reply_model.specs.declared.session.Session.{Session}
-use Rattle.reply_pool.specs.Answers.{answering}
+use Rattle.reply_model.specs.Readings.{Sourced}
+use Rattle.reply_pool.specs.Answers.{answering_from}
 use Rattle.serve_loop.specs.declared.done.Done.{Done}
 use Rattle.serve_loop.specs.declared.opening.Begun.{Begun}
 use Rattle.serve_loop.specs.declared.opening.Opening.TheVariants as openings
@@ -19,7 +19,7 @@ use Rattle.serve_loop.proofs.Runs.{no_memory}
 use Rattle.serve_core.specs.declared.stop.Stop.{Stop}
 use Rattle.serve_core.specs.declared.stop.Stop.TheVariants.{Memory}
 use Rattle.serve_loop.specs.declared.stream_fault.StreamFault.TheVariants as faults
-use Rattle.serve_core.specs.Headline.{IsRunOver}
+use Rattle.serve_core.specs.Headline.{IsRunFrom}
 use Rattle.device_readers.specs.declared.ends.Ended.{Ended}
 use Rattle.device_readers.specs.Crews.{IsOfEach, IsOfLed, alone, by_itself, halves, with_others}
 use Rattle.device_readers.specs.Ends.{IsBehind, IsOfBoth, done_of, end_of}
@@ -38,13 +38,13 @@ Both = λ low high all. IsOfBoth low high all
 new_counts : (old : Devices) → old.source.counts ≡ no_pulls → old.sink.counts ≡ no_pushes → counts_of old ≡ unused
 new_counts old p q = ap₂ (λ (x : Pulls) (y : Pushes). (let c : Counts = record { pulls = x; pushes = y } in c)) p q
 
-module _ {A : Type 0} (first : Session) (stack : Stacked) (turns : ℕ) where
+module _ {A : Type 0} (first : Session) (by : Sourced) (turns : ℕ) where
   -- a reader by what its devices were before and are
   pub by_devices : (result : Result (Done A) Stop) (old new : Devices) (input output : Bool) (ended : Ended A)
-      → Does (λ t. IsRunOver first stack turns t result) old new → (IsTrue input → 0 < new.source.counts.failures)
+      → Does (λ t. IsRunFrom first by turns t result) old new → (IsTrue input → 0 < new.source.counts.failures)
       → (IsTrue output → 0 < new.sink.counts.failures) → ended.end ≡ end_of result input output
       → IfOk ended.done (λ v. v.items ≡ done_of result)
-      → IsAlone first stack turns (counts_of old) ended
+      → IsAlone first by turns (counts_of old) ended
   by_devices result old new input output ended (got, put, took, held, run) i o end done =
       let r : Reader A = record {
         trace = trace got put old.source.counts new.source.counts old.sink.counts new.sink.counts;
@@ -61,17 +61,17 @@ module _ {A : Type 0} (first : Session) (stack : Stacked) (turns : ℕ) where
   -- a reader whose devices were new
   pub by_new_devices : (result : Result (Done A) Stop) (old new : Devices) (input output : Bool) (ended : Ended A)
       → old.source.counts ≡ no_pulls → old.sink.counts ≡ no_pushes
-      → Does (λ t. IsRunOver first stack turns t result) old new → (IsTrue input → 0 < new.source.counts.failures)
+      → Does (λ t. IsRunFrom first by turns t result) old new → (IsTrue input → 0 < new.source.counts.failures)
       → (IsTrue output → 0 < new.sink.counts.failures) → ended.end ≡ end_of result input output
       → IfOk ended.done (λ v. v.items ≡ done_of result)
-      → IsAlone first stack turns unused ended
+      → IsAlone first by turns unused ended
   by_new_devices result old new input output ended p q does i o end done =
-      subst (λ from. IsAlone first stack turns from ended) (new_counts old p q) (by_devices result old new input output ended does i o end
+      subst (λ from. IsAlone first by turns from ended) (new_counts old p q) (by_devices result old new input output ended does i o end
       done)
 
   -- a reader that had no memory for its room
   pub roomless : (ended : Ended A) → ended.end ≡ end_of {A = A} (Err Memory) false false → IfOk ended.done (λ v. v.items ≡ [])
-      → IsAlone first stack turns unused ended
+      → IsAlone first by turns unused ended
   roomless ended end done =
       let r : Reader A = record {
         trace = trace [] [] no_pulls no_pulls no_pushes no_pushes;
@@ -85,7 +85,7 @@ module _ {A : Type 0} (first : Session) (stack : Stacked) (turns : ℕ) where
           run = record {
             ended = Err faults.Memory;
             result_is = refl;
-            run = no_memory (answering first stack) (length (nodes stack.entries)) turns no_pulls no_pushes;
+            run = no_memory (answering_from first by) (length (nodes by.stack.entries)) turns no_pulls no_pushes;
           };
           first_pull = refl;
           first_push = refl;
@@ -96,7 +96,7 @@ module _ {A : Type 0} (first : Session) (stack : Stacked) (turns : ℕ) where
       }
 
   -- one new reader
-  one_new : (ended : Ended A) (count : ℕ) → count ≡ 1 → IsAlone first stack turns unused ended → AreServedNew first stack turns count ended
+  one_new : (ended : Ended A) (count : ℕ) → count ≡ 1 → IsAlone first by turns unused ended → AreServedNew first by turns count ended
   one_new ended count one a = record {
     readers = a.reader ∷ [];
     new = record { count_is = sym one; each = (a.is, tt) };
@@ -104,8 +104,8 @@ module _ {A : Type 0} (first : Session) (stack : Stacked) (turns : ℕ) where
   }
 
   -- new readers in two groups
-  both_new : (m n count : ℕ) (low high all : Ended A) → m + n ≡ count → AreServedNew first stack turns m low
-      → AreServedNew first stack turns n high → IsOfBoth low high all → AreServedNew first stack turns count all
+  both_new : (m n count : ℕ) (low high all : Ended A) → m + n ≡ count → AreServedNew first by turns m low
+      → AreServedNew first by turns n high → IsOfBoth low high all → AreServedNew first by turns count all
   both_new m n count low high all sum l h both = record {
     readers = l.readers ++ h.readers;
     new = record {
@@ -115,17 +115,17 @@ module _ {A : Type 0} (first : Session) (stack : Stacked) (turns : ℕ) where
     told = both_told l.readers h.readers low high all l.told h.told both;
   }
 
-  module _ (is : Ended A → Type 0) (each : (ended : Ended A) → is ended → IsAlone first stack turns unused ended) where
+  module _ (is : Ended A → Type 0) (each : (ended : Ended A) → is ended → IsAlone first by turns unused ended) where
     -- so many new readers, each of which came to its end by itself
-    all_new : (count : ℕ) (all : Ended A) → IsOfEach Both is count all → AreServedNew first stack turns count all
+    all_new : (count : ℕ) (all : Ended A) → IsOfEach Both is count all → AreServedNew first by turns count all
     all_new count all (alone one i) = one_new all count one (each all i)
     all_new count all (halves {m} {n} {low} {high} sum l h both) =
         both_new m n count low high all sum (all_new m low l) (all_new n high h) both
 
   -- one that goes on, and so many others
   pub led : (leads is : Ended A → Type 0) (from : Counts) (others : ℕ) (all : Ended A) → IsOfLed Both leads is others all
-      → ((ended : Ended A) → leads ended → IsAlone first stack turns from ended)
-      → ((ended : Ended A) → is ended → IsAlone first stack turns unused ended) → AreServed first stack turns from (1 + others) all
+      → ((ended : Ended A) → leads ended → IsAlone first by turns from ended)
+      → ((ended : Ended A) → is ended → IsAlone first by turns unused ended) → AreServed first by turns from (1 + others) all
   led leads is from others all (by_itself none l) on each = let a = on all l in record {
     readers = a.reader ∷ [];
     are = record {
@@ -154,7 +154,7 @@ module _ {A : Type 0} (first : Session) (stack : Stacked) (turns : ℕ) where
 
   -- where the session has begun, the devices may be used on
   pub ready_on : (old new : Devices) (begun : Begun A) → old.source.counts ≡ no_pulls → old.sink.counts ≡ no_pushes → turns ≤ MAX_TURNS
-      → Does (λ t. IsOpenedOver first stack turns t (Ok (openings.Begun begun))) old new → AreReady turns new
+      → Does (λ t. IsOpenedOver first by turns t (Ok (openings.Begun begun))) old new → AreReady turns new
   ready_on old new begun p q few (got, put, took, held, b) =
       let a = ap (λ c. c.pulls) p in let e = ap (λ c. c.ends) p in let f = ap (λ c. c.failures) p in let g = ap (λ c. c.failures) q in
       let c = b.counted in
@@ -164,9 +164,9 @@ module _ {A : Type 0} (first : Session) (stack : Stacked) (turns : ℕ) where
   -- all of them, behind the opening
   pub served_by_all : (old new : Devices) (begun : Begun A) (count others : ℕ) (rest all : Ended A) → old.source.counts ≡ no_pulls
       → old.sink.counts ≡ no_pushes
-      → Does (λ t. IsOpenedOver first stack turns t (Ok (openings.Begun begun))) old new → 1 + others ≡ count
-      → AreServed begun.session stack turns (counts_of new) (1 + others) rest → all.end ≡ rest.end
-      → IfOk all.done (λ v. IsBehind begun.done rest.done v.items) → IsServedBy first stack turns count all
+      → Does (λ t. IsOpenedOver first by turns t (Ok (openings.Begun begun))) old new → 1 + others ≡ count
+      → AreServed begun.session by turns (counts_of new) (1 + others) rest → all.end ≡ rest.end
+      → IfOk all.done (λ v. IsBehind begun.done rest.done v.items) → IsServedBy first by turns count all
   served_by_all old new begun count others rest all p q (got, put, took, held, b) sum s end done = inl (record {
     opening = trace got put old.source.counts new.source.counts old.sink.counts new.sink.counts;
     first_pull = p;
@@ -174,6 +174,6 @@ module _ {A : Type 0} (first : Session) (stack : Stacked) (turns : ℕ) where
     begun = begun;
     opened = b;
     readers = s.readers;
-    are = subst (λ n. AreReaders begun.session stack turns (counts_of new) n s.readers) sum s.are;
+    are = subst (λ n. AreReaders begun.session by turns (counts_of new) n s.readers) sum s.are;
     told = behind_told begun.done s.readers rest all s.told end done;
   })

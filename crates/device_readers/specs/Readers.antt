@@ -1,4 +1,5 @@
--- What the readers of one open /dev/fuse do, each a stream of its own over one stack.
+-- What the readers of one open /dev/fuse do, each a stream of its own over one stack and the sources
+-- of its data.
 use Rattle.std.specs.Prelude.{◌≡◌, ℕ, ◌+◌, ◌<◌, ◌⊎◌, Bool, IsTrue, List, [], ◌∷◌, ◌++◌, length, Result, Ok, Err, IfOk}
 use Rattle.std.specs.List.{AllByRecursion}
 use Rattle.devices.specs.Counting.{no_pulls, no_pushes}
@@ -6,9 +7,9 @@ use Rattle.devices.specs.declared.counts.Pulls.{Pulls}
 use Rattle.devices.specs.declared.counts.Pushes.{Pushes}
 use Rattle.devices.specs.States.{Devices}
 use Rattle.stack_model.specs.Numbers.{nodes}
-use Rattle.stack_model.specs.Listing.{Stacked}
 use Rattle.reply_model.specs.declared.session.Session.{Session}
-use Rattle.reply_pool.specs.Answers.{answering}
+use Rattle.reply_model.specs.Readings.{Sourced}
+use Rattle.reply_pool.specs.Answers.{answering_from}
 use Rattle.serve_loop.specs.declared.done.Done.{Done}
 use Rattle.serve_loop.specs.declared.opening.Begun.{Begun}
 use Rattle.serve_loop.specs.declared.opening.Opening.{Opening}
@@ -16,7 +17,7 @@ use Rattle.serve_loop.specs.declared.opening.Opening.TheVariants as openings
 use Rattle.serve_loop.specs.Serving.{Trace}
 use Rattle.serve_loop.specs.Opening.{HasBegun}
 use Rattle.serve_core.specs.declared.stop.Stop.{Stop}
-use Rattle.serve_core.specs.Headline.{IsRunOver}
+use Rattle.serve_core.specs.Headline.{IsRunFrom}
 use Rattle.device_readers.specs.declared.ends.End.{End}
 use Rattle.device_readers.specs.declared.ends.End.TheVariants.{AtEnd}
 use Rattle.device_readers.specs.declared.ends.Ended.{Ended}
@@ -48,9 +49,9 @@ pub record Reader (A : Type 0) : Type 0 where
 
 -- its messages were served over a stack as a stream that begins in this session, between devices
 -- that had these counts; a side is gone only after a failure of its own
-pub record IsReader {A : Type 0} (first : Session) (stack : Stacked) (turns : ℕ) (from : Counts)
+pub record IsReader {A : Type 0} (first : Session) (by : Sourced) (turns : ℕ) (from : Counts)
     (r : Reader A) : Type 0 where
-  pub run : IsRunOver first stack turns r.trace r.result
+  pub run : IsRunFrom first by turns r.trace r.result
   pub first_pull : r.trace.source_before ≡ from.pulls
   pub first_push : r.trace.sink_before ≡ from.pushes
   pub input : IsTrue r.input_gone → 0 < r.trace.source.failures
@@ -69,13 +70,13 @@ done_of_all (r ∷ readers) = done_of r.result ++ done_of_all readers
 
 -- a stream was served over a stack until its session had begun, or before that to its end, or until
 -- it stopped
-abbrev pub IsOpenedOver : {A : Type 0} → Session → Stacked → ℕ → Trace → Result (Opening A) Stop
+abbrev pub IsOpenedOver : {A : Type 0} → Session → Sourced → ℕ → Trace → Result (Opening A) Stop
     → Type 0
-IsOpenedOver first stack turns t (Ok (openings.Begun begun)) =
-    HasBegun (answering first stack) (length (nodes stack.entries)) turns t begun
-IsOpenedOver first stack turns t (Ok (openings.Ended done)) =
-    IsRunOver first stack turns t (Ok done)
-IsOpenedOver {A} first stack turns t (Err stop) = IsRunOver {A = A} first stack turns t (Err stop)
+IsOpenedOver first by turns t (Ok (openings.Begun begun)) =
+    HasBegun (answering_from first by) (length (nodes by.stack.entries)) turns t begun
+IsOpenedOver first by turns t (Ok (openings.Ended done)) =
+    IsRunFrom first by turns t (Ok done)
+IsOpenedOver {A} first by turns t (Err stop) = IsRunFrom {A = A} first by turns t (Err stop)
 
 -- what is told of readers, behind what came of a stream before them
 pub record TellsOf {A : Type 0} (before : List (Done A)) (readers : List (Reader A))
@@ -84,56 +85,56 @@ pub record TellsOf {A : Type 0} (before : List (Done A)) (readers : List (Reader
   pub done : IfOk ended.done (λ done. done.items ≡ before ++ done_of_all readers)
 
 -- one reader between devices that had these counts came to this
-pub record IsAlone {A : Type 0} (first : Session) (stack : Stacked) (turns : ℕ) (from : Counts)
+pub record IsAlone {A : Type 0} (first : Session) (by : Sourced) (turns : ℕ) (from : Counts)
     (ended : Ended A) : Type 0 where
   pub reader : Reader A
-  pub is : IsReader first stack turns from reader
+  pub is : IsReader first by turns from reader
   pub told : TellsOf [] (reader ∷ []) ended
 
 -- so many readers with devices of their own, each in a stream that begins in this session
-pub record AreNew {A : Type 0} (first : Session) (stack : Stacked) (turns count : ℕ)
+pub record AreNew {A : Type 0} (first : Session) (by : Sourced) (turns count : ℕ)
     (readers : List (Reader A)) : Type 0 where
   pub count_is : length readers ≡ count
-  pub each : AllByRecursion (IsReader first stack turns unused) readers
+  pub each : AllByRecursion (IsReader first by turns unused) readers
 
 -- so many readers: the first between devices that had these counts, the others new
-pub record AreReaders {A : Type 0} (first : Session) (stack : Stacked) (turns : ℕ)
+pub record AreReaders {A : Type 0} (first : Session) (by : Sourced) (turns : ℕ)
     (from : Counts) (count : ℕ) (readers : List (Reader A)) : Type 0 where
   pub leader : Reader A
   pub others : List (Reader A)
   pub readers_are : readers ≡ leader ∷ others
   pub count_is : count ≡ 1 + length others
-  pub goes_on : IsReader first stack turns from leader
-  pub new : AreNew first stack turns (length others) others
+  pub goes_on : IsReader first by turns from leader
+  pub new : AreNew first by turns (length others) others
 
 -- so many new readers came to this
-pub record AreServedNew {A : Type 0} (first : Session) (stack : Stacked) (turns count : ℕ)
+pub record AreServedNew {A : Type 0} (first : Session) (by : Sourced) (turns count : ℕ)
     (ended : Ended A) : Type 0 where
   pub readers : List (Reader A)
-  pub new : AreNew first stack turns count readers
+  pub new : AreNew first by turns count readers
   pub told : TellsOf [] readers ended
 
 -- so many readers came to this, the first of them between devices that had these counts
-pub record AreServed {A : Type 0} (first : Session) (stack : Stacked) (turns : ℕ) (from : Counts)
+pub record AreServed {A : Type 0} (first : Session) (by : Sourced) (turns : ℕ) (from : Counts)
     (count : ℕ) (ended : Ended A) : Type 0 where
   pub readers : List (Reader A)
-  pub are : AreReaders first stack turns from count readers
+  pub are : AreReaders first by turns from count readers
   pub told : TellsOf [] readers ended
 
 -- one reader served until the session had begun; from then on so many, it among them, served in
 -- that session
-pub record IsServedByAll {A : Type 0} (first : Session) (stack : Stacked) (turns count : ℕ)
+pub record IsServedByAll {A : Type 0} (first : Session) (by : Sourced) (turns count : ℕ)
     (ended : Ended A) : Type 0 where
   pub opening : Trace
   pub first_pull : opening.source_before ≡ no_pulls
   pub first_push : opening.sink_before ≡ no_pushes
   pub begun : Begun A
-  pub opened : IsOpenedOver first stack turns opening (Ok (openings.Begun begun))
+  pub opened : IsOpenedOver first by turns opening (Ok (openings.Begun begun))
   pub readers : List (Reader A)
-  pub are : AreReaders begun.session stack turns (left_by opening) count readers
+  pub are : AreReaders begun.session by turns (left_by opening) count readers
   pub told : TellsOf (begun.done ∷ []) readers ended
 
--- readers served a stack; or the one that began ended before the session had begun
-abbrev pub IsServedBy : {A : Type 0} → Session → Stacked → ℕ → ℕ → Ended A → Type 0
-IsServedBy first stack turns count ended =
-    IsServedByAll first stack turns count ended ⊎ IsAlone first stack turns unused ended
+-- readers served a stack and its sources; or the one that began ended before the session had begun
+abbrev pub IsServedBy : {A : Type 0} → Session → Sourced → ℕ → ℕ → Ended A → Type 0
+IsServedBy first by turns count ended =
+    IsServedByAll first by turns count ended ⊎ IsAlone first by turns unused ended

@@ -4,11 +4,11 @@ ghost use Rattle.std.specs.Prelude.{◌≡◌, ◌<◌, ◌+◌, ◌⊎◌, ℕ,
 ghost use Rattle.std.specs.List.{flat_map};
 ghost use Rattle.reply_model.specs.declared.session.Session.{Session};
 ghost use Rattle.reply_model.specs.Moves.{balance};
-ghost use Rattle.reply_pool.specs.Answers.{answering};
+ghost use Rattle.reply_model.specs.Readings.{Sourced};
+ghost use Rattle.reply_pool.specs.Answers.{answering_from};
 ghost use Rattle.serve_loop.specs.declared.done.Done.{Done};
 ghost use Rattle.serve_loop.specs.Rounds.{Answering};
 ghost use Rattle.serve_loop.specs.Serving.{moves_of};
-ghost use Rattle.stack_model.specs.Listing.{Stacked};
 ghost use Rattle.stack_model.specs.Numbers.{nodes};
 ghost use Rattle.device_readers.specs.declared.ends.End.TheVariants.{AtEnd};
 ghost use Rattle.device_readers.specs.declared.ends.Ended.{Ended};
@@ -31,10 +31,10 @@ pub fn first_fault_is_told<A: Allocator>()
 /// changes, that is together what one stream of all of them leaves, in whatever order.
 #[tactic(auto, using(crate::proofs::Sums::summed))]
 pub fn moves_are_summed<A: Allocator>()
-    ensures each { (session : Session) (stack : Stacked) (turns : ℕ) (from : Counts) (count : ℕ)
-        (readers : List (Reader A)) → AreReaders session stack turns from count readers →
-        (parts : List (List (List ℕ))) × CameOf (answering session stack)
-        (length (nodes stack.entries)) (done_of_all readers) parts }
+    ensures each { (session : Session) (over : Sourced) (turns : ℕ) (from : Counts) (count : ℕ)
+        (readers : List (Reader A)) → AreReaders session over turns from count readers →
+        (parts : List (List (List ℕ))) × CameOf (answering_from session over)
+        (length (nodes over.stack.entries)) (done_of_all readers) parts }
     ensures together { (by : Answering) (nodes : ℕ) (done : List (Done A))
         (parts : List (List (List ℕ))) (all : List (List ℕ)) → CameOf by nodes done parts →
         IsPermutation (flat_map (λ part. part) parts) all → KeepsSession by.first all →

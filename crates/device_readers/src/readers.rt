@@ -4,6 +4,7 @@ ghost use Rattle.std.specs.Prelude.{◌+◌, ◌<◌, ◌≤◌};
 ghost use Rattle.std.specs.Thread.{IsSync};
 ghost use denote.Param.Send.{IsSend, Frees};
 ghost use Rattle.devices.specs.declared.limits.TheConstants.{MAX_TURNS};
+ghost use Rattle.fuse_answer.specs.Puts.{sourced_by};
 ghost use Rattle.fuse_device.specs.Ends.{ends};
 ghost use Rattle.serve_loop.specs.Serving.{AreReady};
 ghost use Rattle.device_readers.specs.Readers.{AreServed, IsAlone, IsServedBy, counts_of, unused};
@@ -13,30 +14,31 @@ use crate::ends::{Ended, behind, ended_alone};
 use crate::opening::open;
 use crate::reader::{serve_alone, serve_on};
 use fuse_device::{MessageTap, ReplySpout};
-use serve_core::{Gate, SharedAllocator, Stop, Terms};
+use image_bytes::Contents;
+use serve_core::{Gate, Served, SharedAllocator, Stop, Terms};
 use serve_loop::{Begun, Opening};
 use std::io::{Read, Write};
 use std::thread::Threads;
-use table_reader::Table;
 
-/// Serves the requests of an open `/dev/fuse` over a table by so many readers, each over the same
-/// reader and writer, on these terms, and waits until all have ended.
+/// Serves the requests of an open `/dev/fuse` over a table and its files by so many readers, each
+/// over the same reader and writer, on these terms, and waits until all have ended.
 ///
 /// One reader serves alone until the session has begun. Then the others begin in that session, and
-/// each answers what it reads as [`serve_core::run`] does, with a room of 135,168 bytes and buffers
-/// and balances of its own. One that ends, or stops for a fault or for want of memory, ends alone:
-/// the others serve on. Where no thread can be started for a reader, it begins once another has
-/// ended. Where the first one ends before the session has begun, no other begins.
+/// each answers what it reads as [`serve_core::run_from`] does, with a room of 135,168 bytes and
+/// buffers and balances of its own. One that ends, or stops for a fault or for want of memory, ends
+/// alone: the others serve on. Where no thread can be started for a reader, it begins once another
+/// has ended. Where the first one ends before the session has begun, no other begins.
 pub fn serve_by_readers<
     R: Threads + Sync,
     A: SharedAllocator,
+    D: Contents + Sync,
     I: Read + Copy + Sync + Drop,
     O: Write + Copy + Sync + Drop,
     G: Gate + Sync,
 >(
     rt: &R,
     alloc: A,
-    table: &Table<A>,
+    served: Served<'_, A, D>,
     reader: I,
     writer: O,
     readers: u32,
@@ -44,14 +46,15 @@ pub fn serve_by_readers<
 ) -> Ended<A>
     requires some { 1 ≤ readers }
     requires turns { terms.now.turns ≤ MAX_TURNS }
-    ensures { IsServedBy terms.now.first table.now terms.now.turns readers result }
+    ensures { IsServedBy terms.now.first (sourced_by D.source served.entry)
+        terms.now.turns readers result }
 {
     let mut input = match MessageTap::new(alloc, reader) {
         Ok(input) => input,
         Err(_) => return ended_alone(alloc, Err(Stop::Memory), false, false),
     };
     let mut output = ReplySpout::new(writer);
-    let begun = match open(rt, alloc, table, &mut input, &mut output, terms) {
+    let begun = match open(rt, alloc, served, &mut input, &mut output, terms) {
         Ok(Opening::Begun(begun)) => begun,
         Ok(Opening::Ended(done)) => {
             return ended_alone(alloc, Ok(done), input.is_gone(), output.is_gone());
@@ -69,7 +72,7 @@ pub fn serve_by_readers<
     let all = serve_with(
         rt,
         alloc,
-        table,
+        served,
         &terms,
         reader,
         writer,
@@ -84,13 +87,14 @@ pub fn serve_by_readers<
 fn serve_with<
     R: Threads + Sync,
     A: SharedAllocator,
+    D: Contents + Sync,
     I: Read + Copy + Sync + Drop,
     O: Write + Copy + Sync + Drop,
     G: Gate + Sync,
 >(
     rt: &R,
     alloc: A,
-    table: &Table<A>,
+    served: Served<'_, A, D>,
     terms: &Terms<'_, G>,
     reader: I,
     writer: O,
@@ -99,21 +103,22 @@ fn serve_with<
     output: &mut ReplySpout<O>,
 ) -> Ended<A>
     requires { AreReady terms.now.turns (ends I.remaining input.old output.old).devices }
-    ensures { AreServed terms.now.first table.now terms.now.turns
+    ensures { AreServed terms.now.first (sourced_by D.source served.entry) terms.now.turns
         (counts_of (ends I.remaining input.old output.old).devices) (1 + others) result }
 {
     let serve = || -> Ended<A>
-        requires { IsSync R.row × IsSync G.row × IsSync A.row × IsSend A.row
+        requires { IsSync R.row × IsSync G.row × IsSync D.row × IsSync A.row × IsSend A.row
             × Frees A.Allocator A.dealloc_token × (terms.now.turns ≤ MAX_TURNS) }
-        ensures { IsAlone terms.entry.now.first table.entry.now terms.entry.now.turns
-            unused result }
-    { serve_alone(rt, alloc, table, terms, reader, writer) };
+        ensures { IsAlone terms.entry.now.first (sourced_by D.source served.entry)
+            terms.entry.now.turns unused result }
+    { serve_alone(rt, alloc, served, terms, reader, writer) };
     let lead = || -> Ended<A>
-        requires { IsSync R.row × IsSync G.row × IsSync A.row × IsSend A.row
+        requires { IsSync R.row × IsSync G.row × IsSync D.row × IsSync A.row × IsSend A.row
             × Frees A.Allocator A.dealloc_token
             × AreReady terms.now.turns (ends I.remaining input.now output.now).devices }
-        ensures { IsAlone terms.entry.now.first table.entry.now terms.entry.now.turns
+        ensures { IsAlone terms.entry.now.first (sourced_by D.source served.entry)
+            terms.entry.now.turns
             (counts_of (ends I.remaining input.entry.now output.entry.now).devices) result }
-    { serve_on(rt, alloc, table, terms, input, output) };
+    { serve_on(rt, alloc, served, terms, input, output) };
     lead_others(rt, lead, serve, others)
 }

@@ -1,8 +1,8 @@
 //! `stack_prepare`: images to a table.
 
 pub use stack_prepare::{
-    FreePass, Gate, Owner, Profile, Refusal, SharedAllocator, Table, Work, prepare, prepare_as,
-    prepare_owned,
+    FreePass, Gate, Kept, Owner, Profile, Refusal, SharedAllocator, Table, Work, prepare,
+    prepare_as, prepare_kept, prepare_owned,
 };
 use std::thread::Threads;
 
@@ -27,4 +27,14 @@ pub fn prepared_for<R: Threads + Sync, A: SharedAllocator>(
     owner: Owner,
 ) -> Result<Table<A>, Refusal> {
     prepare_owned(rt, alloc, images, Profile::Usual, owner, &FreePass)
+}
+
+/// The same of what is kept of images that stay in their files.
+pub fn prepared_from<R: Threads + Sync, A: SharedAllocator>(
+    rt: &R,
+    alloc: A,
+    images: Vec<Kept<A>, A>,
+    owner: Owner,
+) -> Result<Table<A>, Refusal> {
+    prepare_kept(rt, alloc, images, Profile::Usual, owner, &FreePass)
 }

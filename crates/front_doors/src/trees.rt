@@ -1,6 +1,6 @@
 //! `layer_tree`, `stack_core` and `node_table`: layers, their stack, and its nodes by number.
 
-ghost use Rattle.std.specs.Prelude.{◌≤◌, ◌∷◌, [], length, IfOk};
+ghost use Rattle.std.specs.Prelude.{◌≡◌, ◌≤◌, ◌∷◌, [], length, true, IfOk};
 ghost use Rattle.layer_tree.specs.Trees.{IsTreeOf};
 ghost use Rattle.node_table.specs.Stacked.{IsTableOf, IsTableWith};
 ghost use Rattle.stack_core.specs.Trees.{IsTreeOf as IsTreeOfAll};
@@ -45,7 +45,8 @@ pub fn tabled<R: Threads + Sync, A: Allocator + Copy + Send + Sync>(
 ) -> Result<Table<A>, AllocError>
     requires some { 1 ≤ length images.items }
     requires few { length images.items ≤ MAX_LAYERS }
-    ensures { IfOk result (λ table. IsTableOf images.items table) }
+    ensures stack { IfOk result (λ table. IsTableOf images.items table) }
+    ensures whole { IfOk result (λ table. table.whole ≡ true) }
 {
     let tree = stack(rt, alloc, &images, &FreePass)?;
     Table::of(rt, alloc, tree, images)
@@ -60,7 +61,8 @@ pub fn owned<R: Threads + Sync, A: Allocator + Copy + Send + Sync>(
 ) -> Result<Table<A>, AllocError>
     requires some { 1 ≤ length images.items }
     requires few { length images.items ≤ MAX_LAYERS }
-    ensures { IfOk result (λ table. IsTableWith images.items [] owner table) }
+    ensures stack { IfOk result (λ table. IsTableWith images.items [] owner table) }
+    ensures whole { IfOk result (λ table. table.whole ≡ true) }
 {
     let tree = stack(rt, alloc, &images, &FreePass)?;
     let mut attributes = Attributes::none(alloc);
@@ -81,11 +83,13 @@ pub fn told<'a, A: Allocator>(
     )
 }
 
-/// What a table tells of a number.
+/// What a table of images that are held whole tells of a number.
 pub fn numbered<A: Allocator>(
     table: &Table<A>,
     number: u64,
-) -> (Option<&Node>, Option<Attr>, Option<u64>, &[Row<A>], &[u8]) {
+) -> (Option<&Node>, Option<Attr>, Option<u64>, &[Row<A>], &[u8])
+    requires { table.now.whole ≡ true }
+{
     (
         table.node(number),
         table.attr(number),

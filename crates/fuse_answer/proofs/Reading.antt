@@ -1,93 +1,99 @@
--- Where the data of a place begin, as they are read (`starts`), and what may be told of them: with no bytes the reply itself
--- (`nothing_told`), and so without a file (`table_told`); from the file of their layer what it gives (`file_read`).
-use Rattle.std.proofs.Common.{◌≡◌, ◌∙◌, sym, ap, subst, ℕ, zero, suc, ◌+◌, ◌-◌, ◌*◌, ◌/◌, ◌<◌, ◌≤◌, ◌^◌, ◌⊎◌, inl, inr, List, [], ◌∷◌, ◌++◌, length, take, drop, map, Option, Some, None, Result, Ok, Err, Bool, refl, arith, length-drop, lt_of_not-le}
-use mathlib.Core.Logic.{dite}
-use native.Mathlib.Decide.{dec_le}
+-- A node's data, of which parts are read: how many they are (`part_long`), where they stand in the image of their layer (`part_there`), and
+-- that a READ is answered those that it asks for (`read_decided`). What may be told of them: with no bytes the reply itself
+-- (`nothing_told`), and so without a file (`table_told`) and from bytes that are held (`held_appended`); from the file of their layer what
+-- it gives (`file_read`).
+use Rattle.std.proofs.Common.{◌≡◌, ◌∙◌, sym, ap, subst, ℕ, ◌+◌, ◌-◌, ◌≤◌, min, inl, List, [], ◌++◌, length, take, drop, map, Bool, Bor, Option, Some, None, Result, Ok, Err, refl, arith, length-drop}
 use Rattle.std.specs.Prelude.{slice_get}
-use Rattle.std.specs.Option.{option_map, option_map_or}
-use Rattle.std.proofs.lemmas.List.{length-take, take_all, drop_at, drop_all}
+use Rattle.std.specs.Option.{option_map}
+use Rattle.std.proofs.lemmas.Bool.{le-ltb}
+use Rattle.std.proofs.lemmas.List.{length-take, take_all, take_min, take-take, drop-take, drop-drop, drop_at, drop_all}
 use Rattle.std.proofs.lemmas.Option.{slice_get-map}
-use Rattle.image_bytes.specs.Sources.{Source, MayGive}
-use Rattle.romfs_format.specs.declared.limits.TheConstants.{HEAD_SIZE, NAME_FIELD_SIZE}
-use Rattle.romfs_format.specs.Fields.{ended, name_field, text_at, text_end, data_at, name}
-use Rattle.romfs_format.proofs.Text.{within_none, within_then, within_else}
+use Rattle.image_bytes.specs.Sources.{Source, MayGive, held}
+use Rattle.romfs_format.specs.declared.head.Kind.TheVariants.{Regular}
 use Rattle.romfs_reader.specs.Readers.{bytes_at}
 use Rattle.fuse_wire.specs.declared.errno.Errno.{Errno}
-use Rattle.fuse_wire.specs.declared.limits.TheConstants.{OUT_HEADER_SIZE}
+use Rattle.fuse_wire.specs.declared.limits.TheConstants.{OUT_HEADER_SIZE, MAX_DATA_SIZE}
+use Rattle.fuse_wire.specs.Requests.{read}
 use Rattle.fuse_wire.specs.Replies.{reply_head, reply_with, error_reply}
 use Rattle.fuse_wire.specs.Appends.{Appends, Filled}
 use Rattle.fuse_wire.specs.Told.{AppendsTold, Reading, IsTold, read_from}
 use Rattle.fuse_wire.proofs.Sizes.{length-head, length-error_reply}
+use Rattle.fuse_wire.proofs.Telling.{held_told}
 use Rattle.stack_model.specs.Listing.{Stacked}
 use Rattle.stack_model.specs.Numbers.{Place}
-use Rattle.stack_model.specs.Attributes.{layer_of}
-use Rattle.reply_model.specs.Readings.{Sourced, sourced, data_reading, data_start}
+use Rattle.stack_model.specs.Attributes.{data_of, data_start}
+use Rattle.table_reader.specs.declared.node.Node.{Node}
+use Rattle.table_reader.specs.Readers.{HoldsData, IsNodeOf, placed}
+use Rattle.reply_model.specs.declared.session.Agreement.{Agreement}
+use Rattle.reply_model.specs.Readings.{sourced, data_reading}
+use Rattle.fuse_answer.specs.declared.outcome.Answer.TheVariants.{Data}
+use Rattle.fuse_answer.specs.Answers.{DecidesAt, IsAnswerAt}
 
--- the text before the first zero byte is shorter than what it stands in
-shorter : (xs t : List ℕ) → Some t ≡ ended xs → length t < length xs
-unfolding ended
-shorter [] t e = absurd (cc)
-shorter (zero ∷ xs) t e = let q : t ≡ [] = cc in rw q (omega arith)
-shorter (suc n ∷ xs) t e = pick (λ u q. shorter xs u q) (ended xs) refl e
-  where
-    pick : ((u : List ℕ) → Some u ≡ ended xs → length u < length xs) → (o : Option (List ℕ)) → o ≡ ended xs
-        → Some t ≡ option_map (λ text. suc n ∷ text) o → length t < length (suc n ∷ xs)
-    pick f None q e = absurd (cc)
-    pick f (Some u) q e = let r = f u q in let k : t ≡ suc n ∷ u = cc in rw k (omega arith)
-
-module _ (a : List ℕ) (p : ℕ) (field : List ℕ) (is : field ≡ bytes_at a p NAME_FIELD_SIZE) where
-  from_image : field ≡ name_field a p
-  unfolding bytes_at name_field
-  from_image = is
-
-  pub long : length field ≤ NAME_FIELD_SIZE
+module _ (layers : List (List ℕ)) (layer : ℕ) (node : Node) (p : Place) (holds : HoldsData layers layer node p) where
+  -- data are as many as the node says
+  data_long : length (data_of layers p) ≡ node.part.len
   unfolding bytes_at
-  long = let e = ap length is ∙ length-take NAME_FIELD_SIZE (drop p a) in omega arith
+  data_long =
+      let e = ap length (sym holds.data_is) ∙ length-take node.part.len (drop node.part.start holds.image) in
+      let d = length-drop node.part.start holds.image in
+      let w = holds.lies.within in
+      omega arith
 
-  near : length field ≤ length a - p
-  unfolding bytes_at
-  near = let e = ap length is ∙ length-take NAME_FIELD_SIZE (drop p a) in let d = length-drop p a in omega arith
+  -- all of them are the data
+  pub all_data : take node.part.len (drop 0 (data_of layers p)) ≡ data_of layers p
+  all_data = let l = data_long in take_all node.part.len (data_of layers p) (omega arith)
 
-  whole : NAME_FIELD_SIZE ≤ length a - p → length field ≡ NAME_FIELD_SIZE
-  unfolding bytes_at
-  whole less = let e = ap length is ∙ length-take NAME_FIELD_SIZE (drop p a) in let d = length-drop p a in omega arith
+  -- those from an offset on that are there are as many as are asked for, up to the end
+  same_part : (offset size : ℕ) → take (min size (node.part.len - offset)) (drop offset (data_of layers p))
+      ≡ take size (drop offset (data_of layers p))
+  same_part offset size =
+      let l = data_long in
+      let d = length-drop offset (data_of layers p) in
+      let left : node.part.len - offset ≡ length (drop offset (data_of layers p)) = omega arith in
+      ap (λ n. take (min size n) (drop offset (data_of layers p))) left ∙ take_min size (drop offset (data_of layers p))
 
-  rest : length a - p < NAME_FIELD_SIZE → length field ≡ length a - p
-  unfolding bytes_at
-  rest less = let e = ap length is ∙ length-take NAME_FIELD_SIZE (drop p a) in let d = length-drop p a in omega arith
+  module _ (offset len : ℕ) (within : offset + len ≤ node.part.len) where
+    -- a part is as long as it says
+    pub part_long : length (take len (drop offset (data_of layers p))) ≡ len
+    part_long =
+        let l = data_long in
+        let d = length-drop offset (data_of layers p) in
+        let t = length-take len (drop offset (data_of layers p)) in
+        omega arith
 
-  from_field : field ≡ name_field field 0
-  unfolding name_field
-  from_field = sym (take_all NAME_FIELD_SIZE field long)
+    -- and stands in the image of the layer behind where the data begin
+    pub part_there : (image : List ℕ) → slice_get layers layer ≡ Some image
+        → bytes_at image (node.part.start + offset) len ≡ take len (drop offset (data_of layers p))
+    unfolding bytes_at
+    part_there image is =
+        let same : Some holds.image ≡ Some image = sym holds.is ∙ is in
+        let image_is : holds.image ≡ image = cc in
+        let behind = drop node.part.start image in
+        let data_is : data_of layers p ≡ take node.part.len behind =
+        sym holds.data_is ∙ ap (λ a. take node.part.len (drop node.part.start a)) image_is in
+        let e : node.part.len ≡ offset + (node.part.len - offset) = omega arith in
+        let rest : drop offset (data_of layers p) ≡ take (node.part.len - offset) (drop (node.part.start + offset) image) =
+        ap (drop offset) (data_is ∙ ap (λ n. take n behind) e) ∙ drop-take offset (node.part.len - offset) behind
+        ∙ ap (take (node.part.len - offset)) (drop-drop offset node.part.start image) in
+        sym (ap (take len) rest ∙ take-take len (node.part.len - offset) (drop (node.part.start + offset) image) (omega arith))
 
-  pub field_long : length field < 2 ^ 32
-  field_long = let l = long in omega arith
+module _ (A : Type 0) (stack : Stacked) (agreed : Agreement) (n offset size : ℕ) where
+  read_at_place : (node : Bor Node) (len : ℕ) → IsNodeOf stack n node.now → node.now.kind ≡ Regular → size ≤ MAX_DATA_SIZE
+      → len ≡ min size (node.now.part.len - offset)
+      → IsAnswerAt {A = A} stack agreed (read offset size) (placed node.now.place) (Data (record { node = node; offset = offset; len = len }))
+  read_at_place node len is kind small count = record {
+    taken = rw (sym is.kind_is ∙ kind, le-ltb MAX_DATA_SIZE size small) refl;
+    data_is = rw count (same_part stack.layers node.now.place.layer node.now (placed node.now.place) is.holds offset size);
+    reads_are = λ sources. refl;
+    sized = (is.holds, λ some. omega arith);
+    moves_are = refl;
+  }
 
-  -- the name that begins at a place is the text of its field
-  pub text_same : text_at field 0 ≡ text_at a p
-  text_same = go (ended field) refl
-    where
-      go : (o : Option (List ℕ)) → o ≡ ended field → text_at field 0 ≡ text_at a p
-      go None e = sym (within_none field field 0 from_field e) ∙ within_none a field p from_image e
-      go (Some t) e = dite (dec_le (text_end p t) (length a))
-          (λ less. sym (within_then field field 0 from_field t e (fits less)) ∙ within_then a field p from_image t e less)
-          (λ not. let more = lt_of_not-le not in
-          sym (within_else field field 0 from_field t e (fails more)) ∙ within_else a field p from_image t e more)
-        where
-          fits : text_end p t ≤ length a → text_end 0 t ≤ length field
-          fits less = let s = shorter field t e in let l = long in
-              dite (dec_le NAME_FIELD_SIZE (length a - p)) (λ w. let f = whole w in omega arith)
-              (λ not. let f = rest (lt_of_not-le not) in omega arith)
-
-          fails : length a < text_end p t → length field < text_end 0 t
-          fails more = let s = shorter field t e in let n = near in omega arith
-
--- the data of a file begin behind its padded name
-pub starts : (layers : List (List ℕ)) (p : Place) (a field : List ℕ) (o : Option (List ℕ)) → layer_of layers p ≡ a
-    → field ≡ bytes_at a (p.1 + HEAD_SIZE) NAME_FIELD_SIZE → o ≡ text_at field 0
-    → option_map_or (data_at p.1) o 0 ≡ data_start layers p
-starts layers p a field o layer is found =
-    rw layer (ap (λ (v : Option (List ℕ)). option_map_or (data_at p.1) v 0) (found ∙ text_same a (p.1 + HEAD_SIZE) field is))
+  -- a READ of a regular file is answered its data from the offset on, as many as are asked for, up to the end
+  pub read_decided : (node : Bor Node) (len : ℕ) → IsNodeOf stack n node.now → node.now.kind ≡ Regular → size ≤ MAX_DATA_SIZE
+      → len ≡ min size (node.now.part.len - offset)
+      → DecidesAt {A = A} stack agreed n (read offset size) (Ok (Data (record { node = node; offset = offset; len = len })))
+  read_decided node len is kind small count = rw is.place_is (read_at_place node len is kind small count)
 
 -- what may be told as defined is appended as defined
 pub appends_told : {E : Type 0} (reading : Option Reading) (result : Result (Unit {0}) E) (before after : Filled) (unique : ℕ)
@@ -96,25 +102,39 @@ pub appends_told : {E : Type 0} (reading : Option Reading) (result : Result (Uni
 appends_told reading (Ok x) before after unique defined told a = ((defined, told, a.0), a.1, a.2, a.3)
 appends_told reading (Err e) before after unique defined told a = (tt, a.1, a.2, a.3)
 
-no_data : (unique : ℕ) → drop OUT_HEADER_SIZE (reply_with unique []) ≡ []
+data_behind : (unique : ℕ) (bytes : List ℕ) → drop OUT_HEADER_SIZE (reply_with unique bytes) ≡ bytes
 unfolding reply_with
-no_data unique = drop_at (reply_head unique 0) [] OUT_HEADER_SIZE (length-head unique 0)
+data_behind unique bytes = drop_at (reply_head unique (length bytes)) bytes OUT_HEADER_SIZE (length-head unique (length bytes))
 
 gives_none : (given : Option (List (List ℕ))) (fails : Bool) (place : ℕ) → MayGive (record { given = given; fails = fails }) place []
 gives_none None fails place = tt
 gives_none (Some choices) fails place = tt
 
 -- a reply without data is told as it is, whatever its data would be read from
-pub nothing_told : (reading : Option Reading) (unique : ℕ) (bytes : List ℕ) → length bytes ≡ 0
-    → IsTold reading unique (reply_with unique bytes) (reply_with unique bytes)
-nothing_told None unique bytes none = refl
-nothing_told (Some reading) unique [] none = inl (record {
+pub nothing_told : (reading : Option Reading) (unique : ℕ) → IsTold reading unique (reply_with unique []) (reply_with unique [])
+nothing_told None unique = refl
+nothing_told (Some reading) unique = inl (record {
   long = refl;
   head = refl;
-  given = subst (MayGive reading.source reading.place) (sym (no_data unique)) (gives_none reading.source.given reading.source.fails
+  given = subst (MayGive reading.source reading.place) (sym (data_behind unique [])) (gives_none reading.source.given reading.source.fails
       reading.place);
 })
-nothing_told (Some reading) unique (x ∷ xs) none = absurd (omega arith)
+
+-- and a part of no bytes has none
+pub none_taken : (n : ℕ) (xs : List ℕ) → n ≡ 0 → [] ≡ take n xs
+none_taken n xs e = rw e refl
+
+-- what is told of bytes that are held is appended as it is defined
+pub held_appended : {E : Type 0} (xs : List ℕ) (place unique : ℕ) (bytes : List ℕ) (result : Result (Unit {0}) E) (before after : Filled)
+    → bytes ≡ bytes_at xs place (length bytes)
+    → AppendsTold result before after (read_from (held xs) place) unique (reply_with unique bytes)
+    → Appends result before after (reply_with unique bytes)
+unfolding bytes_at
+held_appended xs place unique bytes (Err e) before after there a = (tt, a.1, a.2, a.3)
+held_appended xs place unique bytes (Ok x) before after there a =
+    let same = held_told xs place unique (reply_with unique bytes) a.0.0
+    (data_behind unique bytes ∙ there ∙ ap (λ l. take (length l) (drop place xs)) (sym (data_behind unique bytes))) a.0.1 in
+    (a.0.2 ∙ ap (λ l. before.items ++ l) same, a.1, a.2, a.3)
 
 -- the reply of an error is told as it is
 pub error_told : (reading : Option Reading) (unique : ℕ) (errno : Errno)
@@ -135,6 +155,6 @@ module _ {D : Type 0} (source : D → Source) (files : List D) (stack : Stacked)
   table_told none unique defined = rw (slice_get-map source files p.0 ∙ ap (option_map source) none) refl
 
   -- those of a layer that has one are read from it
-  pub file_read : (file : D) → slice_get files p.0 ≡ Some file
-      → data_reading (sourced stack (map source files)) offset p ≡ read_from (source file) (data_start stack.layers p + offset)
-  file_read file there = rw (slice_get-map source files p.0 ∙ ap (option_map source) there) refl
+  pub file_read : (file : D) (start : ℕ) → slice_get files p.0 ≡ Some file → start ≡ data_start stack.layers p
+      → read_from (source file) (start + offset) ≡ data_reading (sourced stack (map source files)) offset p
+  file_read file start there begins = rw (slice_get-map source files p.0 ∙ ap (option_map source) there, begins) refl

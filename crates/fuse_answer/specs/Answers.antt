@@ -1,5 +1,5 @@
 -- What is decided about a request: its answer's data and moves, or its refusal.
-use Rattle.std.specs.Prelude.{◌≡◌, ℕ, Bool, true, false, List, [], ◌∷◌, Option, Some, None, MatchOption, MatchResult, Result, Ok, Err, pos, ◌+◌, ◌^◌, ◌<◌, length}
+use Rattle.std.specs.Prelude.{◌≡◌, ℕ, Bool, true, false, List, [], ◌∷◌, Option, Some, None, MatchOption, MatchResult, Result, Ok, Err, pos, ◌+◌, ◌<◌, ◌≤◌, take, drop}
 use Rattle.std.specs.List.{filter_map}
 use Rattle.std.specs.Option.{option_map}
 use Rattle.fuse_wire.specs.declared.errno.Errno.{Errno}
@@ -11,10 +11,11 @@ use Rattle.fuse_wire.specs.Told.{Reading}
 use Rattle.fuse_wire.specs.Reads.{items_of}
 use Rattle.fuse_wire.specs.Structures.{init_out, entry_out, negative_entry_out, attr_out, open_out, statfs_out}
 use Rattle.romfs_format.specs.declared.head.Kind.{Kind}
-use Rattle.stack_model.specs.Attributes.{kind_at, is_directory_at}
+use Rattle.stack_model.specs.Attributes.{kind_at, is_directory_at, data_of}
 use Rattle.stack_model.specs.Numbers.{Place, number, node_of}
 use Rattle.stack_model.specs.Listing.{Stacked}
-use Rattle.table_reader.specs.Readers.{attr_at, placed}
+use Rattle.table_reader.specs.declared.node.Node.{Node}
+use Rattle.table_reader.specs.Readers.{HoldsData, attr_at, placed}
 use Rattle.reply_model.specs.declared.moves.Move.{Move}
 use Rattle.reply_model.specs.declared.session.Agreement.{Agreement}
 use Rattle.reply_model.specs.declared.session.Session.{Session}
@@ -29,6 +30,14 @@ use Rattle.fuse_answer.specs.declared.outcome.FilePart.{FilePart}
 use Rattle.fuse_answer.specs.declared.outcome.Answer.TheVariants.{Done, Terms, Entry, NoEntry, Attributes, Opened, Target, Data, Totals, Rows, Forgotten, AllForgotten}
 use Rattle.fuse_answer.specs.Listings.{listed_data, listed_moves, IsWhole}
 
+-- so many bytes of a node's data, from an offset on
+abbrev pub node_data : Stacked → Node → ℕ → ℕ → List ℕ
+node_data stack node offset len = take len (drop offset (data_of stack.layers (placed node.place)))
+
+-- the bytes of a part of a file
+abbrev pub part_data : Stacked → FilePart → List ℕ
+part_data stack part = node_data stack part.node.now part.offset part.len
+
 -- the data of an answer
 abbrev pub answer_data : {A : Type 0} → Stacked → Answer A → List ℕ
 answer_data stack Done = []
@@ -37,8 +46,8 @@ answer_data stack (Entry attr) = entry_out attr
 answer_data stack NoEntry = negative_entry_out
 answer_data stack (Attributes attr) = attr_out attr
 answer_data stack (Opened flags) = open_out flags
-answer_data stack (Target bytes) = bytes.now
-answer_data stack (Data part) = part.bytes.now
+answer_data stack (Target node) = data_of stack.layers (placed node.now.place)
+answer_data stack (Data part) = part_data stack part
 answer_data stack (Totals blocks nodes) = statfs_out blocks nodes
 answer_data stack (Rows listing) = listed_data stack listing
 answer_data stack (Forgotten forget) = []
@@ -79,15 +88,20 @@ abbrev pub TellsEntry : {A : Type 0} → Stacked → ℕ → Result (Answer A) E
 TellsEntry stack node result =
     MatchOption (attr_at stack node) (result ≡ Err ENOENT) (λ attr. result ≡ Ok (Entry attr))
 
--- its bytes are no more than a reply's header can say, and begin where a file may have some
-abbrev pub IsInFile : FilePart → Type 0
-IsInFile part =
-    (16 + length part.bytes.now < 2 ^ 32) × (0 < length part.bytes.now → part.offset < 2 ^ 32)
+-- the node holds where the data of its place lie
+abbrev pub HoldsOwnData : Stacked → Node → Type 0
+HoldsOwnData stack node = HoldsData stack.layers node.place.layer node (placed node.place)
 
--- its data has a length that a reply's header can say
+-- the node of the part holds its data, and the bytes of the part, if there are any, are among them
+abbrev pub IsInFile : Stacked → FilePart → Type 0
+IsInFile stack part =
+    HoldsOwnData stack part.node.now
+    × (0 < part.len → part.offset + part.len ≤ part.node.now.part.len)
+
+-- its data lie where they are read, and have a length that a reply's header can say
 abbrev pub IsSized : {A : Type 0} → Stacked → Answer A → Type 0
-IsSized stack (Target bytes) = 16 + length bytes.now < 2 ^ 32
-IsSized stack (Data part) = IsInFile part
+IsSized stack (Target node) = HoldsOwnData stack node.now
+IsSized stack (Data part) = IsInFile stack part
 IsSized stack (Rows listing) = IsWhole listing
 IsSized stack _ = Unit {0}
 

@@ -1,6 +1,6 @@
 //! Requests about one node.
 
-ghost use Rattle.std.specs.Prelude.{◌≡◌, ◌<◌, ◌≤◌, length, take, drop};
+ghost use Rattle.std.specs.Prelude.{◌≡◌, ◌-◌, min};
 ghost use Rattle.fuse_wire.specs.Requests.{getattr, readlink, open_file, opendir, read};
 ghost use Rattle.reply_model.specs.Services.{opendir_flags};
 ghost use Rattle.fuse_answer.specs.Answers.{DecidesAt, TellsKind};
@@ -38,8 +38,11 @@ pub(crate) fn read_link<'a, A: Allocator>(
 ) -> Result<Answer<'a, A>, Errno>
     ensures { DecidesAt table.now agreed number readlink result }
 {
-    match kind_of(table, number)? {
-        Kind::SymLink => Ok(Answer::Target(table.bytes(number))),
+    let Some(node) = table.node(number) else {
+        return Err(Errno::ESTALE);
+    };
+    match node.kind {
+        Kind::SymLink => Ok(Answer::Target(node)),
         _ => Err(Errno::EINVAL),
     }
 }
@@ -99,7 +102,7 @@ pub(crate) fn read<'a, A: Allocator>(
         Kind::Regular if size <= MAX_DATA_SIZE => Ok(Answer::Data(FilePart {
             node,
             offset,
-            bytes: part(table.bytes(number), offset, size),
+            len: part_len(node.part.len, offset, size),
         })),
         Kind::Directory => Err(Errno::EISDIR),
         _ => Err(Errno::EINVAL),
@@ -129,20 +132,15 @@ fn opendir_flags(lasting: bool) -> u32
     }
 }
 
-// The bytes from the offset on, at most as many as the size.
+// How many bytes of a file there are from the offset on, at most as many as the size.
 #[inline(always)]
-fn part(bytes: &[u8], offset: u64, size: u32) -> &[u8]
-    ensures bytes { result.now ≡ take size (drop offset bytes.now) }
-    ensures near { 0 < length result.now → offset < length bytes.now }
-    ensures few { length result.now ≤ length bytes.now }
+fn part_len(file_len: u32, offset: u64, size: u32) -> u32
+    ensures { result ≡ min size (file_len - offset) }
 {
-    if offset >= bytes.len() as u64 {
-        return &[];
+    let file_len = u64::from(file_len);
+    if offset >= file_len {
+        return 0;
     }
-    let rest = &bytes[offset as usize..];
-    if (size as usize) < rest.len() {
-        &rest[..size as usize]
-    } else {
-        rest
-    }
+    let rest = (file_len - offset) as u32;
+    size.min(rest)
 }

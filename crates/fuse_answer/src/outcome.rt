@@ -13,8 +13,8 @@ pub(crate) struct FilePart<'a> {
     pub node: &'a Node,
     /// How many of its bytes stand before them.
     pub offset: u64,
-    /// The bytes, as the table holds them.
-    pub bytes: &'a [u8],
+    /// How many they are.
+    pub len: u32,
 }
 
 /// What a request is answered that is not refused.
@@ -32,8 +32,8 @@ pub(crate) enum Answer<'a, A: Allocator> {
     Attributes(Attr),
     /// A file or directory that was opened, with these flags.
     Opened(u32),
-    /// A link's target.
-    Target(&'a [u8]),
+    /// The target of this link.
+    Target(&'a Node),
     /// Bytes of a file.
     Data(FilePart<'a>),
     /// The blocks and the nodes of the whole tree.

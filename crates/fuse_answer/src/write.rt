@@ -1,11 +1,13 @@
 //! Answers as replies.
 
 ghost use Rattle.fuse_wire.specs.Replies.{reply_with};
-ghost use Rattle.std.specs.Prelude.{◌≡◌, ◌+◌, ◌<◌, ◌^◌};
-ghost use Rattle.fuse_answer.specs.Answers.{IsInFile, IsSized, answer_data, answer_reading};
+ghost use Rattle.std.specs.Prelude.{◌≡◌, ◌+◌, ◌≤◌};
+ghost use Rattle.fuse_answer.specs.Answers.{HoldsOwnData, IsInFile, IsSized, answer_data, answer_reading, node_data, part_data};
 ghost use Rattle.fuse_answer.specs.Puts.{sourced_by};
+ghost use Rattle.fuse_wire.specs.Appends.{Appends};
 ghost use Rattle.fuse_wire.specs.Told.{AppendsTold};
-ghost use Rattle.reply_model.specs.Readings.{data_reading, data_start};
+ghost use Rattle.reply_model.specs.Readings.{data_reading};
+ghost use Rattle.stack_model.specs.Attributes.{data_of};
 ghost use Rattle.table_reader.specs.Readers.{placed};
 
 use crate::outcome::{Answer, FilePart};
@@ -16,10 +18,8 @@ use fuse_wire::{
     put_read, put_statfs,
 };
 use image_bytes::Contents;
-use romfs_format::limits::{HEAD_SIZE, NAME_FIELD_SIZE};
-use romfs_format::read::{padded, text_at};
 use std::alloc::{AllocError, Allocator};
-use table_reader::{Place, Table};
+use table_reader::{Node, Part, Table};
 
 /// Appends the reply with an answer. Data that stay in a file are read into it; where they cannot
 /// be had whole, the reply is EIO's.
@@ -45,7 +45,7 @@ pub(crate) fn write<A: Allocator, D: Contents, O: Allocator>(
         Answer::NoEntry => put_negative_entry(out, unique),
         Answer::Attributes(attr) => put_attr(out, unique, attr),
         Answer::Opened(flags) => put_open(out, unique, *flags),
-        Answer::Target(bytes) => put_data(out, unique, bytes),
+        Answer::Target(node) => put_target(served.table, unique, node, out),
         Answer::Data(part) => put_part(served, unique, part, out),
         Answer::Totals { blocks, nodes } => put_statfs(out, unique, *blocks, *nodes),
         Answer::Rows(rows) => put_rows_and_move(served.table, unique, rows, out, &mut []),
@@ -60,36 +60,77 @@ fn put_part<A: Allocator, D: Contents, O: Allocator>(
     part: &FilePart<'_>,
     out: &mut Replies<O>,
 ) -> Result<(), AllocError>
-    requires { IsInFile part.now }
+    requires { IsInFile served.table.now part.now }
     ensures { AppendsTold result out.old out.new
         (data_reading (sourced_by D.source served.entry) part.now.offset
         (placed part.now.node.now.place)) unique
-        (reply_with unique part.now.bytes.now) }
+        (reply_with unique (part_data served.entry.table.now part.now)) }
 {
-    if part.bytes.is_empty() {
-        return put_data(out, unique, part.bytes);
+    if part.len == 0 {
+        return put_data(out, unique, &[]);
     }
-    let place = part.node.place;
-    match served.files.get(place.layer as usize) {
+    let node = part.node;
+    match served.files.get(node.place.layer as usize) {
         Some(file) => {
-            let start = data_start(served.table, place);
-            put_read(out, unique, file, start + part.offset, part.bytes.len())
+            let start = u64::from(data_start(node));
+            put_read(out, unique, file, start + part.offset, part.len as usize)
         }
-        None => put_data(out, unique, part.bytes),
+        None => put_held(
+            served.table,
+            unique,
+            node,
+            part.offset as u32,
+            part.len,
+            out,
+        ),
     }
 }
 
-// Where the data of a place begin in its layer: behind its padded name.
-fn data_start<A: Allocator>(table: &Table<A>, place: Place) -> u64
-    ensures start { result ≡ data_start table.now.layers (placed place) }
-    ensures bound { result < 2 ^ 33 }
+// Where the data of a node begin in the image of its layer.
+#[inline(always)]
+fn data_start(node: &Node) -> u32
+    ensures { result ≡ node.now.part.start }
 {
-    let Some(image) = table.images().get(place.layer as usize) else {
-        return 0;
+    node.part.start
+}
+
+// Appends the reply with the target of a link.
+fn put_target<A: Allocator, O: Allocator>(
+    table: &Table<A>,
+    unique: u64,
+    node: &Node,
+    out: &mut Replies<O>,
+) -> Result<(), AllocError>
+    requires { HoldsOwnData table.now node.now }
+    ensures { Appends result out.old out.new
+        (reply_with unique (data_of table.now.layers (placed node.now.place))) }
+{
+    put_held(table, unique, node, 0, node.part.len, out)
+}
+
+// Appends the reply with some of a node's data, as the table's image of its layer has them.
+#[inline(always)]
+fn put_held<A: Allocator, O: Allocator>(
+    table: &Table<A>,
+    unique: u64,
+    node: &Node,
+    offset: u32,
+    len: u32,
+    out: &mut Replies<O>,
+) -> Result<(), AllocError>
+    requires holds { HoldsOwnData table.now node.now }
+    requires within { offset + len ≤ node.now.part.len }
+    ensures { Appends result out.old out.new
+        (reply_with unique (node_data table.now node.now offset len)) }
+{
+    let Some(view) = table.layers().view(node.place.layer as usize) else {
+        return put_data(out, unique, &[]);
     };
-    let field = image.name_bytes(place.header, NAME_FIELD_SIZE as u32);
-    match text_at(field, 0) {
-        Some(name) => u64::from(place.header) + (HEAD_SIZE + padded(name.len() + 1)) as u64,
-        None => 0,
+    // no part ends beyond what a u32 says, since no image does
+    let _full = view.full();
+    let start = node.part.start + offset;
+    match view.part(Part { start, len }) {
+        Some(bytes) => put_data(out, unique, bytes),
+        None => put_read(out, unique, &view, u64::from(start), len as usize),
     }
 }

@@ -4,4 +4,5 @@ pub mod Fronts
 pub mod Sums
 pub mod Views
 pub mod NameBytes
+pub mod Copies
 pub mod Rows

@@ -11,7 +11,7 @@ ghost use Rattle.romfs_format.specs.declared.limits.TheConstants.{HEAD_SIZE};
 ghost use Rattle.romfs_format.specs.Fields.{word as word_of, text_at as text_of, text_end, ended, name_field as field_of, word_sum};
 ghost use Rattle.romfs_format.specs.Heads.{head_of, name_of};
 ghost use Rattle.romfs_format.specs.Trailer.{long_word as long_word_of};
-ghost use Rattle.held_image.specs.Blocks.{Rises, IsRank, AreInRow, IsRun, IsKept, IsFront, filled, byte_of};
+ghost use Rattle.held_image.specs.Blocks.{Rises, IsRank, AreInRow, IsRun, IsKept, IsFront, CopiesSome, filled, byte_of};
 
 use byteorder::{BigEndian, ByteOrder};
 use memchr::memchr;
@@ -315,4 +315,29 @@ fn sum_of_words(blocks: &[u32], bytes: &[u8], size: u32, at: u32, len: u32) -> u
         done += 4;
     }
     sum
+}
+
+/// Puts bytes from a place on, of an image of this size, at the front of a room: those of a run, or
+/// else one that is 0. It says how many.
+#[cold]
+pub(crate) fn copy_some_of_blocks(
+    blocks: &[u32],
+    bytes: &[u8],
+    size: u32,
+    at: u32,
+    room: &mut [u8],
+) -> usize
+    requires kept { IsKept blocks.now bytes.now }
+    requires at { at < size }
+    requires room { 0 < length room.old }
+    ensures { CopiesSome (filled size blocks.now bytes.now) at result room.old room.new }
+{
+    let near = run(blocks, bytes, at);
+    if near.is_empty() {
+        room[0] = 0;
+        return 1;
+    }
+    let count = near.len().min(room.len()).min((size - at) as usize);
+    room[..count].copy_from_slice(&near[..count]);
+    count
 }

@@ -8,10 +8,11 @@ ghost use Rattle.romfs_format.specs.Fields.{root, word, text_end, text_at, word_
 ghost use Rattle.romfs_format.specs.Heads.{head_of, name_of};
 ghost use Rattle.romfs_format.specs.Rules.{StartsWith};
 ghost use Rattle.romfs_format.specs.Trailer.{long_word as long_word_of};
+ghost use Rattle.held_image.specs.Blocks.{CopiesSome};
 
 use crate::blocks::{
-    byte_of_blocks, head_in_blocks, head_of_blocks, long_word_in, name_of_blocks, sum_in,
-    text_of_blocks, word_in,
+    byte_of_blocks, copy_some_of_blocks, head_in_blocks, head_of_blocks, long_word_in,
+    name_of_blocks, sum_in, text_of_blocks, word_in,
 };
 use crate::held::{Form, Held};
 use romfs_format::limits::HEAD_SIZE;
@@ -188,6 +189,43 @@ pub fn name_of<'a>(image: &Held<'a>, at: u32, name_len: u32) -> &'a [u8]
             blocks,
             bytes,
         } => name_of_blocks(blocks, bytes, size, at),
+    }
+}
+
+/// So many bytes from a place on, where all bytes of the image are held; else none.
+#[inline(always)]
+pub fn slice_at<'a>(image: &Held<'a>, at: usize, len: usize) -> Option<&'a [u8]>
+    requires { at + len ≤ length image.now }
+    ensures { IfSome result (λ bytes. bytes.now ≡ take len (drop at image.now)) }
+{
+    match image.form {
+        Form::Whole(bytes) => {
+            let rest = &bytes[at..];
+            Some(&rest[..len])
+        }
+        Form::Sparse { .. } => None,
+    }
+}
+
+/// Puts bytes from a place on at the front of a room, and says how many: at least one.
+#[tactic(auto, using(crate::proofs::Fronts::filled_long))]
+pub fn copy_some(image: &Held<'_>, at: usize, room: &mut [u8]) -> usize
+    requires at { at < length image.now }
+    requires room { 0 < length room.old }
+    ensures { CopiesSome image.now at result room.old room.new }
+{
+    match image.form {
+        Form::Whole(bytes) => {
+            let rest = &bytes[at..];
+            let count = room.len().min(rest.len());
+            room[..count].copy_from_slice(&rest[..count]);
+            count
+        }
+        Form::Sparse {
+            size,
+            blocks,
+            bytes,
+        } => copy_some_of_blocks(blocks, bytes, size, at as u32, room),
     }
 }
 

@@ -1,3 +1,5 @@
 pub mod Unread
 pub mod Reading
+pub mod Data
+pub mod Opened
 pub mod Opening

@@ -1,13 +1,19 @@
 -- How a file is read, by what stat(2) tells of it.
-use Rattle.std.specs.Prelude.{◌≡◌, ◌<◌, ℕ, List, Option, IfSome, ⊤, bit_and, map}
+use Rattle.std.specs.Prelude.{◌≡◌, ◌<◌, ℕ, List, Option, Some, None, IsSome, IfSome, ⊤, bit_and, map}
 use Rattle.std.specs.Fs.{IsFile, file_type, metadata_len, metadata_mode}
 use Rattle.std.specs.declared.fs.attrs.Metadata.{Metadata}
 use Rattle.image_files.specs.declared.opening.TheConstants.{FILE_TYPE, BLOCK_DEVICE}
 use Rattle.image_files.specs.declared.opening.FileKind.{FileKind}
 use Rattle.image_files.specs.declared.opening.FileKind.TheVariants.{Regular, BlockDevice, Stream}
-use Rattle.image_files.specs.declared.opening.OpenImage.{OpenImage}
-use Rattle.image_files.specs.declared.opening.OpenImage.TheVariants.{Gathered, Whole}
+use Rattle.image_files.specs.declared.image_data.ImageData.{ImageData}
+use Rattle.image_files.specs.declared.image_data.ImageData.TheVariants as from
+use Rattle.image_files.specs.declared.whole.Trailers.{Trailers}
+use Rattle.image_files.specs.declared.whole.ReadFault.{ReadFault}
+use Rattle.image_files.specs.declared.whole.ReadFault.TheVariants.{Failed, Memory}
+use Rattle.kept_image.specs.declared.fault.GatherFault.{GatherFault}
+use Rattle.kept_image.specs.declared.fault.GatherFault.TheVariants as gather
 use Rattle.std.specs.declared.vec.Vec.{Vec}
+use Rattle.image_files.specs.Opened.{Opened}
 use Rattle.image_files.specs.declared.opening.HeldImage.{HeldImage}
 use Rattle.image_files.specs.declared.opening.HeldImage.TheVariants as held
 
@@ -21,21 +27,38 @@ IsKindOf m (Regular size) = IsFile (file_type m) × (size ≡ metadata_len m) ×
 IsKindOf m BlockDevice = IsBlockDevice m
 IsKindOf m Stream = (IsFile (file_type m) → metadata_len m ≡ 0) × (IsBlockDevice m → ⊥)
 
--- the image stays in its file, beside what the rules look at
-abbrev pub StaysInFile : {F A : Type 0} → OpenImage F A → Type 0
-StaysInFile (Gathered kept file) = ⊤
-StaysInFile (Whole bytes) = ⊥
+-- the data stay in their file
+abbrev pub StayInFile : {F A : Type 0} → ImageData F A → Type 0
+StayInFile (from.File file) = ⊤
+StayInFile (from.Memory bytes) = ⊥
 
--- all bytes are held, those that are known
-abbrev pub IsAllOf : {F A : Type 0} → Option (List ℕ) → OpenImage F A → Type 0
-IsAllOf known (Gathered kept file) = ⊥
-IsAllOf known (Whole bytes) = IfSome known (λ xs. bytes.items ≡ xs)
+-- all bytes of the data are in memory, those that are known
+abbrev pub AreAllOf : {F A : Type 0} → Option (List ℕ) → ImageData F A → Type 0
+AreAllOf known (from.File file) = ⊥
+AreAllOf known (from.Memory bytes) = IfSome known (λ xs. bytes.items ≡ xs)
 
--- how the image of a file of this kind is held, of which these bytes are known
-abbrev pub IsOpenedAs : {F A : Type 0} → FileKind → Option (List ℕ) → OpenImage F A → Type 0
-IsOpenedAs (Regular size) known image = StaysInFile image
-IsOpenedAs BlockDevice known image = StaysInFile image
-IsOpenedAs Stream known image = IsAllOf known image
+-- what the data of a file of this kind are read from, of which these bytes are known
+abbrev pub AreOfFile : {F A : Type 0} → FileKind → Option (List ℕ) → ImageData F A → Type 0
+AreOfFile (Regular size) known source = StayInFile source
+AreOfFile BlockDevice known source = StayInFile source
+AreOfFile Stream known source = AreAllOf known source
+
+-- which bytes of the data of such a file are known when its image is open: of a stream all
+abbrev pub IsKnownAs : FileKind → Option (List ℕ) → Option (List ℕ) → Type 0
+IsKnownAs (Regular size) known seen = seen ≡ None
+IsKnownAs BlockDevice known seen = seen ≡ None
+IsKnownAs Stream known seen = IsSome seen × IfSome known (λ xs. seen ≡ Some xs)
+
+-- how the image of a file of this kind is open, of which these bytes are known
+pub record IsOpenedAs (kind : FileKind) (known : Option (List ℕ)) (trailers : Trailers)
+    (image : Opened) : Type 0 where
+  pub known_is : IsKnownAs kind known image.known
+  pub trailers_are : image.trailers ≡ trailers
+
+-- why a file was not read, by why nothing was kept of it
+abbrev pub fault_of : GatherFault → ReadFault
+fault_of gather.Unread = Failed
+fault_of gather.Memory = Memory
 
 -- the bytes that are held of an image, and zeros where nothing is
 abbrev pub held_bytes : {A : Type 0} → HeldImage A → List ℕ

@@ -5,12 +5,13 @@
 //! cannot be read, is told before one of the upper. So all images below the one that is told were
 //! read.
 
-ghost use Rattle.std.specs.Prelude.{◌≡◌, ◌⊎◌, ◌+◌, ◌<◌, ◌^◌, ℕ, ◌++◌, length, vec_len, IfOk, IfErr, OnOk};
+ghost use Rattle.std.specs.Prelude.{◌≡◌, ◌⊎◌, ◌+◌, ◌<◌, ◌^◌, ℕ, ◌++◌, length, vec_len, All, IfOk, IfErr, OnOk};
 ghost use Rattle.image_files.specs.Unread.{IsReadUpTo};
 ghost use Rattle.image_files.specs.declared.images.FilesFault.TheVariants.{Unread, Memory};
 ghost use denote.Param.Send.{IsSync, IsSend, Frees};
 
-use crate::opening::{HeldImage, OpenImage};
+use crate::open_image::OpenImage;
+use crate::opening::HeldImage;
 use crate::whole::{OfFile, ReadFault, Trailers};
 use std::alloc::{AllocError, AllocFailed, Allocator};
 use std::fs;
@@ -74,13 +75,14 @@ where
 
 /// The images at these paths, in the order of the paths. Of a regular file and of a block device
 /// only what the rules look at is read, its first bytes, headers, names and the targets of symbolic
-/// links; the file stays open. All other files are read whole, as `read_images` reads them.
+/// links, with the trailer where trailers are read; the file stays open. All other files are read
+/// whole, as `read_images` reads them, and then gathered in the same way.
 ///
 /// Of a long list at most four parts are opened at the same time; of several files that cannot be
 /// read the lowest is told, if there was memory for all below it. `Unread` comes where a file
 /// cannot be opened, as one too many, where a read fails or gives fewer bytes than the file has
 /// said, and where a device tells no end. That an image's full size goes on behind the end of its
-/// file is no fault here.
+/// file is no fault here. `Memory` comes, too, where a trailer that is read ends at 2^32 or behind.
 pub fn open_images<R: Files + Threads + Sync, A: Allocator + Copy + Send + Sync>(
     rt: &R,
     alloc: A,
@@ -91,6 +93,8 @@ where
     R::File: FileExt + Send,
     R::Dir: Send,
     ensures ok { IfOk result (λ images. vec_len images ≡ length paths.now) }
+    ensures trailers { IfOk result (λ images.
+        All (λ image. image.trailers ≡ trailers) images.items) }
     ensures err { IfErr result (λ fault. (fault ≡ Memory)
         ⊎ ((image : ℕ) × (image < length paths.now) × (fault ≡ Unread image))) }
 {
@@ -138,7 +142,8 @@ where
     R::File: Send,
     R::Dir: Send,
     requires { first + length paths.now < 2 ^ 64 }
-    ensures { IsReadUpTo first (length paths.now) (vec_len result.images) result.end }
+    ensures count { IsReadUpTo first (length paths.now) (vec_len result.images) result.end }
+    ensures read { All (T.is_read trailers) result.images.items }
 {
     if forks == 0 || paths.len() < MANY {
         return read_in_turn(rt, alloc, first, paths, trailers);
@@ -153,12 +158,14 @@ where
         move || -> Run<T, A>
             requires { IsSync R.row × IsSync A.row × IsSend A.row
                 × Frees A.Allocator A.dealloc_token × (next + length highs.now < 2 ^ 64) }
-            ensures { IsReadUpTo next (length highs.entry.now) (vec_len result.images) result.end }
+            ensures count { IsReadUpTo next (length highs.entry.now) (vec_len result.images) result.end }
+            ensures read { All (T.is_read trailers) result.images.items }
         { read_from(rt, alloc, next, highs, trailers, less) },
         move || -> Run<T, A>
             requires { IsSync R.row × IsSync A.row × IsSend A.row
                 × Frees A.Allocator A.dealloc_token × (first + length lows.now < 2 ^ 64) }
-            ensures { IsReadUpTo first (length lows.entry.now) (vec_len result.images) result.end }
+            ensures count { IsReadUpTo first (length lows.entry.now) (vec_len result.images) result.end }
+            ensures read { All (T.is_read trailers) result.images.items }
         { read_from(rt, alloc, first, lows, trailers, less) },
     );
     both(low, high)
@@ -172,6 +179,8 @@ fn both<T: Drop, A: Allocator>(low: Run<T, A>, high: Run<T, A>) -> Run<T, A>
     ensures read { (first lows highs : ℕ) → IsReadUpTo first lows (vec_len low.images) low.end →
         IsReadUpTo (first + lows) highs (vec_len high.images) high.end →
         IsReadUpTo first (lows + highs) (vec_len result.images) result.end }
+    ensures either { (result.images.items ≡ low.images.items)
+        ⊎ (result.images.items ≡ low.images.items ++ high.images.items) }
 {
     let Run { mut images, end } = low;
     if let Err(fault) = end {
@@ -203,7 +212,8 @@ fn read_in_turn<R: Files, A: Allocator + Copy, T: OfFile<R::File, A> + Drop>(
     trailers: Trailers,
 ) -> Run<T, A>
     requires { first + length paths.now < 2 ^ 64 }
-    ensures { IsReadUpTo first (length paths.now) (vec_len result.images) result.end }
+    ensures count { IsReadUpTo first (length paths.now) (vec_len result.images) result.end }
+    ensures read { All (T.is_read trailers) result.images.items }
 {
     let mut images = Vec::new(alloc);
     let end = add_in_turn(rt, alloc, first, paths, trailers, &mut images);
@@ -222,7 +232,8 @@ fn add_in_turn<R: Files, A: Allocator + Copy, T: OfFile<R::File, A> + Drop>(
 ) -> Result<(), FilesFault>
     requires empty { vec_len images.old ≡ 0 }
     requires few { first + length paths.now < 2 ^ 64 }
-    ensures { IsReadUpTo first (length paths.now) (vec_len images.new) result }
+    ensures count { IsReadUpTo first (length paths.now) (vec_len images.new) result }
+    ensures read { All (T.is_read trailers) images.new.items }
 {
     images.reserve_exact(paths.len())?;
     for (at, path) in paths.iter().enumerate() {
@@ -238,7 +249,8 @@ fn read_image<R: Files, A: Allocator, T: OfFile<R::File, A>>(
     path: &str,
     trailers: Trailers,
 ) -> Result<T, FilesFault>
-    ensures { IfErr result (λ fault. (fault ≡ Unread image) ⊎ (fault ≡ Memory)) }
+    ensures ok { IfOk result (T.is_read trailers) }
+    ensures err { IfErr result (λ fault. (fault ≡ Unread image) ⊎ (fault ≡ Memory)) }
 {
     let file = fs::open(rt, path).map_err(|_| FilesFault::Unread { image })?;
     match T::of_file(alloc, file, trailers) {

@@ -5,23 +5,29 @@
 //!   each file that tells its length.
 //! - [`open_images`] opens them. Of a file that can be read at a place headers, names and targets
 //!   are read (`kept_image`), in memory in proportion to these, and the file stays open; others are
-//!   read whole. Which of both it was, each [`OpenImage`] says.
+//!   read whole. An [`OpenImage`] has both: what is kept, and what its data are read from, the file
+//!   or the bytes ([`ImageData`]). [`apart`] makes two lists of a list of them.
 //! - [`gather_images`] reads as much, and keeps no file open: [`HeldImage`].
 //!
 //! Of a long list up to four parts are read at the same time; the lowest image that cannot be read
 //! is told.
 //!
 //! The private parts: `images` shares a list out, whatever is read of each file; `whole` reads one
-//! file, and `opening` opens one. No clause sees a path, nor what a file holds: the tests open real
-//! files.
+//! file, and `opening` opens one; `open_image` and `image_data` have what is open. No clause sees a path,
+//! nor what a file holds: the tests open real files. Of bytes in memory a clause says that what is
+//! kept was gathered of them.
 #![tactic(auto)]
 
+mod image_data;
 mod images;
+mod open_image;
 mod opening;
 #[cfg(test)]
 mod tests;
 mod whole;
 
+pub use image_data::ImageData;
 pub use images::{FilesFault, gather_images, open_images, read_images};
-pub use opening::{HeldImage, OpenImage};
+pub use open_image::{OpenImage, apart};
+pub use opening::HeldImage;
 pub use whole::Trailers;

@@ -4,12 +4,14 @@
 //! regular file, or a block device, whose size is told by a seek to its end. Any other gives its
 //! bytes once, from the first to the last, and is read whole.
 
-ghost use Rattle.std.specs.Prelude.{◌↔◌, IfOk, IsTrue};
-ghost use Rattle.image_files.specs.Opening.{IsBlockDevice, IsKindOf, IsOpenedAs, StaysInFile};
+ghost use Rattle.std.specs.Prelude.{◌≡◌, ◌↔◌, IfOk, IsTrue};
+ghost use Rattle.image_files.specs.Opening.{AreOfFile, IsBlockDevice, IsKindOf, IsOpenedAs, fault_of};
 
+use crate::image_data::ImageData;
+use crate::open_image::{OpenImage, gather_as};
 use crate::whole::{OfFile, ReadFault, Trailers, read_file};
 use image_bytes::InFile;
-use kept_image::{GatherFault, Kept, gather, gather_with_trailer};
+use kept_image::{GatherFault, Kept};
 use std::alloc::Allocator;
 use std::fs::{Metadata, OpenFile};
 use std::io::{Read, Seek, SeekFrom};
@@ -21,18 +23,23 @@ const FILE_TYPE: u32 = 0o170000;
 /// What they are of a block device (S_IFBLK).
 const BLOCK_DEVICE: u32 = 0o060000;
 
-/// What is held of an image whose file was opened.
-#[derive(Drop)]
-pub enum OpenImage<F, A: Allocator> {
-    /// What the rules look at, and the file, which has all else. The file's size is the one that it
-    /// told when it was opened.
-    Gathered { kept: Kept<A>, file: InFile<F> },
-    /// All bytes of a file that cannot be read at a place.
-    Whole(Vec<u8, A>),
+impl From<GatherFault> for ReadFault {
+    ghost from_gives = { λ gathering fault. fault ≡ fault_of gathering };
+
+    fn from(fault: GatherFault) -> ReadFault {
+        match fault {
+            GatherFault::Unread => ReadFault::Failed,
+            GatherFault::Memory => ReadFault::Memory,
+        }
+    }
 }
 
 impl<F: Read + Seek + OpenFile + FileExt + Drop, A: Allocator + Copy> OfFile<F, A>
     for OpenImage<F, A> {
+    ghost use Rattle.std.specs.Prelude.{◌≡◌};
+
+    ghost is_read = { λ trailers image. image.trailers ≡ trailers };
+
     fn of_file(alloc: A, file: F, trailers: Trailers) -> Result<OpenImage<F, A>, ReadFault> {
         let kind = told_kind(&file);
         open_as(alloc, file, kind, trailers)
@@ -50,11 +57,15 @@ pub enum HeldImage<A: Allocator> {
 
 impl<F: Read + Seek + OpenFile + FileExt + Drop, A: Allocator + Copy> OfFile<F, A>
     for HeldImage<A> {
+    ghost use Rattle.std.specs.Prelude.{⊤};
+
+    ghost is_read = { λ _ _. ⊤ };
+
     fn of_file(alloc: A, file: F, trailers: Trailers) -> Result<HeldImage<A>, ReadFault> {
         let kind = told_kind(&file);
-        match open_as(alloc, file, kind, trailers)? {
-            OpenImage::Gathered { kept, .. } => Ok(HeldImage::Kept(kept)),
-            OpenImage::Whole(bytes) => Ok(HeldImage::Whole(bytes)),
+        match data_of(alloc, file, kind)? {
+            ImageData::File(file) => Ok(HeldImage::Kept(gather_as(alloc, &file, trailers)?)),
+            ImageData::Memory(bytes) => Ok(HeldImage::Whole(bytes)),
         }
     }
 }
@@ -103,42 +114,35 @@ fn is_block_device(metadata: &Metadata) -> bool
 /// where a device tells no end, or where the file ends before the size that it told.
 pub(crate) fn open_as<F: Read + Seek + OpenFile + FileExt + Drop, A: Allocator + Copy>(
     alloc: A,
-    mut file: F,
+    file: F,
     kind: FileKind,
     trailers: Trailers,
 ) -> Result<OpenImage<F, A>, ReadFault>
-    ensures { IfOk result (λ image. IsOpenedAs kind (F.remaining file) image) }
+    ensures { IfOk result (IsOpenedAs kind (F.remaining file) trailers) }
+{
+    let source = data_of(alloc, file, kind)?;
+    Ok(OpenImage::over(alloc, source, trailers)?)
+}
+
+/// What the data of a file of a kind are read from: the file, or of a stream all its bytes.
+fn data_of<F: Read + Seek + OpenFile + FileExt + Drop, A: Allocator>(
+    alloc: A,
+    mut file: F,
+    kind: FileKind,
+) -> Result<ImageData<F, A>, ReadFault>
+    ensures { IfOk result (AreOfFile kind (F.remaining file)) }
 {
     match kind {
-        FileKind::Regular { size } => gather_file(alloc, InFile::new(file, size), trailers),
+        FileKind::Regular { size } => Ok(ImageData::File(InFile::new(file, size))),
         FileKind::BlockDevice => {
             let size = end_of(&mut file)?;
-            gather_file(alloc, InFile::new(file, size), trailers)
+            Ok(ImageData::File(InFile::new(file, size)))
         }
-        FileKind::Stream => Ok(OpenImage::Whole(read_file(alloc, file)?)),
+        FileKind::Stream => Ok(ImageData::Memory(read_file(alloc, file)?)),
     }
 }
 
 /// How many bytes stand before the end of a file.
 fn end_of<F: Seek>(file: &mut F) -> Result<u64, ReadFault> {
     file.seek(SeekFrom::End(0)).map_err(|_| ReadFault::Failed)
-}
-
-/// What is gathered of a file, with the file.
-fn gather_file<F: FileExt + Drop, A: Allocator + Copy>(
-    alloc: A,
-    file: InFile<F>,
-    trailers: Trailers,
-) -> Result<OpenImage<F, A>, ReadFault>
-    ensures { IfOk result StaysInFile }
-{
-    let gathered = match trailers {
-        Trailers::Read => gather_with_trailer(alloc, &file),
-        Trailers::Left => gather(alloc, &file),
-    };
-    match gathered {
-        Ok(kept) => Ok(OpenImage::Gathered { kept, file }),
-        Err(GatherFault::Unread) => Err(ReadFault::Failed),
-        Err(GatherFault::Memory) => Err(ReadFault::Memory),
-    }
 }

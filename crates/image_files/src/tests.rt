@@ -5,15 +5,16 @@
 
 use crate::opening::{FileKind, open_as};
 use crate::whole::ReadFault;
-use crate::{FilesFault, OpenImage, Trailers, open_images};
+use crate::{FilesFault, ImageData, Trailers, apart, open_images};
 use held_image::Held;
 use held_image::read::word;
 use image_bytes::{Contents, fill};
+use kept_image::Kept;
 use std::alloc::{AllocError, Allocator};
 use std::fs::{self, File, Files};
 use std::os::unix::fs::FileExt;
 use std::test::Fail;
-use std::thread::Threads;
+use std::thread::{Threads, join};
 use std::{env, io, process};
 
 /// The first bytes of each image (romfs.rst): its magic, full size and name, and the root with its
@@ -36,19 +37,15 @@ fn image<A: Allocator>(alloc: A, name: u8, data: u8) -> Result<Vec<u8, A>, Alloc
     Ok(image)
 }
 
-/// What is seen of an image that is open.
+/// What is seen of an image that is open: what is kept at the name and at the data; whether the
+/// bytes are in memory, how many there are, and what is read at the data.
 #[derive(Clone, Copy, Debug, PartialEq, Eq)]
-enum Seen {
-    /// What is kept at the name and at the data; how large the file is, and what it has at the
-    /// data.
-    Gathered {
-        name: Option<u32>,
-        data: Option<u32>,
-        size: u64,
-        read: [u8; 4],
-    },
-    /// So many bytes.
-    Whole(usize),
+struct Seen {
+    name: Option<u32>,
+    data: Option<u32>,
+    in_memory: bool,
+    size: u64,
+    read: Option<[u8; 4]>,
 }
 
 fn word_at(image: &Held<'_>, at: usize) -> Option<u32> {
@@ -59,31 +56,63 @@ fn word_at(image: &Held<'_>, at: usize) -> Option<u32> {
     }
 }
 
-fn look_at<F: FileExt, A: Allocator>(image: &OpenImage<F, A>) -> Seen {
-    match image {
-        OpenImage::Gathered { kept, file } => {
-            let mut read = [0; 4];
-            if fill(file, &mut read, 560).is_err() {
-                read = [0; 4];
-            }
-            Seen::Gathered {
-                name: word_at(&kept.held(), 544),
-                data: word_at(&kept.held(), 560),
-                size: file.size(),
-                read,
-            }
+fn look_at<F: FileExt, A: Allocator>(kept: &Kept<A>, source: &ImageData<F, A>) -> Seen {
+    Seen {
+        name: word_at(&kept.held(), 544),
+        data: word_at(&kept.held(), 560),
+        in_memory: matches!(source, ImageData::Memory(_)),
+        size: source.size(),
+        read: data_in(source),
+    }
+}
+
+/// What is read at the data.
+fn data_in<F: FileExt, A: Allocator>(source: &ImageData<F, A>) -> Option<[u8; 4]> {
+    let mut room = [0; 4];
+    match fill(source, &mut room, 560) {
+        Ok(()) => Some(room),
+        Err(_) => None,
+    }
+}
+
+/// The same, read by two threads at the same time.
+fn data_in_two<R: Threads + Sync, F: FileExt + Sync, A: Allocator + Sync>(
+    rt: &R,
+    source: &ImageData<F, A>,
+) -> (Option<[u8; 4]>, Option<[u8; 4]>) {
+    join(rt, move || data_in(source), move || data_in(source))
+}
+
+/// The same of a file that is opened as one of this kind; none where it cannot be.
+fn data_as<R: Files + Threads + Sync, A: Allocator + Copy + Sync>(
+    rt: &R,
+    alloc: A,
+    path: &str,
+    kind: FileKind,
+) -> (Option<[u8; 4]>, Option<[u8; 4]>)
+where
+    R::File: FileExt + Sync,
+{
+    let Ok(file) = fs::open(rt, path) else {
+        return (None, None);
+    };
+    match open_as(alloc, file, kind, Trailers::Left) {
+        Ok(image) => {
+            let (_kept, source) = image.into_parts();
+            data_in_two(rt, &source)
         }
-        OpenImage::Whole(bytes) => Seen::Whole(bytes.len()),
+        Err(_) => (None, None),
     }
 }
 
 /// What is seen of an image with this name and these data: none of these are kept.
 fn gathered(name: u8, data: u8) -> Seen {
-    Seen::Gathered {
+    Seen {
         name: Some(u32::from(name) << 24),
         data: Some(0),
+        in_memory: false,
         size: 592,
-        read: [data; 4],
+        read: Some([data; 4]),
     }
 }
 
@@ -101,9 +130,10 @@ where
 {
     let paths = [low, high, high, other, low, high, other, low, high];
     let images = open_images(rt, alloc, &paths, Trailers::Left)?;
-    let mut all = Vec::with_capacity(alloc, images.len())?;
-    for image in &images {
-        all.push(look_at(image))?;
+    let (kept, sources) = apart(alloc, images)?;
+    let mut all = Vec::with_capacity(alloc, kept.len())?;
+    for (kept, source) in kept.iter().zip(sources.iter()) {
+        all.push(look_at(kept, source))?;
     }
     Ok(all)
 }
@@ -112,7 +142,8 @@ where
 fn seen_as(rt: &HostRuntime, path: &str, kind: FileKind) -> Option<Seen> {
     let file = fs::open(rt, path).ok()?;
     let image = open_as(rt.alloc(), file, kind, Trailers::Read).ok()?;
-    Some(look_at(&image))
+    let (kept, source) = image.into_parts();
+    Some(look_at(&kept, &source))
 }
 
 /// Whether reading fails where a file is opened as a regular one of so many bytes.
@@ -148,7 +179,13 @@ fn each_file_is_opened_in_its_own_way(rt: HostRuntime) -> Result<(), Fail> {
     fs::remove_file(&rt, a)?;
     fs::remove_file(&rt, b)?;
     let (l, h) = (gathered(b'l', b'1'), gathered(b'h', b'2'));
-    let none = Seen::Whole(0);
+    let none = Seen {
+        name: None,
+        data: None,
+        in_memory: true,
+        size: 0,
+        read: None,
+    };
     let want = [l, h, h, none, l, h, none, l, h];
     assert!(rt; told.is_ok_and(|all| all.as_slice() == want.as_slice()));
     assert_eq!(rt; unread, [Some(FilesFault::Unread { image: 3 }); 2]);
@@ -163,6 +200,7 @@ fn a_file_is_opened_by_its_kind(rt: HostRuntime) -> Result<(), Fail> {
     let told = [
         seen_as(&rt, w, FileKind::Regular { size: 592 }),
         seen_as(&rt, w, FileKind::BlockDevice),
+        seen_as(&rt, w, FileKind::Stream),
         seen_as(&rt, c, FileKind::Stream),
         seen_as(&rt, c, FileKind::Regular { size: 540 }),
     ];
@@ -170,14 +208,41 @@ fn a_file_is_opened_by_its_kind(rt: HostRuntime) -> Result<(), Fail> {
     let is_told = is_unread(&rt, c, 592);
     fs::remove_file(&rt, w)?;
     fs::remove_file(&rt, c)?;
-    let all = Some(gathered(b'w', b'1'));
-    let short = Seen::Gathered {
+    let all = gathered(b'w', b'1');
+    let all_in_memory = Seen {
+        in_memory: true,
+        ..all
+    };
+    let short = Seen {
         name: None,
         data: None,
+        in_memory: false,
         size: 540,
-        read: [0; 4],
+        read: None,
     };
-    assert_eq!(rt; told, [all, all, Some(Seen::Whole(540)), Some(short)]);
+    let short_in_memory = Seen {
+        in_memory: true,
+        ..short
+    };
+    let want = [all, all, all_in_memory, short_in_memory, short];
+    assert_eq!(rt; told, want.map(|seen| Some(seen)));
     assert!(rt; is_told);
+    Ok(())
+}
+
+#[test]
+fn data_are_read_by_two_threads(rt: HostRuntime) -> Result<(), Fail> {
+    let path = written(&rt, b't', b'3', 592)?;
+    let in_file = data_as(
+        &rt,
+        rt.alloc(),
+        path.as_str(),
+        FileKind::Regular { size: 592 },
+    );
+    let in_memory = data_as(&rt, rt.alloc(), path.as_str(), FileKind::Stream);
+    fs::remove_file(&rt, path.as_str())?;
+    let data = (Some([b'3'; 4]), Some([b'3'; 4]));
+    assert_eq!(rt; in_file, data);
+    assert_eq!(rt; in_memory, data);
     Ok(())
 }

@@ -38,11 +38,21 @@ pub enum Trailers {
 
 /// What is read of the file of an image.
 pub(crate) trait OfFile<F, A: Allocator>: Sized {
+    ghost use Rattle.image_files.specs.declared.whole.Trailers.{Trailers};
+
+    // Holds of what is read, where trailers are read or left.
+    ghost is_read: { Trailers → Self → Type 0 };
+
     /// What is read of this file, which is at its beginning.
-    fn of_file(alloc: A, file: F, trailers: Trailers) -> Result<Self, ReadFault>;
+    fn of_file(alloc: A, file: F, trailers: Trailers) -> Result<Self, ReadFault>
+        ensures { IfOk result (is_read trailers) };
 }
 
 impl<F: Read + OpenFile + Drop, A: Allocator> OfFile<F, A> for Vec<u8, A> {
+    ghost use Rattle.std.specs.Prelude.{⊤};
+
+    ghost is_read = { λ _ _. ⊤ };
+
     /// All bytes, with those of the trailer.
     fn of_file(alloc: A, file: F, _trailers: Trailers) -> Result<Vec<u8, A>, ReadFault> {
         read_file(alloc, file)

@@ -139,8 +139,7 @@ fn set_keys(image: &ImageView<'_>, members: &mut [KeyedMember], shared: usize)
     ensures { members.new ≡ map (keyed_past image.now shared) members.old }
 {
     for member in members.iter_mut() {
-        let head = image.given_named(member.offset, member.name_len);
-        let name = image.name(&head);
+        let name = image.given_name(member.offset, member.name_len);
         member.key = key_of(&name[shared..]);
     }
 }

@@ -333,7 +333,8 @@ fn markers_of<A: Allocator + Copy>(
     members: &[KeyedMember],
     below: &Branches<A>,
 ) -> Result<Vec<Branch<Mark, A>, A>, AllocError>
-    requires { AreBuilt layer.now.image.now layer.now.number
+    requires read { All (IsRead layer.now.image.now) members.now }
+    requires built { AreBuilt layer.now.image.now layer.now.number
         (members_in layer.now.image.now members.now)
         below.now.entries.items below.now.marks.items }
     ensures { IfOk result
@@ -351,12 +352,13 @@ fn whiteouts_of<A: Allocator + Copy>(
     image: &ImageView<'_>,
     members: &[KeyedMember],
 ) -> Result<Vec<Branch<Mark, A>, A>, AllocError>
+    requires { All (IsRead image.now) members.now }
     ensures { IfOk result
         (λ marks. AreWhiteouts (members_in image.now members.now) marks.items) }
 {
     let mut marks = Vec::new(alloc);
     for member in members {
-        let Some(name) = whiteout_of(image.name_at(member.offset)) else {
+        let Some(name) = whiteout_of(image.given_name(member.offset, member.name_len)) else {
             continue;
         };
         let name = Name::of(alloc, name)?;

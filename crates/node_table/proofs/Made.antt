@@ -11,7 +11,7 @@ use Rattle.std.proofs.lemmas.Option.{slice_get_within, get_or_from_slice_get}
 use Rattle.romfs_format.specs.declared.head.Kind.{Kind}
 use Rattle.romfs_format.specs.declared.head.Kind.TheVariants.{HardLink, Directory as DirectoryKind, Regular, SymLink, Block, Character, Socket, Fifo}
 use Rattle.romfs_format.specs.Fields.{kind, exec, size, spec}
-use Rattle.romfs_reader.specs.Readers.{data_size}
+use Rattle.romfs_reader.specs.Readers.{data_size, data_start_of}
 use Rattle.stack_model.specs.Listing.{Entry as Listed}
 use Rattle.stack_model.specs.Numbers.{Place as ModelPlace, Child, place, same_place, nodes, children}
 use Rattle.stack_model.specs.Attributes.{is_directory, is_directory_at, kind_at, mode_of, mode, size_of, size_at, rdev_of, rdev, nlink, blocks_all}
@@ -177,6 +177,8 @@ module _ {A : Type 0} {stack : Stacked} {tell : Place → ℕ} {first : First A}
       is = here;
       lies = read.data_is.lies;
       data_is = read.data_is.bytes ∙ agrees.data_is agrees.header.image agrees.header.is;
+      start_is = λ some. read.data_is.start_is some
+          ∙ ap (λ x. data_start_of x visit.now.value.place.header) (sym layer);
     };
     kind = kind_is;
     size = size_is;

@@ -2,7 +2,7 @@
 //!
 //! [`Table::of`](OfTree::of) gives the table of a stack from its tree, and
 //! [`Table::with_attributes`](OfTree::with_attributes) one whose nodes have rows of attributes, or
-//! another owner. What a table tells, and how it is read, `table_reader` says. It is made in one
+//! another owner; [`table_of_layers`] makes it of images that stay in their files, too. What a table tells, and how it is read, `table_reader` says. It is made in one
 //! walk over the tree, which tells for each branch where the one above stands and how many are
 //! below it. Places that have more paths than one are found by a sort, and all are numbered by
 //! their first path; from then on a branch's number is found by where it stands: n log n steps in
@@ -18,5 +18,5 @@ mod making;
 mod numbering;
 mod walk;
 
-pub use making::OfTree;
-pub use table_reader::{Attr, Attributes, Kind, Node, Owner, Place, Row, Rows, Table};
+pub use making::{OfTree, table_of_layers};
+pub use table_reader::{Attr, Attributes, Kind, Layers, Node, Owner, Place, Row, Rows, Table};

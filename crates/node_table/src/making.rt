@@ -1,6 +1,6 @@
 //! A table made of a tree.
 
-ghost use Rattle.std.specs.Prelude.{◌≡◌, ◌≤◌, length, IfOk};
+ghost use Rattle.std.specs.Prelude.{◌≡◌, ◌≤◌, length, true, IfOk};
 ghost use Rattle.std.specs.List.{AllByRecursion};
 ghost use Rattle.stack_model.specs.declared.limits.TheConstants.{MAX_LAYERS};
 ghost use Rattle.romfs_reader.specs.Images.{IsImage};
@@ -13,10 +13,10 @@ use crate::building::{TableParts, make};
 use crate::completing::{blocks_of, complete_all};
 use crate::numbering::number_places;
 use crate::walk::{Walked, count_branches, walk};
-use romfs_reader::{Image, ImageView, views_of};
+use romfs_reader::{Image, ImageView};
 use std::alloc::{AllocError, Allocator};
 use std::thread::Threads;
-use table_reader::{Attributes, Table};
+use table_reader::{Attributes, Layers, Table};
 use whiteout_tree::Tree;
 
 /// What is made of the tree of a stack.
@@ -91,7 +91,8 @@ impl<A: Allocator + Copy> OfTree for Table<A> {
         requires threads { IsSync R.row }
         requires tree { IsTreeOf 0 images.items tree }
         requires few { length images.items ≤ MAX_LAYERS }
-        ensures { IfOk result (λ table. IsTableOf images.items table) }
+        ensures stack { IfOk result (λ table. IsTableOf images.items table) }
+        ensures whole { IfOk result (λ table. table.whole ≡ true) }
     {
         Table::with_attributes(rt, alloc, tree, images, Attributes::none(alloc))
     }
@@ -109,31 +110,50 @@ impl<A: Allocator + Copy> OfTree for Table<A> {
         requires threads { IsSync R.row }
         requires tree { IsTreeOf 0 images.items tree }
         requires few { length images.items ≤ MAX_LAYERS }
-        ensures { IfOk result (λ table. IsTableWith images.items attributes.rows.items
+        ensures stack { IfOk result (λ table. IsTableWith images.items attributes.rows.items
             attributes.owner table) }
+        ensures whole { IfOk result (λ table. table.whole ≡ true) }
     {
-        let (blocks, parts) = read_all(alloc, &tree, &images)?;
-        let TableParts {
-            mut nodes,
-            directories,
-        } = parts;
-        complete_all(rt, &mut nodes);
-        Table::of_parts(alloc, images, nodes, directories, blocks, attributes)
+        table_of_layers(rt, alloc, tree, Layers::whole(alloc, images), attributes)
     }
+}
+
+/// The table of a stack, as [`OfTree::with_attributes`] makes it, of images that are held whole or
+/// of what is kept of them.
+pub fn table_of_layers<R: Threads + Sync, A: Allocator + Copy>(
+    rt: &R,
+    alloc: A,
+    tree: Tree<A>,
+    layers: Layers<A>,
+    attributes: Attributes<A>,
+) -> Result<Table<A>, AllocError>
+    requires tree { IsTreeOf 0 layers.all tree }
+    requires few { length layers.all ≤ MAX_LAYERS }
+    ensures stack { IfOk result (λ table. IsTableWith layers.all attributes.rows.items
+        attributes.owner table) }
+    ensures whole { IfOk result (λ table. table.whole ≡ layers.whole) }
+{
+    let (blocks, parts) = read_all(alloc, &tree, &layers)?;
+    let TableParts {
+        mut nodes,
+        directories,
+    } = parts;
+    complete_all(rt, &mut nodes);
+    Table::of_parts(alloc, layers, nodes, directories, blocks, attributes)
 }
 
 // The blocks of images, and of the tree of their stack what `parts_of` makes.
 fn read_all<A: Allocator + Copy>(
     alloc: A,
     tree: &Tree<A>,
-    images: &[Image<A>],
+    layers: &Layers<A>,
 ) -> Result<(u64, TableParts<A>), AllocError>
-    requires tree { IsTreeOf 0 images.now tree.now }
-    requires few { length images.now ≤ MAX_LAYERS }
-    ensures blocks { IfOk result (λ it. it.0 ≡ blocks_all images.now) }
-    ensures made { IfOk result (λ it. AreMade images.now it.1.nodes.items it.1.directories) }
+    requires tree { IsTreeOf 0 layers.now.all tree.now }
+    requires few { length layers.now.all ≤ MAX_LAYERS }
+    ensures blocks { IfOk result (λ it. it.0 ≡ blocks_all layers.now.all) }
+    ensures made { IfOk result (λ it. AreMade layers.now.all it.1.nodes.items it.1.directories) }
 {
-    let views = views_of(alloc, images)?;
+    let views = layers.views(alloc)?;
     let blocks = blocks_of(&views);
     let parts = parts_of(alloc, tree, &views)?;
     Ok((blocks, parts))

@@ -1,5 +1,5 @@
 -- Where a list ends: all lines were put (`listed`), or the sink failed as it took them (`broken`).
-use Rattle.std.proofs.Common.{◌≡◌, sym, subst, List, [], Ok, Err, append-nil, arith}
+use Rattle.std.proofs.Common.{◌≡◌, sym, subst, [], Ok, Err, append-nil, arith}
 use Rattle.std.specs.Prelude.{Result, IfErr, IsErrAnd}
 use Rattle.stack_model.specs.Listing.{Stacked}
 use Rattle.path_list.specs.declared.walk.ListFault.{ListFault}

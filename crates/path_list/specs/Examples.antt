@@ -1,5 +1,5 @@
 -- A worked example: a directory with a row of attributes.
-use Rattle.std.specs.Prelude.{[], ◌∷◌}
+use Rattle.std.specs.Prelude.{[], ◌∷◌, true}
 use Rattle.node_attr.specs.declared.owner.TheConstants.Owner.{ROOT}
 use Rattle.stack_model.specs.Listing.{Stacked}
 
@@ -18,4 +18,5 @@ sticky_root = record {
     nanoseconds = 0;
   } ∷ []) ∷ [];
   owner = ROOT;
+  whole = true;
 }

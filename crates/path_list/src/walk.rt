@@ -10,9 +10,8 @@ use crate::fields::{FIELDS_SIZE, write_fields};
 use crate::path_text::PathText;
 use crate::room::Room;
 use devices::{Failed, Sink};
-use romfs_reader::Image;
 use std::alloc::{AllocError, Allocator};
-use table_reader::Table;
+use table_reader::{Layers, Table};
 
 // How many bytes of lines wait before they are written.
 const PIECE: usize = 65_536;
@@ -139,7 +138,7 @@ impl<A: Allocator> Room<A> {
             (passage (K.state sink.new) self.new.waiting.items)
             (lines table.now) }
     {
-        are_images(table.images());
+        are_images(table.layers());
         if table.len() == 0 {
             return Ok(());
         }
@@ -150,10 +149,12 @@ impl<A: Allocator> Room<A> {
 
 // Tells that each image keeps all rules, and does nothing else: what a call on an image promises
 // says so of that image.
-fn are_images<A: Allocator>(images: &[Image<A>])
-    ensures { AreImages images.now }
+fn are_images<A: Allocator>(layers: &Layers<A>)
+    ensures { AreImages layers.now.all }
 {
-    for image in images {
-        let _full = image.full();
+    for layer in 0..layers.len() {
+        if let Some(view) = layers.view(layer) {
+            let _full = view.full();
+        }
     }
 }

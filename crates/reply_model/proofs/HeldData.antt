@@ -18,12 +18,12 @@ use Rattle.fuse_wire.proofs.Sizes.{length-head, length-error_reply}
 use Rattle.fuse_wire.proofs.Telling.{held_told}
 use Rattle.stack_model.specs.Listing.{Stacked}
 use Rattle.stack_model.specs.Numbers.{Place, node_of}
-use Rattle.stack_model.specs.Attributes.{layer_of, size_at, data_of}
+use Rattle.stack_model.specs.Attributes.{layer_of, size_at, data_start, data_of}
 use Rattle.reply_model.specs.declared.session.Session.{Session}
 use Rattle.reply_model.specs.Sessions.{agreement_of}
 use Rattle.reply_model.specs.Refusals.{refusal}
 use Rattle.reply_model.specs.Replies.{answer, reply}
-use Rattle.reply_model.specs.Readings.{Sourced, sourced, data_start, reading_at, reading_from, reading_in, IsReplyOver}
+use Rattle.reply_model.specs.Readings.{Sourced, sourced, reading_at, reading_from, reading_in, IsReplyOver}
 
 -- a front part is as many bytes as it has
 own_length : (n : ℕ) (xs : List ℕ) → take n xs ≡ take (length (take n xs)) xs

@@ -350,6 +350,7 @@ owned_stack = record {
     nanoseconds = 5;
   } ∷ []) ∷ [];
   owner = record { uid = 1; gid = 2 };
+  whole = true;
 }
 
 -- the reply to a message over it

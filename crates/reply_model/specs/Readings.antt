@@ -1,19 +1,14 @@
 -- pread(2): what the data of replies are read from, at the place where a file lies in its image.
 use Rattle.std.specs.Prelude.{ℕ, ◌+◌, List, [], ◌∷◌, slice_get, Option, None}
-use Rattle.std.specs.Option.{option_map, option_map_or, option_and_then}
+use Rattle.std.specs.Option.{option_map, option_and_then}
 use Rattle.image_bytes.specs.Sources.{Source}
-use Rattle.romfs_format.specs.Fields.{name, data_at}
 use Rattle.fuse_wire.specs.Requests.{NodeOp, Op, Asked, at_node, read}
 use Rattle.fuse_wire.specs.Told.{Reading, IsTold}
 use Rattle.stack_model.specs.Listing.{Stacked}
 use Rattle.stack_model.specs.Numbers.{Place, node_of}
-use Rattle.stack_model.specs.Attributes.{layer_of}
+use Rattle.stack_model.specs.Attributes.{data_start}
 use Rattle.reply_model.specs.declared.session.Session.{Session}
 use Rattle.reply_model.specs.Replies.{reply}
-
--- where the data of a place begin in its layer
-abbrev pub data_start : List (List ℕ) → Place → ℕ
-data_start layers p = option_map_or (data_at p.1) (name (layer_of layers p) p.1) 0
 
 -- a stack, and beside it what the data of its layers are read from, the lowest first; those of a
 -- layer that has no source are held

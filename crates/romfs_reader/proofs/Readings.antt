@@ -3,6 +3,7 @@
 -- rules ask; members are those of the chain from the first header on (`chain_members`).
 use Rattle.std.proofs.Common.{◌≡◌, ◌≢◌, ◌∙◌, sym, ap, subst, ℕ, zero, suc, ◌+◌, ◌<◌, ◌≤◌, ◌⊎◌, inl, inr, List, [], length, Option, Some, None, arith, refl, IsSome, IsNone, IsSomeAnd, MatchOption, All}
 use Rattle.std.specs.Prelude.{unwrap_or}
+use Rattle.std.specs.Option.{option_map_or}
 use Rattle.std.proofs.lemmas.Bool.{cases_order}
 use Rattle.romfs_format.specs.declared.head.Kind.{Kind}
 use Rattle.romfs_format.specs.declared.head.Kind.TheVariants.{HardLink, Directory, Regular, SymLink, Block, Character, Socket, Fifo}
@@ -12,7 +13,7 @@ use Rattle.romfs_format.specs.Chains.{IsOpened}
 use Rattle.romfs_format.specs.Rules.{HasData}
 use Rattle.romfs_reader.specs.Images.{IsImage}
 use Rattle.romfs_format.specs.Heads.{name_of, head_of, IsHeadIn}
-use Rattle.romfs_reader.specs.Readers.{bytes_at, data_of_header, data_of_kind, IsPlace, IsGiven, AreMembers}
+use Rattle.romfs_reader.specs.Readers.{bytes_at, data_of_header, data_of_kind, data_start_of, IsPlace, IsGiven, AreMembers}
 use Rattle.romfs_reader.specs.Walks.{places, chain_from, members_from, IsWalk, EndsWithin}
 use Rattle.romfs_reader.proofs.Keeps.{root_directory, not_data_outside, good}
 use Rattle.romfs_reader.proofs.Given.{From, from_inside, from_named, from_aligned, from_opened, used}
@@ -106,6 +107,23 @@ given_data a i head g k =
       subst (λ x. x.name_at + padded (x.name_len + 1) + x.size ≤ length a) e n,
       subst (λ x. bytes_at a (x.name_at + padded (x.name_len + 1)) x.size ≡ data_of_header a head.offset) e (sym m),
     )
+
+-- the data of a header that has any begin behind its name, which is ended
+pub given_start : (a : List ℕ) (i : IsImage a) (head : Head) → IsGiven a head
+    → (head.kind ≡ Regular) ⊎ (head.kind ≡ SymLink)
+    → head.name_at + padded (head.name_len + 1) ≡ data_start_of a head.offset
+given_start a i head g k = elim (root_or a i head.offset g.from) [
+  | inl s ↦ subst (λ x. x.name_at + padded (x.name_len + 1) ≡ data_start_of a head.offset) (sym g.is) (named (name a head.offset) s)
+  | inr o ↦ absurd (
+      let r : kind a head.offset ≡ Directory = subst (λ x. kind a x ≡ Directory) (sym o.0) (root_directory a i) in
+      let e = ap (λ x. x.kind) g.is in
+      elim k [ inl q ↦ cc | inr q ↦ cc ])
+]
+  where
+    named : (o : Option (List ℕ)) → IsSome o
+        → data_at head.offset (unwrap_or o []) ≡ option_map_or (data_at head.offset) o 0
+    named (Some n) s = refl
+    named None s = absurd (cc)
 
 no_data_kind : (k : Kind) → k ≢ Regular → k ≢ SymLink → (a : List ℕ) (h : ℕ) → data_of_kind k a h ≡ []
 no_data_kind Regular p q a h = absurd (p refl)

@@ -11,7 +11,7 @@ use Rattle.romfs_format.specs.Heads.{name_of}
 use Rattle.romfs_reader.specs.Images.{IsImage}
 use Rattle.romfs_reader.specs.declared.parts.Part.{Part}
 use Rattle.romfs_reader.specs.Readers.{bytes_at, data_of_header, data_of_kind, data_size, IsGiven, IsPart, IsDataPart}
-use Rattle.romfs_reader.proofs.Readings.{given_data, no_data}
+use Rattle.romfs_reader.proofs.Readings.{given_data, given_start, no_data}
 
 part : (a : List ℕ) (at n : ℕ) → 16 ≤ at → length a < 2 ^ 32 → 16 + length (bytes_at a at n) < 2 ^ 32
 unfolding bytes_at
@@ -77,6 +77,7 @@ module _ (a : List ℕ) (image : IsImage a) (head : Head) (given : IsGiven a hea
         lies = record { within = d.0; short = omega arith };
         bytes = d.1;
         size_is = size_same head.size (size_with head.kind k head.size);
+        start_is = λ some. given_start a image head given k;
       }
 
   -- a part of no bytes is that of a header whose kind has no data
@@ -85,6 +86,7 @@ module _ (a : List ℕ) (image : IsImage a) (head : Head) (given : IsGiven a hea
     lies = record { within = omega arith; short = lit≤ tt };
     bytes = empty (bytes_at a 0 0) (long a 0 0 (omega arith)) ∙ sym (no_data a head given p q);
     size_is = size_same 0 (size_without head.kind p q head.size);
+    start_is = λ some. absurd (some refl);
   }
     where
       empty : (xs : List ℕ) → length xs ≡ 0 → xs ≡ []

@@ -1,5 +1,5 @@
 -- What the readers of an image give: headers, the members of a directory, names and data.
-use Rattle.std.specs.Prelude.{◌≡◌, ℕ, ◌+◌, ◌^◌, ◌<◌, ◌≤◌, ◌%◌, ◌==◌, ◌||◌, ◌&&◌, ◌⊎◌, ◌↔◌, List, [], length, take, drop, map, slice_get, Bool, false, not, Option, MatchOption, Some, All, Contains}
+use Rattle.std.specs.Prelude.{◌≡◌, ◌≢◌, ℕ, ◌+◌, ◌^◌, ◌<◌, ◌≤◌, ◌%◌, ◌==◌, ◌||◌, ◌&&◌, ◌⊎◌, ◌↔◌, List, [], length, take, drop, map, slice_get, Bool, false, not, Option, MatchOption, Some, All, Contains}
 use Rattle.std.specs.Option.{option_map_or}
 use Rattle.std.specs.List.{filter}
 use Rattle.romfs_format.specs.declared.head.Kind.{Kind}
@@ -54,11 +54,16 @@ pub record IsPart (a : List ℕ) (part : Part) : Type 0 where
   pub within : part.start + part.len ≤ length a
   pub short : 16 + part.len < 2 ^ 32
 
+-- where the data of the header h begin, if it has any: behind its padded name
+abbrev pub data_start_of : List ℕ → ℕ → ℕ
+data_start_of a h = option_map_or (data_at h) (name a h) 0
+
 -- the part is the data of the header h
 pub record IsDataPart (a : List ℕ) (h : ℕ) (part : Part) : Type 0 where
   pub lies : IsPart a part
   pub bytes : bytes_at a part.start part.len ≡ data_of_header a h
   pub size_is : part.len ≡ data_size (kind a h) (size a h)
+  pub start_is : part.len ≢ 0 → part.start ≡ data_start_of a h
 
 -- hs are the headers of the chain of the directory d, position by position
 pub record IsListed (a : List ℕ) (d : ℕ) (hs : List ℕ) : Type 0 where

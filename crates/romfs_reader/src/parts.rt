@@ -1,6 +1,6 @@
 //! What the readers of an image read, from its bytes.
 
-ghost use Rattle.std.specs.Prelude.{◌≡◌, ◌≢◌, [], ◌+◌, ◌^◌, ◌<◌, ◌≤◌, length, IsTrue, IsFalse, All, slice_get};
+ghost use Rattle.std.specs.Prelude.{◌≡◌, ◌≢◌, [], ◌+◌, ◌^◌, ◌<◌, ◌≤◌, length, IsTrue, IsFalse, IfSome, All, slice_get};
 ghost use Rattle.romfs_format.specs.Fields.{root as root_of, cleared};
 ghost use Rattle.romfs_format.specs.Links.{IsFinal};
 ghost use Rattle.romfs_reader.specs.Images.{IsImage};
@@ -9,7 +9,7 @@ ghost use Rattle.romfs_reader.specs.Readers.{data_of_header, IsHeadAt, IsGiven, 
 
 use crate::members::Members;
 use held_image::Held;
-use held_image::read::{byte_at, head_at, name_of, text_at};
+use held_image::read::{byte_at, head_at, name_of, slice_at, text_at};
 use romfs_format::head::{Head, Kind};
 use romfs_format::limits::HEAD_SIZE;
 use romfs_format::read::{cleared, padded};
@@ -147,6 +147,16 @@ pub(crate) fn bytes_in(image: &[u8], part: Part) -> &[u8]
     ensures short { 16 + length result.now < 2 ^ 32 }
 {
     bytes_at(image, part.start, part.len)
+}
+
+/// The bytes of a part, where all bytes of the image are held.
+#[inline(always)]
+#[tactic(auto, unfolding(crate::specs::Readers::bytes_at))]
+pub(crate) fn part_of<'a>(image: &Held<'a>, part: Part) -> Option<&'a [u8]>
+    requires { IsPart image.now part }
+    ensures { IfSome result (λ bytes. bytes.now ≡ bytes_at image.now part.start part.len) }
+{
+    slice_at(image, part.start as usize, part.len as usize)
 }
 
 /// The data of a header that is given.

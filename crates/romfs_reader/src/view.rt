@@ -1,18 +1,21 @@
 //! Sound images that are lent, and what is read from them.
 
-ghost use Rattle.std.specs.Prelude.{◌≡◌, ◌≢◌, ◌⊎◌, [], ◌+◌, ◌≤◌, length, Some, IsNone, All, slice_get, IfOk};
+ghost use Rattle.std.specs.Prelude.{◌≡◌, ◌≢◌, ◌⊎◌, [], ◌+◌, ◌≤◌, length, Some, IsNone, All, slice_get, IfOk, IfSome};
 ghost use Rattle.romfs_format.specs.Fields.{root as root_of, name};
 ghost use Rattle.romfs_format.specs.Heads.{name_of, head_of};
 ghost use Rattle.romfs_format.specs.Links.{IsFinal};
 ghost use Rattle.romfs_reader.specs.Images.{IsImage};
-ghost use Rattle.romfs_reader.specs.Readers.{IsHeadAt, IsGiven, IsDataPart, AreMembers};
+ghost use Rattle.romfs_reader.specs.Readers.{bytes_at, IsHeadAt, IsGiven, IsPart, IsDataPart, AreMembers};
 
 use crate::ends::Ends;
 use crate::image::Image;
 use crate::members::Members;
-use crate::parts::{Part, byte_in, data_part, end_of, members_of, name_in, named_at, place_at};
+use crate::parts::{
+    Part, byte_in, data_part, end_of, members_of, name_in, named_at, part_of, place_at,
+};
 use held_image::Held;
-use held_image::read::{head_at, head_named};
+use held_image::read::{copy_some, head_at, head_named, name_of};
+use image_bytes::{Contents, Unread};
 use romfs_format::{Head, Kind};
 use std::alloc::{AllocError, Allocator};
 use std::marker::Model;
@@ -155,6 +158,16 @@ impl<'a> ImageView<'a> {
         name_in(&self.image, head)
     }
 
+    /// The name of the header at an offset at which this image gave one before, by its length in
+    /// bytes, so that its end is not sought.
+    pub fn given_name(&self, offset: u32, name_len: u32) -> &'a [u8]
+        requires head { IsGiven self.now (head_of self.now offset) }
+        requires name { name_len ≡ length (name_of self.now offset) }
+        ensures { result.now ≡ name_of self.now offset }
+    {
+        name_of(&self.image, offset, name_len)
+    }
+
     /// The name of the header at any offset in bytes. It is empty where it has no end, or would lie
     /// beyond the image.
     pub fn name_at(&self, offset: u32) -> &'a [u8]
@@ -171,6 +184,35 @@ impl<'a> ImageView<'a> {
         ensures { IsDataPart self.now head.now.offset result }
     {
         data_part(&self.image, head)
+    }
+
+    /// The bytes of a part that lies in the image; none of an image that stays in its file.
+    pub fn part(&self, part: Part) -> Option<&'a [u8]>
+        requires { IsPart self.now part }
+        ensures { IfSome result (λ bytes. bytes.now ≡ bytes_at self.now part.start part.len) }
+    {
+        part_of(&self.image, part)
+    }
+}
+
+/// What is held of an image is read as it is. No read fails.
+impl<'a> Contents for ImageView<'a> {
+    ghost use Rattle.std.specs.Prelude.{Some};
+    ghost use Rattle.image_bytes.specs.Sources.{held};
+
+    ghost contents = { λ lent. Some lent };
+
+    ghost source = { λ lent. held lent };
+
+    fn size(&self) -> u64 {
+        self.image.len() as u64
+    }
+
+    fn read_at(&self, room: &mut [u8], offset: u64) -> Result<usize, Unread> {
+        if room.is_empty() || self.image.len() as u64 <= offset {
+            return Ok(0);
+        }
+        Ok(copy_some(&self.image, offset as usize, room))
     }
 }
 

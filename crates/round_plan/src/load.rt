@@ -145,7 +145,7 @@ fn left(len: u64, offset: u64) -> u64 {
 // How many bytes a regular file has; 0 of any other node.
 fn file_size<A: Allocator>(table: &Table<A>, number: u64) -> u64 {
     match table.node(number) {
-        Some(node) if node.kind == Kind::Regular => table.bytes(number).len() as u64,
+        Some(node) if node.kind == Kind::Regular => u64::from(node.part.len),
         _ => 0,
     }
 }

@@ -1,6 +1,6 @@
 //! Images, checked and stacked, as serving begins.
 
-ghost use Rattle.std.specs.Prelude.{IfOk, IfErr};
+ghost use Rattle.std.specs.Prelude.{◌≡◌, true, IfOk, IfErr};
 ghost use Rattle.node_attr.specs.declared.owner.TheConstants.Owner.{ROOT};
 ghost use Rattle.stack_prepare.specs.Layers.{contents_of};
 ghost use Rattle.stack_prepare.specs.Preparing.{AreStacked};
@@ -26,6 +26,7 @@ pub fn prepare<R: Threads + Sync, A: SharedAllocator, G: Gate + Sync>(
 ) -> Result<Table<A>, Stop>
     ensures ok { IfOk result (AreStacked Profile.Usual ROOT (contents_of images)) }
     ensures err { IfErr result (IsRefusal Profile.Usual (contents_of images)) }
+    ensures whole { IfOk result (λ table. table.whole ≡ true) }
 {
     prepare_as(rt, alloc, images, Profile::Usual, gate)
 }
@@ -40,6 +41,7 @@ pub fn prepare_as<R: Threads + Sync, A: SharedAllocator, G: Gate + Sync>(
 ) -> Result<Table<A>, Stop>
     ensures ok { IfOk result (AreStacked profile ROOT (contents_of images)) }
     ensures err { IfErr result (IsRefusal profile (contents_of images)) }
+    ensures whole { IfOk result (λ table. table.whole ≡ true) }
 {
     prepare_owned(rt, alloc, images, profile, Owner::ROOT, gate)
 }
@@ -55,6 +57,7 @@ pub fn prepare_owned<R: Threads + Sync, A: SharedAllocator, G: Gate + Sync>(
 ) -> Result<Table<A>, Stop>
     ensures ok { IfOk result (AreStacked profile owner (contents_of images)) }
     ensures err { IfErr result (IsRefusal profile (contents_of images)) }
+    ensures whole { IfOk result (λ table. table.whole ≡ true) }
 {
     Ok(stack_prepare::prepare_owned(rt, alloc, images, profile, owner, gate)?)
 }

@@ -93,11 +93,13 @@ module _ (layers : List (List ℕ)) where
   abbrev pub rdev : Place → ℕ
   rdev p = rdev_of (kind_at p) (spec (layer_of p) p.1)
 
+  -- where the data of a place begin in its layer: behind the padded name
+  abbrev pub data_start : Place → ℕ
+  data_start p = option_map_or (data_at p.1) (name (layer_of p) p.1) 0
+
   -- the data of a regular file, or the target of a symbolic link
   unfoldable pub data_of : Place → List ℕ
-  data_of p =
-      let a = layer_of p in
-      take (size_at p) (drop (option_map_or (data_at p.1) (name a p.1) 0) a)
+  data_of p = take (size_at p) (drop (data_start p) (layer_of p))
 
 module _ (stack : Stacked) where
   -- how many shown paths have the place; for a directory 2 plus its shown subdirectories

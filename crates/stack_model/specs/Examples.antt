@@ -143,6 +143,7 @@ owned_stack = record {
   entries = nested;
   rows = (row_for 12 0o1777 ∷ row_for 13 0o777 ∷ row_for 20 0o4640 ∷ []) ∷ [];
   owner = record { uid = 7; gid = 8 };
+  whole = true;
 }
 
 -- the same rows, but of another layer
@@ -152,6 +153,7 @@ elsewhere = record {
   entries = nested;
   rows = [] ∷ (row_for 12 0o1777 ∷ row_for 20 0o4640 ∷ []) ∷ [];
   owner = ROOT;
+  whole = true;
 }
 
 -- twelve bits are the row's, and the type is the header's, whatever the row has above them

@@ -1,6 +1,6 @@
 -- The shown paths of a stack in order, each with its place: all that the stack's numbers are
 -- counted on.
-use Rattle.std.specs.Prelude.{◌≡◌, ℕ, ◌⊎◌, List, [], ◌∷◌, slice_get, Some}
+use Rattle.std.specs.Prelude.{◌≡◌, ℕ, ◌⊎◌, List, [], ◌∷◌, Bool, true, slice_get, Some}
 use Rattle.std.specs.declared.cmp.Ordering.{Ordering}
 use Rattle.std.specs.declared.cmp.Ordering.TheVariants.{Less}
 use Rattle.std.specs.List.{AllByRecursion}
@@ -19,16 +19,24 @@ pub record Entry : Type 0 where
   pub header : ℕ
 
 -- layers, the lowest first, and entries that they show; the rows of attributes of each layer, and
--- whom the nodes belong to that have none
+-- whom the nodes belong to that have none; and whether the layers are whole, or have zeros where
+-- nothing is held of them
 pub record Stacked : Type 0 where
   pub layers : List (List ℕ)
   pub entries : List Entry
   pub rows : List (List AttributeRow)
   pub owner : Owner
+  pub whole : Bool
 
--- layers that have no rows, where all belongs to the superuser
+-- whole layers that have no rows, where all belongs to the superuser
 abbrev pub stacked : List (List ℕ) → List Entry → Stacked
-stacked layers entries = record { layers = layers; entries = entries; rows = []; owner = ROOT }
+stacked layers entries = record {
+  layers = layers;
+  entries = entries;
+  rows = [];
+  owner = ROOT;
+  whole = true;
+}
 
 -- by names, these by bytes; a list comes before its extensions
 abbrev pub path_cmp : Path → Path → Ordering

@@ -14,57 +14,76 @@ use Rattle.stack_model.specs.Numbers.{Place}
 use Rattle.stack_model.specs.Attributes.{row_in, row_of, attr_of}
 use Rattle.stack_model.proofs.Modes.{as_without}
 use Rattle.table_reader.specs.Stacked.{IsTableWith}
-use Rattle.stack_prepare.specs.Checking.{Seen, seen, AreSeen, AreApart}
+use Rattle.stack_prepare.specs.Checking.{seen, seen_by, AreSeen, AreApart, AreHeld}
 use Rattle.stack_prepare.specs.Preparing.{AreStacked}
 
 -- of what is kept of images, that of those before the ones that are left is taken apart
-pub record IsPartApart (all left : List Seen) (layers : List (List ℕ)) (rows : List (List AttributeRow)) : Type 0 where
-  pub taken : List Seen
+pub record IsPartApart {I : Type 0} (all left : List (I × List AttributeRow)) (images : List I) (rows : List (List AttributeRow))
+    : Type 0 where
+  pub taken : List (I × List AttributeRow)
   pub split : all ≡ taken ++ left
-  pub apart : AreApart taken layers rows
+  pub apart : AreApart taken images rows
 
 -- before the first none is
-pub none_apart : (all : List Seen) → IsPartApart all all [] []
-none_apart all = record { taken = []; split = refl; apart = record { layers_are = refl; rows_are = refl } }
+pub none_apart : {I : Type 0} (all : List (I × List AttributeRow)) → IsPartApart all all [] []
+none_apart all = record { taken = []; split = refl; apart = record { images_are = refl; rows_are = refl } }
 
 -- what is kept of the next one goes to the others
-pub one_apart : {all left : List Seen} {layers : List (List ℕ)} {rows : List (List AttributeRow)} (rest : List Seen) (next : Seen)
-    → IsPartApart all left layers rows → left ≡ next ∷ rest → IsPartApart all rest (layers ++ next.0 ∷ []) (rows ++ next.1 ∷ [])
-one_apart rest next t is = record {
+pub one_apart : {I : Type 0} {all left : List (I × List AttributeRow)} {images : List I} {rows : List (List AttributeRow)}
+    (rest : List (I × List AttributeRow)) (next : I × List AttributeRow)
+    → IsPartApart all left images rows → left ≡ next ∷ rest → IsPartApart all rest (images ++ next.0 ∷ []) (rows ++ next.1 ∷ [])
+one_apart {I} rest next t is = record {
   taken = t.taken ++ next ∷ [];
   split = t.split ∙ ap (λ xs. t.taken ++ xs) is ∙ sym (append_assoc t.taken (next ∷ []) rest);
   apart = record {
-    layers_are = ap (λ xs. xs ++ next.0 ∷ []) t.apart.layers_are ∙ sym (map-append (λ (s : Seen). s.0) t.taken (next ∷ []));
-    rows_are = ap (λ xs. xs ++ next.1 ∷ []) t.apart.rows_are ∙ sym (map-append (λ (s : Seen). s.1) t.taken (next ∷ []));
+    images_are = ap (λ xs. xs ++ next.0 ∷ []) t.apart.images_are
+        ∙ sym (map-append (λ (s : I × List AttributeRow). s.0) t.taken (next ∷ []));
+    rows_are = ap (λ xs. xs ++ next.1 ∷ []) t.apart.rows_are
+        ∙ sym (map-append (λ (s : I × List AttributeRow). s.1) t.taken (next ∷ []));
   };
 }
 
-nothing : (xs : List Seen) → length xs ≡ 0 → xs ≡ []
+nothing : {X : Type 0} (xs : List X) → length xs ≡ 0 → xs ≡ []
 nothing [] none = refl
 nothing (x ∷ xs) none = absurd (omega (arith, none))
 
 -- where none is left, all are taken apart
-pub all_apart : {all left : List Seen} {layers : List (List ℕ)} {rows : List (List AttributeRow)} → IsPartApart all left layers rows
-    → length left ≡ 0 → AreApart all layers rows
-all_apart {all} {left} {layers} {rows} t none =
+pub all_apart : {I : Type 0} {all left : List (I × List AttributeRow)} {images : List I} {rows : List (List AttributeRow)}
+    → IsPartApart all left images rows → length left ≡ 0 → AreApart all images rows
+all_apart {all = all} {left} {images} {rows} t none =
     let same : all ≡ t.taken = t.split ∙ ap (λ xs. t.taken ++ xs) (nothing left none) ∙ append-nil t.taken in
-    subst (λ xs. AreApart xs layers rows) (sym same) t.apart
+    subst (λ xs. AreApart xs images rows) (sym same) t.apart
 
 both : {X Y Z : Type 0} (f : X → Y) (g : Y → Z) (xs : List X) → map g (map f xs) ≡ map (λ x. g (f x)) xs
 both f g [] = refl
 both f g (x ∷ xs) = ap (λ rest. g (f x) ∷ rest) (both f g xs)
 
--- the table of what is kept of images that were checked is that of their stack
-pub are_stacked : (profile : Profile) (owner : Owner) (images : List (List ℕ)) (kept : List Seen) (layers : List (List ℕ))
-    (rows : List (List AttributeRow)) (stack : Stacked) → AreSeen profile images kept → AreApart kept layers rows
-    → IsTableWith layers rows owner stack → AreStacked profile owner images stack
-are_stacked profile owner images kept layers rows stack are apart table = record {
+-- what is kept of images that were checked, taken apart, are their accessible bytes and their rows
+pub are_held : {I : Type 0} (v : I → List ℕ) (profile : Profile) (images : List (List ℕ)) (kept : List (I × List AttributeRow))
+    (held : List I) (rows : List (List AttributeRow)) → AreSeen profile images (map (seen_by v) kept) → AreApart kept held rows
+    → AreHeld profile images (map v held) rows
+are_held v profile images kept held rows are apart = record {
   layers = record {
     few = are.few;
     sound = are.checked.sound;
-    are = table.layers_are ∙ apart.layers_are ∙ ap (map (λ s. s.0)) are.checked.are ∙ both (seen profile) (λ s. s.0) images;
+    are = ap (map v) apart.images_are ∙ both (λ s. s.0) v kept ∙ sym (both (seen_by v) (λ s. s.0) kept)
+        ∙ ap (map (λ s. s.0)) are.checked.are ∙ both (seen profile) (λ s. s.0) images;
   };
-  rows_are = table.rows_are ∙ apart.rows_are ∙ ap (map (λ s. s.1)) are.checked.are ∙ both (seen profile) (λ s. s.1) images;
+  rows_are = apart.rows_are ∙ sym (both (seen_by v) (λ s. s.1) kept) ∙ ap (map (λ s. s.1)) are.checked.are
+      ∙ both (seen profile) (λ s. s.1) images;
+}
+
+-- their table is that of the images' stack
+pub are_stacked : {profile : Profile} {images held : List (List ℕ)} {rows : List (List AttributeRow)} (owner : Owner)
+    (layers : List (List ℕ)) (stack : Stacked) → AreHeld profile images held rows → layers ≡ held
+    → IsTableWith layers rows owner stack → AreStacked profile owner images stack
+are_stacked owner layers stack are e table = record {
+  layers = record {
+    few = are.layers.few;
+    sound = are.layers.sound;
+    are = table.layers_are ∙ e ∙ are.layers.are;
+  };
+  rows_are = table.rows_are ∙ are.rows_are;
   owner_is = table.owner_is;
   listing = table.listing;
 }

@@ -11,44 +11,46 @@ use Rattle.romfs_format.specs.declared.rule.Profile.{Profile}
 use Rattle.stack_prepare.specs.declared.refusal.Refusal.{Refusal}
 use Rattle.stack_prepare.specs.declared.refusal.Refusal.TheVariants.{Layer, Layers, Memory}
 use Rattle.stack_prepare.specs.Layers.{IsFew, IsLowestBroken, AreRefused}
-use Rattle.stack_prepare.specs.Checking.{Seen, seen, AreChecked, AreSeen, IsBroken, Checks, IsFirstRefusal, Joins}
+use Rattle.romfs_format.specs.declared.attribute_row.AttributeRow.{AttributeRow}
+use Rattle.stack_prepare.specs.Checking.{Seen, seen, seen_by, AreChecked, AreSeen, IsBroken, Checks, IsFirstRefusal, Joins}
 
 -- the images before those that are left keep the rules, and this is what is kept of them
-pub record AreTaken {X : Type 0} (v : X → List ℕ) (profile : Profile) (all : List (List ℕ)) (left : List X)
-    (layers : List Seen) : Type 0 where
+pub record AreTaken {X S : Type 0} (v : X → List ℕ) (w : S → Seen) (profile : Profile) (all : List (List ℕ)) (left : List X)
+    (kept : List S) : Type 0 where
   pub below : List (List ℕ)
   pub split : all ≡ below ++ map v left
-  pub checked : AreChecked profile below layers
+  pub checked : AreChecked profile below (map w kept)
 
 -- two pairs of the same parts are the same
 pub both_are : {X Y : Type 0} {p : X × Y} {x : X} {y : Y} → p.0 ≡ x → p.1 ≡ y → p ≡ (x, y)
 both_are {p = p} {x} {y} e f = ap (λ a. (a, p.1)) e ∙ ap (λ b. (x, b)) f
 
 -- before the first image none is taken
-pub none_taken : {X : Type 0} (v : X → List ℕ) (profile : Profile) (all : List X) → AreTaken v profile (map v all) all []
-none_taken v profile all = record {
+pub none_taken : {X S : Type 0} (v : X → List ℕ) (w : S → Seen) (profile : Profile) (all : List X)
+    → AreTaken v w profile (map v all) all []
+none_taken v w profile all = record {
   below = [];
   split = refl;
   checked = record { sound = λ k d l. absurd (omega arith); are = refl };
 }
 
-module _ {X : Type 0} {v : X → List ℕ} {profile : Profile} {all : List (List ℕ)} {left : List X} {layers : List Seen}
-    (t : AreTaken v profile all left layers) (x : X) (rest : List X) (next : left ≡ x ∷ rest) where
+module _ {X S : Type 0} {v : X → List ℕ} {w : S → Seen} {profile : Profile} {all : List (List ℕ)} {left : List X} {kept : List S}
+    (t : AreTaken v w profile all left kept) (x : X) (rest : List X) (next : left ≡ x ∷ rest) where
   -- an image that keeps the rules goes from what is left to what is taken
-  pub one_more : (checked : Seen) → checked ≡ seen profile (v x) → IsSound profile (v x)
-      → AreTaken v profile all rest (layers ++ checked ∷ [])
+  pub one_more : (checked : S) → w checked ≡ seen profile (v x) → IsSound profile (v x)
+      → AreTaken v w profile all rest (kept ++ checked ∷ [])
   one_more checked f d = record {
     below = t.below ++ v x ∷ [];
     split = t.split ∙ ap (λ xs. t.below ++ map v xs) next ∙ sym (append_assoc t.below (v x ∷ []) (map v rest));
     checked = record {
       sound = All-push (IsSound profile) t.below (v x) t.checked.sound d;
-      are = ap (λ xs. xs ++ checked ∷ []) t.checked.are ∙ ap (λ n. map (seen profile) t.below ++ n ∷ []) f
-          ∙ sym (map-append (seen profile) t.below (v x ∷ []));
+      are = map-append w kept (checked ∷ []) ∙ ap (λ xs. xs ++ w checked ∷ []) t.checked.are
+          ∙ ap (λ n. map (seen profile) t.below ++ n ∷ []) f ∙ sym (map-append (seen profile) t.below (v x ∷ []));
     };
   }
 
   -- where the next image breaks a rule, it is the lowest that does
-  pub next_breaks : (first n : ℕ) (fault : ImageFault) → n ≡ length layers → IsFault profile (v x) fault.rule fault.place
+  pub next_breaks : (first n : ℕ) (fault : ImageFault) → n ≡ length kept → IsFault profile (v x) fault.rule fault.place
       → IsBroken first profile all (Layer (first + n) fault)
   next_breaks first n fault h f = (
     n,
@@ -58,17 +60,17 @@ module _ {X : Type 0} {v : X → List ℕ} {profile : Profile} {all : List (List
       above = map v rest;
       bytes = v x;
       images_are = t.split ∙ ap (λ xs. t.below ++ map v xs) next;
-      layer_is = h ∙ ap length t.checked.are ∙ length-map t.below (seen profile);
+      layer_is = h ∙ sym (length-map kept w) ∙ ap length t.checked.are ∙ length-map t.below (seen profile);
       sound = t.checked.sound;
       broken = f;
     },
   )
 
 -- no more images are taken than there are
-pub taken_within : {X : Type 0} {v : X → List ℕ} {profile : Profile} {all : List (List ℕ)} {left : List X} {layers : List Seen}
-    → AreTaken v profile all left layers → length layers ≤ length all
-taken_within {v = v} {profile = profile} {left = left} t =
-    let same = ap length t.checked.are ∙ length-map t.below (seen profile) in
+pub taken_within : {X S : Type 0} {v : X → List ℕ} {w : S → Seen} {profile : Profile} {all : List (List ℕ)} {left : List X} {kept : List S}
+    → AreTaken v w profile all left kept → length kept ≤ length all
+taken_within {v = v} {w} {profile = profile} {left = left} {kept} t =
+    let same = sym (length-map kept w) ∙ ap length t.checked.are ∙ length-map t.below (seen profile) in
     let whole = ap length t.split ∙ length-append t.below (map v left) in
     omega arith
 
@@ -77,9 +79,9 @@ nothing [] none = refl
 nothing (x ∷ xs) none = absurd (omega (arith, none))
 
 -- where none is left, all are checked
-pub all_checked : {X : Type 0} {v : X → List ℕ} {profile : Profile} {all : List (List ℕ)} {left : List X} {layers : List Seen}
-    → AreTaken v profile all left layers → length left ≡ 0 → AreChecked profile all layers
-all_checked {v = v} {profile} {all} {left} t none =
+pub all_checked : {X S : Type 0} {v : X → List ℕ} {w : S → Seen} {profile : Profile} {all : List (List ℕ)} {left : List X} {kept : List S}
+    → AreTaken v w profile all left kept → length left ≡ 0 → AreChecked profile all (map w kept)
+all_checked {v = v} {profile = profile} {all} {left} t none =
     let same : all ≡ t.below = t.split ∙ ap (λ xs. t.below ++ map v xs) (nothing left none) ∙ append-nil t.below in
     record {
       sound = subst (All (IsSound profile)) (sym same) t.checked.sound;
@@ -134,15 +136,15 @@ broken_high first low highs Memory b = tt
 broken_high first low highs (Layers count) b = absurd b
 
 -- what two halves of a run come to, the upper one numbered on from where the lower one ends
-pub record AreHalves {A : Type 0} (first : ℕ) (profile : Profile) (lows highs : List (List ℕ))
-    (low high : Result (Vec Seen A) Refusal) : Type 0 where
-  pub lower : Checks first profile lows low
-  pub upper : Checks (first + length lows) profile highs high
+pub record AreHalves {I A : Type 0} (v : I → List ℕ) (first : ℕ) (profile : Profile) (lows highs : List (List ℕ))
+    (low high : Result (Vec (I × List AttributeRow) A) Refusal) : Type 0 where
+  pub lower : Checks v first profile lows low
+  pub upper : Checks v (first + length lows) profile highs high
 
-module _ {A : Type 0} (first : ℕ) (profile : Profile) (lows highs : List (List ℕ)) where
+module _ {I A : Type 0} (v : I → List ℕ) (first : ℕ) (profile : Profile) (lows highs : List (List ℕ)) where
   -- why the first of two halves stopped is why the run did
-  refused_first : (low high : Result (Vec Seen A) Refusal) (refusal : Refusal) → AreHalves first profile lows highs low high
-      → IsFirstRefusal low high refusal → IsBroken first profile (lows ++ highs) refusal
+  refused_first : (low high : Result (Vec (I × List AttributeRow) A) Refusal) (refusal : Refusal)
+      → AreHalves v first profile lows highs low high → IsFirstRefusal low high refusal → IsBroken first profile (lows ++ highs) refusal
   refused_first (Err s) high refusal h is =
       subst (IsBroken first profile (lows ++ highs)) (sym is) (broken_low first profile lows highs s h.lower.1)
   refused_first (Ok xs) (Err s) refusal h is =
@@ -150,10 +152,11 @@ module _ {A : Type 0} (first : ℕ) (profile : Profile) (lows highs : List (List
   refused_first (Ok xs) (Ok ys) refusal h is = absurd is
 
   -- what two halves come to is what the run does
-  pub joined : (low high result : Result (Vec Seen A) Refusal) → AreHalves first profile lows highs low high → Joins low high result
-      → Checks first profile (lows ++ highs) result
+  pub joined : (low high result : Result (Vec (I × List AttributeRow) A) Refusal) → AreHalves v first profile lows highs low high
+      → Joins low high result → Checks v first profile (lows ++ highs) result
   joined (Ok xs) (Ok ys) (Ok all) h is =
-      (subst (AreChecked profile (lows ++ highs)) (sym is) (whole profile lows highs _ _ h.lower.0 h.upper.0), tt)
+      let both = ap (map (seen_by v)) is ∙ map-append (seen_by v) xs.items ys.items in
+      (subst (AreChecked profile (lows ++ highs)) (sym both) (whole profile lows highs _ _ h.lower.0 h.upper.0), tt)
   joined (Ok xs) (Err s) (Ok all) h is = absurd is
   joined (Err s) high (Ok all) h is = absurd is
   joined low high (Err refusal) h (inl memory) = (tt, subst (IsBroken first profile (lows ++ highs)) (sym memory) tt)

@@ -9,7 +9,7 @@ use Rattle.romfs_format.specs.declared.attribute_row.AttributeRow.{AttributeRow}
 use Rattle.romfs_format.specs.declared.rule.Profile.{Profile}
 use Rattle.stack_prepare.specs.declared.refusal.Refusal.{Refusal}
 use Rattle.stack_prepare.specs.declared.refusal.Refusal.TheVariants.{Layer, Layers, Memory}
-use Rattle.stack_prepare.specs.Layers.{IsFew, IsLowestBroken}
+use Rattle.stack_prepare.specs.Layers.{AreLayers, IsFew, IsLowestBroken}
 
 -- what is kept of an image: its accessible bytes, and its rows of attributes
 abbrev pub Seen : Type 0
@@ -18,6 +18,10 @@ Seen = List ℕ × List AttributeRow
 -- that of these bytes, by a profile
 abbrev pub seen : Profile → List ℕ → Seen
 seen profile bytes = (image bytes, rows_shown profile bytes)
+
+-- that of an image that is held in some form, by which accessible bytes it has
+abbrev pub seen_by : {I : Type 0} → (I → List ℕ) → I × List AttributeRow → Seen
+seen_by accessible both = (accessible both.0, both.1)
 
 -- all images keep the rules of the profile, and this is what is kept of them
 pub record AreChecked (profile : Profile) (images : List (List ℕ)) (kept : List Seen)
@@ -34,29 +38,29 @@ IsBroken first profile images Memory = ⊤
 IsBroken first profile images (Layers count) = ⊥
 
 -- the images checked, or why not
-abbrev pub Checks : {A : Type 0} → ℕ → Profile → List (List ℕ) → Result (Vec Seen A) Refusal
-    → Type 0
-Checks first profile images result =
-    IfOk result (λ checked. AreChecked profile images checked.items)
+abbrev pub Checks : {I A : Type 0} → (I → List ℕ) → ℕ → Profile → List (List ℕ)
+    → Result (Vec (I × List AttributeRow) A) Refusal → Type 0
+Checks accessible first profile images result =
+    IfOk result (λ checked. AreChecked profile images (map (seen_by accessible) checked.items))
     × IfErr result (IsBroken first profile images)
 
 -- both halves of a run were checked, and these are the images of both
-abbrev pub AreBoth : {A : Type 0} → Result (Vec Seen A) Refusal
-    → Result (Vec Seen A) Refusal → List Seen → Type 0
+abbrev pub AreBoth : {T A : Type 0} → Result (Vec T A) Refusal
+    → Result (Vec T A) Refusal → List T → Type 0
 AreBoth (Ok low) (Ok high) all = all ≡ low.items ++ high.items
 AreBoth _ _ all = ⊥
 
 -- of two halves of a run the lower one was refused for this, or else the upper one
-abbrev pub IsFirstRefusal : {A : Type 0} → Result (Vec Seen A) Refusal
-    → Result (Vec Seen A) Refusal → Refusal → Type 0
+abbrev pub IsFirstRefusal : {T A : Type 0} → Result (Vec T A) Refusal
+    → Result (Vec T A) Refusal → Refusal → Type 0
 IsFirstRefusal (Err low) high refusal = refusal ≡ low
 IsFirstRefusal (Ok low) (Err high) refusal = refusal ≡ high
 IsFirstRefusal (Ok low) (Ok high) refusal = ⊥
 
 -- what two halves of a run come to: the images of both; or want of memory, or why the first was
 -- refused
-abbrev pub Joins : {A : Type 0} → Result (Vec Seen A) Refusal → Result (Vec Seen A) Refusal
-    → Result (Vec Seen A) Refusal → Type 0
+abbrev pub Joins : {T A : Type 0} → Result (Vec T A) Refusal → Result (Vec T A) Refusal
+    → Result (Vec T A) Refusal → Type 0
 Joins low high (Ok all) = AreBoth low high all.items
 Joins low high (Err refusal) = (refusal ≡ Memory) ⊎ IsFirstRefusal low high refusal
 
@@ -65,8 +69,15 @@ pub record AreSeen (profile : Profile) (images : List (List ℕ)) (kept : List S
   pub few : IsFew (length images)
   pub checked : AreChecked profile images kept
 
--- what is kept of images, taken apart: the bytes of each, and the rows of each
-pub record AreApart (kept : List Seen) (layers : List (List ℕ)) (rows : List (List AttributeRow))
-    : Type 0 where
-  pub layers_are : layers ≡ map (λ seen. seen.0) kept
+-- what is kept of images, taken apart: what is held of each, and the rows of each
+pub record AreApart {I : Type 0} (kept : List (I × List AttributeRow)) (images : List I)
+    (rows : List (List AttributeRow)) : Type 0 where
+  pub images_are : images ≡ map (λ seen. seen.0) kept
   pub rows_are : rows ≡ map (λ seen. seen.1) kept
+
+-- 1 to 128 images that keep the rules of the profile: the accessible bytes of each, and the rows of
+-- each that the profile shows
+pub record AreHeld (profile : Profile) (images held : List (List ℕ))
+    (rows : List (List AttributeRow)) : Type 0 where
+  pub layers : AreLayers profile images held
+  pub rows_are : rows ≡ map (rows_shown profile) images

@@ -3,23 +3,24 @@
 //! A list is cut in two, and so on; each half is checked in a call of its own, and what both find
 //! is put together: where both have a broken image the lower half's is told.
 
-ghost use Rattle.std.specs.Prelude.{◌+◌, ◌≤◌, length, IfOk, IfErr};
-ghost use Rattle.stack_prepare.specs.Layers.{contents_of, AreRefused, IsFew};
-ghost use Rattle.stack_prepare.specs.Checking.{AreApart, AreSeen, Checks, Joins};
+ghost use Rattle.std.specs.Prelude.{◌+◌, ◌≤◌, length, map, IfOk, IfErr};
+ghost use Rattle.stack_prepare.specs.Layers.{AreRefused, IsFew};
+ghost use Rattle.stack_prepare.specs.Checking.{AreApart, AreSeen, Checks, Joins, seen_by};
 ghost use denote.Param.Send.{IsSync, IsSend, Frees};
 ghost use Rattle.stack_model.specs.declared.limits.TheConstants.{MAX_LAYERS};
 
 use crate::refusal::Refusal;
+use crate::unchecked::Unchecked;
 use attribute_rows::Rows;
-use romfs_check::{Check, CheckFault, Image};
+use romfs_check::CheckFault;
 use romfs_format::Profile;
 use std::alloc::{AllocError, Allocator};
 use std::thread::{Threads, join};
 use work_gate::{Gate, Work};
 
-/// What is kept of an image: its accessible bytes, and its rows of attributes where the profile
-/// reads them.
-pub(crate) type Seen<A> = (Image<A>, Rows<A>);
+/// What is kept of an image: its accessible bytes, whole or some, and its rows of attributes where
+/// the profile reads them.
+pub(crate) type Seen<I, A> = (I, Rows<A>);
 
 /// How many times a list is cut into halves that are checked at the same time.
 const FORKS: u32 = 4;
@@ -30,16 +31,24 @@ const FORKS: u32 = 4;
 /// passed before each check. At most 16 parts of a list are checked at the same time.
 ///
 /// It asks for 1 to 128 images.
-pub(crate) fn check_all<R: Threads + Sync, A: Allocator + Copy + Send + Sync, G: Gate + Sync>(
+pub(crate) fn check_all<
+    R: Threads + Sync,
+    A: Allocator + Copy + Send + Sync,
+    U: Unchecked<A> + Send + Drop,
+    G: Gate + Sync,
+>(
     rt: &R,
     alloc: A,
-    images: Vec<Vec<u8, A>, A>,
+    images: Vec<U, A>,
     profile: Profile,
     gate: &G,
-) -> Result<Vec<Seen<A>, A>, Refusal>
+) -> Result<Vec<Seen<U::Image, A>, A>, Refusal>
+where
+    U::Image: Send + Drop,
     requires { IsFew (length images.items) }
-    ensures ok { IfOk result (λ seen. AreSeen profile (contents_of images) seen.items) }
-    ensures err { IfErr result (λ refusal. AreRefused profile (contents_of images) refusal) }
+    ensures ok { IfOk result (λ seen.
+        AreSeen profile (map U.bytes images.items) (map (seen_by U.accessible) seen.items)) }
+    ensures err { IfErr result (AreRefused profile (map U.bytes images.items)) }
 {
     check_from(rt, alloc, 0, images, profile, gate, FORKS)
 }
@@ -47,17 +56,24 @@ pub(crate) fn check_all<R: Threads + Sync, A: Allocator + Copy + Send + Sync, G:
 /// A run of images, of which the lowest has the number `first`, checked: its halves at the same
 /// time, each of which is cut so once less, or one after another.
 #[cycle(halves)]
-fn check_from<R: Threads + Sync, A: Allocator + Copy + Send + Sync, G: Gate + Sync>(
+fn check_from<
+    R: Threads + Sync,
+    A: Allocator + Copy + Send + Sync,
+    U: Unchecked<A> + Send + Drop,
+    G: Gate + Sync,
+>(
     rt: &R,
     alloc: A,
     first: u16,
-    mut images: Vec<Vec<u8, A>, A>,
+    mut images: Vec<U, A>,
     profile: Profile,
     gate: &G,
     forks: u32,
-) -> Result<Vec<Seen<A>, A>, Refusal>
+) -> Result<Vec<Seen<U::Image, A>, A>, Refusal>
+where
+    U::Image: Send + Drop,
     requires { first + length images.items ≤ MAX_LAYERS }
-    ensures { Checks first profile (contents_of images) result }
+    ensures { Checks U.accessible first profile (map U.bytes images.items) result }
 {
     if forks == 0 || images.len() < 2 {
         return check_in_turn(alloc, first, images, profile, gate);
@@ -70,15 +86,15 @@ fn check_from<R: Threads + Sync, A: Allocator + Copy + Send + Sync, G: Gate + Sy
     // the lowest layer, mostly the largest, waits for no thread to start
     let (high, low) = join(
         rt,
-        move || -> Result<Vec<Seen<A>, A>, Refusal>
-            requires { IsSync R.row × IsSync G.row × IsSync A.row × IsSend A.row
+        move || -> Result<Vec<Seen<U::Image, A>, A>, Refusal>
+            requires { IsSync R.row × IsSync G.row × IsSync A.row × IsSend A.row × IsSend U.row
                 × Frees A.Allocator A.dealloc_token × (next + length highs.items ≤ MAX_LAYERS) }
-            ensures { Checks next profile (contents_of highs) result }
+            ensures { Checks U.accessible next profile (map U.bytes highs.items) result }
         { check_from(rt, alloc, next, highs, profile, gate, less) },
-        move || -> Result<Vec<Seen<A>, A>, Refusal>
-            requires { IsSync R.row × IsSync G.row × IsSync A.row × IsSend A.row
+        move || -> Result<Vec<Seen<U::Image, A>, A>, Refusal>
+            requires { IsSync R.row × IsSync G.row × IsSync A.row × IsSend A.row × IsSend U.row
                 × Frees A.Allocator A.dealloc_token × (first + length lows.items ≤ MAX_LAYERS) }
-            ensures { Checks first profile (contents_of lows) result }
+            ensures { Checks U.accessible first profile (map U.bytes lows.items) result }
         { check_from(rt, alloc, first, lows, profile, gate, less) },
     );
     together(low, high)
@@ -86,10 +102,10 @@ fn check_from<R: Threads + Sync, A: Allocator + Copy + Send + Sync, G: Gate + Sy
 
 /// What two halves of a run come to: want of memory in either, else the lower one's broken image,
 /// else the upper one's.
-fn together<A: Allocator>(
-    low: Result<Vec<Seen<A>, A>, Refusal>,
-    high: Result<Vec<Seen<A>, A>, Refusal>,
-) -> Result<Vec<Seen<A>, A>, Refusal>
+fn together<T: Drop, A: Allocator>(
+    low: Result<Vec<T, A>, Refusal>,
+    high: Result<Vec<T, A>, Refusal>,
+) -> Result<Vec<T, A>, Refusal>
     ensures { Joins low high result }
 {
     match (low, high) {
@@ -104,21 +120,23 @@ fn together<A: Allocator>(
 }
 
 /// A run of images, of which the lowest has the number `first`, checked from the lowest up.
-fn check_in_turn<A: Allocator + Copy, G: Gate>(
+fn check_in_turn<A: Allocator + Copy, U: Unchecked<A> + Drop, G: Gate>(
     alloc: A,
     first: u16,
-    images: Vec<Vec<u8, A>, A>,
+    images: Vec<U, A>,
     profile: Profile,
     gate: &G,
-) -> Result<Vec<Seen<A>, A>, Refusal>
+) -> Result<Vec<Seen<U::Image, A>, A>, Refusal>
+where
+    U::Image: Drop,
     requires { first + length images.items ≤ MAX_LAYERS }
-    ensures { Checks first profile (contents_of images) result }
+    ensures { Checks U.accessible first profile (map U.bytes images.items) result }
 {
     let mut checked = Vec::with_capacity(alloc, images.len())?;
-    for bytes in images {
+    for image in images {
         let layer = first + checked.len() as u16;
         gate.pass(Work::Check, u32::from(layer));
-        match Image::check_with_rows(alloc, bytes, profile) {
+        match image.check(alloc, profile) {
             Ok(seen) => checked.push(seen)?,
             Err(CheckFault::Broken(fault)) => return Err(Refusal::Layer { layer, fault }),
             Err(CheckFault::Memory) => return Err(Refusal::Memory),
@@ -128,10 +146,10 @@ fn check_in_turn<A: Allocator + Copy, G: Gate>(
 }
 
 /// What is kept of images, taken apart.
-pub(crate) fn apart<A: Allocator + Copy>(
+pub(crate) fn apart<I: Drop, A: Allocator + Copy>(
     alloc: A,
-    seen: Vec<Seen<A>, A>,
-) -> Result<(Vec<Image<A>, A>, Vec<Rows<A>, A>), AllocError>
+    seen: Vec<Seen<I, A>, A>,
+) -> Result<(Vec<I, A>, Vec<Rows<A>, A>), AllocError>
     ensures { IfOk result (λ both. AreApart seen.items both.0.items both.1.items) }
 {
     let mut images = Vec::with_capacity(alloc, seen.len())?;

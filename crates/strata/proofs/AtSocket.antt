@@ -8,7 +8,8 @@ use Rattle.command_line.specs.CommandLine.{IsLineOf}
 use Rattle.devices.specs.States.{Devices}
 use Rattle.strata.specs.declared.faults.Fault.{Fault}
 use Rattle.strata.specs.Sessions.{status_at}
-use Rattle.strata.specs.Ending.{profile_of, AreNotStacked, EndsAtSocket, EndsInFault, IsNotBound, IsOfSessions, IsOverWith, IsServedAtSocket, NamesAsMany}
+use Rattle.strata.specs.Images.{NamesAsMany, profile_of}
+use Rattle.strata.specs.Ending.{AreNotStacked, EndsAtSocket, EndsInFault, IsNotBound, IsOfSessions, IsOverWith, IsServedAtSocket}
 use Rattle.strata.proofs.Ended.{begun, whole}
 use Rattle.strata.proofs.InTurn.{of_sessions}
 

@@ -1,7 +1,7 @@
 -- How a command ends, by how its last step ended. `whole` and `begun` put what was done over the
 -- images beside the words that asked for it; `unread` is the end before that, and no fault has the
 -- status 0.
-use Rattle.std.proofs.Common.{◌≡◌, ◌≢◌, ◌<◌, ◌≤◌, ◌∙◌, sym, ap, subst, refl, ℕ, ◌⊎◌, inl, inr, List, None, Result, Ok, Err, IfOk, IfErr, OnOk, MatchResult, IsErrAnd, arith, length, map, vec_len, Vec}
+use Rattle.std.proofs.Common.{◌≡◌, ◌≢◌, ◌<◌, ◌≤◌, ◌∙◌, sym, ap, subst, refl, ℕ, ◌⊎◌, inl, inr, List, None, Result, Ok, Err, IfOk, IfErr, OnOk, MatchResult, IsErrAnd, arith, map, vec_len, Vec}
 use Rattle.std.proofs.lemmas.List.{length-map}
 use Rattle.serve_core.specs.declared.stop.Stop.{Stop}
 use Rattle.serve_core.specs.declared.stop.Stop.TheVariants as stops
@@ -14,12 +14,8 @@ use Rattle.image_files.specs.declared.images.FilesFault.TheVariants as files
 use Rattle.strata.specs.declared.faults.Fault.{Fault}
 use Rattle.strata.specs.declared.faults.Fault.TheVariants.{Usage, ImageFile, RequestsFile, RepliesFile, BalancesFile, Bind, Accept, Broken, InSession, Stopped}
 use Rattle.strata.specs.Faults.{AreUnread, status_of, stop_status, files_told_of}
-use Rattle.strata.specs.Ending.{NamesAsMany, IsDoneOver, IsStoppedOver, IsDone, EndsInFault, IsOverWith}
-
--- as many images as paths
-pub all_named : {X Y Z : Type 0} (line : Line) (bytes : X → List ℕ) (images : Vec X Z) (paths : List Y) → vec_len images ≡ length paths
-    → length paths ≡ vec_len line.images → NamesAsMany line (map bytes images.items)
-all_named line bytes images paths e p = length-map images.items bytes ∙ sym images.ok.0 ∙ e ∙ p
+use Rattle.strata.specs.Images.{NamesAsMany}
+use Rattle.strata.specs.Ending.{IsDoneOver, IsStoppedOver, IsDone, EndsInFault, IsOverWith}
 
 -- as many images as the line names
 pub all_held : {X Z : Type 0} (line : Line) (bytes : X → List ℕ) (images : Vec X Z) → vec_len images ≡ vec_len line.images

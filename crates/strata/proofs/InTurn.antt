@@ -10,8 +10,8 @@ use Rattle.devices.specs.declared.counts.Accepts.{Accepts}
 use Rattle.devices.specs.declared.counts.Pulls.{Pulls}
 use Rattle.devices.specs.declared.counts.Pushes.{Pushes}
 use Rattle.devices.specs.Counting.{up, accepted}
-use Rattle.stack_model.specs.Listing.{Stacked}
 use Rattle.reply_model.specs.declared.session.Session.{Session}
+use Rattle.reply_model.specs.Readings.{Sourced}
 use Rattle.serve_core.specs.declared.stop.Stop.{Stop}
 use Rattle.serve_core.specs.declared.stop.Stop.TheVariants.{Read, Write}
 use Rattle.serve_loop.specs.declared.done.Done.{Done}
@@ -22,12 +22,12 @@ use Rattle.strata.specs.declared.faults.Fault.{Fault}
 use Rattle.strata.specs.declared.faults.Fault.TheVariants.{Accept, InSession}
 use Rattle.strata.specs.Faults.{status_of}
 use Rattle.strata.specs.Laws.{IsWhole, HasMetItsEnd, TellsOfSessions}
-use Rattle.strata.specs.Sessions.{accepting, accept_failures, fault_of, first_fault, or_later, status_at, Accepting, AreServed, EndWith, IsSession, Served}
+use Rattle.strata.specs.Sessions.{accepting, accept_failures, fault_of, first_fault, or_later, status_at, Accepting, AreServed, EndWith, IsSession, ServedSession}
 use Rattle.strata.proofs.Ended.{fault_status}
 
 -- sessions so far, and the status of the first that stopped
-pub record AreSoFar (A : Type 0) (first : Session) (stack : Stacked) (count status : ℕ) : Type 0 where
-  pub served : List (Served A first stack)
+pub record AreSoFar (A : Type 0) (first : Session) (by : Sourced) (count status : ℕ) : Type 0 where
+  pub served : List (ServedSession A first by)
   pub count_is : length served ≡ count
   pub status_is : status ≡ status_at (first_fault 1 served)
 
@@ -90,12 +90,12 @@ stop_of : {A : Type 0} (n : ℕ) (r : Result (Done A) Stop) (fault : Fault) → 
 stop_of n (Ok done) fault e = absurd (cc)
 stop_of n (Err stop) fault e = (stop, refl, cc)
 
-module _ {A : Type 0} {first : Session} {stack : Stacked} where
-  same_number : (n m : ℕ) (s : Served A first stack) → n ≡ m → fault_of n s.result ≡ fault_of m s.result
+module _ {A : Type 0} {first : Session} {by : Sourced} where
+  same_number : (n m : ℕ) (s : ServedSession A first by) → n ≡ m → fault_of n s.result ≡ fault_of m s.result
   same_number n m s e = ap (λ k. fault_of k s.result) e
 
   -- the first fault where one more session follows
-  first_more : (n : ℕ) (served : List (Served A first stack)) (s : Served A first stack)
+  first_more : (n : ℕ) (served : List (ServedSession A first by)) (s : ServedSession A first by)
       → first_fault n (served ++ s ∷ []) ≡ or_later (first_fault n served) (fault_of (n + length served) s.result)
   unfolding first_fault
   first_more n [] s = or_none (fault_of n s.result) ∙ same_number n (n + 0) s (omega arith)
@@ -106,15 +106,15 @@ module _ {A : Type 0} {first : Session} {stack : Stacked} where
       ∙ ap (or_later (first_fault n (x ∷ served))) (same_number (n + 1 + length served) (n + length (x ∷ served)) s number)
 
   -- before the first session none is served, and the status is 0
-  pub none_so_far : AreSoFar A first stack 0 0
+  pub none_so_far : AreSoFar A first by 0 0
   unfolding first_fault
   none_so_far = record { served = []; count_is = refl; status_is = refl }
 
   -- with one session more the status is as it was, or that of this session where it was 0
-  pub one_more : (count status ended more : ℕ) → AreSoFar A first stack count status
-      → (s : Served A first stack) × (ended ≡ status_at (fault_of (count + 1) s.result))
+  pub one_more : (count status ended more : ℕ) → AreSoFar A first by count status
+      → (s : ServedSession A first by) × (ended ≡ status_at (fault_of (count + 1) s.result))
       → ((status ≡ 0) × (more ≡ ended)) ⊎ ((status ≢ 0) × (more ≡ status))
-      → AreSoFar A first stack (count + 1) more
+      → AreSoFar A first by (count + 1) more
   one_more count status ended more so_far (s, e) m =
       let number : 1 + length so_far.served ≡ count + 1 = omega (arith, so_far.count_is) in
       let e : ended ≡ status_at (fault_of (1 + length so_far.served) s.result) = e
@@ -128,7 +128,7 @@ module _ {A : Type 0} {first : Session} {stack : Stacked} where
       }
 
   -- no session is to blame for an accept
-  none_failed : (n : ℕ) (served : List (Served A first stack)) → accept_failures (first_fault n served) ≡ 0
+  none_failed : (n : ℕ) (served : List (ServedSession A first by)) → accept_failures (first_fault n served) ≡ 0
   unfolding first_fault
   none_failed n [] = refl
   none_failed n (s ∷ more) = go s.result (none_failed (n + 1) more)
@@ -139,8 +139,8 @@ module _ {A : Type 0} {first : Session} {stack : Stacked} where
       go (Err stop) e = refl
 
   -- once all are served the sessions end with the status so far
-  pub all_served : (at count status : ℕ) (before now : Accepts) → at ≡ count → AreSoFar A first stack at status
-      → HaveCome at before now → EndWith A first stack count status (accepting before now)
+  pub all_served : (at count status : ℕ) (before now : Accepts) → at ≡ count → AreSoFar A first by at status
+      → HaveCome at before now → EndWith A first by count status (accepting before now)
   all_served at count status before now all so_far come = record {
     fault = first_fault 1 so_far.served;
     status_is = so_far.status_is;
@@ -155,9 +155,9 @@ module _ {A : Type 0} {first : Session} {stack : Stacked} where
   }
 
   -- where no client comes they end with the status of that
-  pub none_accepted : (at count status ended : ℕ) (before now after : Accepts) → AreSoFar A first stack at status → at < count
+  pub none_accepted : (at count status ended : ℕ) (before now after : Accepts) → AreSoFar A first by at status → at < count
       → ended ≡ status_of Accept → HaveCome at before now → (after.clients ≡ now.clients) × (after.failures ≡ before.failures + 1)
-      → EndWith A first stack count ended (accepting before after)
+      → EndWith A first by count ended (accepting before after)
   none_accepted at count status ended before now after so_far less e come (same, failed) = record {
     fault = Some Accept;
     status_is = e;
@@ -168,7 +168,7 @@ module _ {A : Type 0} {first : Session} {stack : Stacked} where
     };
   }
 
-  none_stopped : (n : ℕ) (served : List (Served A first stack)) → first_fault n served ≡ None → AllByRecursion IsWhole served
+  none_stopped : (n : ℕ) (served : List (ServedSession A first by)) → first_fault n served ≡ None → AllByRecursion IsWhole served
   unfolding first_fault
   none_stopped n [] e = tt
   none_stopped n (s ∷ more) e = go (fault_of n s.result) refl (none_stopped (n + 1) more) e
@@ -179,16 +179,16 @@ module _ {A : Type 0} {first : Session} {stack : Stacked} where
       go (Some fault) is rest e = absurd (cc)
 
   -- of sessions that are numbered from n on the first that stopped has this number
-  record IsFirstFrom (n : ℕ) (served : List (Served A first stack)) (number : ℕ) (stop : Stop) : Type 0 where
-    before : List (Served A first stack)
-    stopped : Served A first stack
-    after : List (Served A first stack)
+  record IsFirstFrom (n : ℕ) (served : List (ServedSession A first by)) (number : ℕ) (stop : Stop) : Type 0 where
+    before : List (ServedSession A first by)
+    stopped : ServedSession A first by
+    after : List (ServedSession A first by)
     served_are : served ≡ before ++ stopped ∷ after
     number_is : number ≡ n + length before
     whole : AllByRecursion IsWhole before
     result_is : stopped.result ≡ Err stop
 
-  stopped_first : (fault : Fault) (n : ℕ) (served : List (Served A first stack)) → first_fault n served ≡ Some fault
+  stopped_first : (fault : Fault) (n : ℕ) (served : List (ServedSession A first by)) → first_fault n served ≡ Some fault
       → (number : ℕ) × (stop : Stop) × (fault ≡ InSession number stop) × IsFirstFrom n served number stop
   unfolding first_fault
   stopped_first fault n [] e = absurd (cc)
@@ -232,21 +232,21 @@ module _ {A : Type 0} {first : Session} {stack : Stacked} where
           )
 
   -- the fault that sessions end with is that of one of them, or that no client could be accepted
-  pub of_sessions : {clients : Accepting} (count : ℕ) (fault : Fault) → AreServed A first stack count (Some fault) clients
-      → (fault ≡ Accept) ⊎ ((number : ℕ) × (stop : Stop) × (fault ≡ InSession number stop) × (t : Trace) × IsSession {A = A} first stack t
+  pub of_sessions : {clients : Accepting} (count : ℕ) (fault : Fault) → AreServed A first by count (Some fault) clients
+      → (fault ≡ Accept) ⊎ ((number : ℕ) × (stop : Stop) × (fault ≡ InSession number stop) × (t : Trace) × IsSession {A = A} first by t
       (Err stop))
   of_sessions count fault a =
       elim a.ends [
         | inl e ↦
             let at = stopped_first fault 1 a.served (sym e.1) in
             let s = at.3.stopped in
-            inr (at.0, at.1, at.2, s.trace, subst (λ r. IsSession first stack s.trace r) at.3.result_is s.is)
+            inr (at.0, at.1, at.2, s.trace, subst (λ r. IsSession first by s.trace r) at.3.result_is s.is)
         | inr e ↦ inl (cc)
       ]
 
   -- what sessions that end with this fault, or none, tell
   pub tells : {clients : Accepting} (count status : ℕ) (fault : Option Fault) → status ≡ status_at fault
-      → AreServed A first stack count fault clients → TellsOfSessions A first stack count fault status
+      → AreServed A first by count fault clients → TellsOfSessions A first by count fault status
   tells count status None e a =
       elim a.ends [
         | inl s ↦ record { served = a.served; which = inl (s.0, refl, e, none_stopped 1 a.served (sym s.1)) }
@@ -282,7 +282,7 @@ module _ {A : Type 0} {first : Session} {stack : Stacked} where
       ]
 
   -- a session that was served to its end met it once, and neither side of it failed
-  pub met_its_end : (t : Trace) (done : Done A) → IsSession first stack t (Ok done) → HasMetItsEnd t
+  pub met_its_end : (t : Trace) (done : Done A) → IsSession first by t (Ok done) → HasMetItsEnd t
   met_its_end t done s =
       let counted = subst (IsCounted MAX_TURNS t) (ended_well done s.run.ended s.run.result_is) s.run.run.counted in
       record {
@@ -292,17 +292,17 @@ module _ {A : Type 0} {first : Session} {stack : Stacked} where
       }
 
   -- one that a failed read or write ended counts that one failure
-  pub failed_to_read : (t : Trace) → IsSession {A = A} first stack t (Err Read) → t.source.failures ≡ 1
+  pub failed_to_read : (t : Trace) → IsSession {A = A} first by t (Err Read) → t.source.failures ≡ 1
   failed_to_read t s =
       let counted = subst (IsCounted MAX_TURNS t) (read_told s.run.ended s.run.result_is) s.run.run.counted in
       counted.read ∙ ap (λ (p : Pulls). p.failures + 1) s.first_pull
 
-  pub failed_to_write : (t : Trace) → IsSession {A = A} first stack t (Err Write) → t.sink.failures ≡ 1
+  pub failed_to_write : (t : Trace) → IsSession {A = A} first by t (Err Write) → t.sink.failures ≡ 1
   failed_to_write t s =
       let counted = subst (IsCounted MAX_TURNS t) (write_told s.run.ended s.run.result_is) s.run.run.counted in
       counted.write ∙ ap (λ (p : Pushes). p.failures + 1) s.first_push
 
 -- what the status of sessions tells, whatever they end with
-pub sessions_tell : (A : Type 0) (first : Session) (stack : Stacked) (count status : ℕ) (clients : Accepting)
-    → EndWith A first stack count status clients → (fault : Option Fault) × TellsOfSessions A first stack count fault status
-sessions_tell A first stack count status clients e = (e.fault, tells count status e.fault e.status_is e.served)
+pub sessions_tell : (A : Type 0) (first : Session) (by : Sourced) (count status : ℕ) (clients : Accepting)
+    → EndWith A first by count status clients → (fault : Option Fault) × TellsOfSessions A first by count fault status
+sessions_tell A first by count status clients e = (e.fault, tells count status e.fault e.status_is e.served)

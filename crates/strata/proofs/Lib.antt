@@ -2,6 +2,7 @@ pub mod Sizes
 pub mod Printed
 pub mod Served
 pub mod Ended
+pub mod Opened
 pub mod InTurn
 pub mod AtSocket
 pub mod Listed

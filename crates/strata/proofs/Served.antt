@@ -3,10 +3,9 @@
 -- stopped, whole, or whole but for its balances.
 use Rattle.std.proofs.Common.{◌≡◌, ◌∙◌, sym, ap, refl, subst, ℕ, ◌⊎◌, inl, inr, List, Option, None, Some, is_some, true, false, true≢false, Result, Ok, Err, OnOk, IfErr, IsErrAnd}
 use Rattle.command_line.specs.declared.options.Line.{Line}
-use Rattle.stack_model.specs.Listing.{Stacked}
 use Rattle.stack_prepare.specs.declared.refusal.Refusal.{Refusal}
 use Rattle.stack_prepare.specs.Layers.{AreRefused}
-use Rattle.stack_prepare.specs.Preparing.{AreStacked}
+use Rattle.reply_model.specs.Readings.{Sourced}
 use Rattle.serve_core.specs.declared.stop.Stop.{Stop}
 use Rattle.serve_core.specs.Stops.{stop_of_refusal}
 use Rattle.serve_loop.specs.declared.done.Done.{Done}
@@ -15,7 +14,8 @@ use Rattle.serve_loop.specs.Serving.{Trace}
 use Rattle.strata.specs.declared.faults.Fault.{Fault}
 use Rattle.strata.specs.declared.faults.Fault.TheVariants.{Stopped}
 use Rattle.strata.specs.Faults.{out_of_memory, write_failed}
-use Rattle.strata.specs.Ending.{profile_of, Gave, Took, Asks, GetsReplies, IsServing, IsServedWhole, IsNotServed}
+use Rattle.strata.specs.Images.{ArePrepared, profile_of}
+use Rattle.strata.specs.Ending.{Gave, Took, Asks, GetsReplies, IsServing, IsServedWhole, IsNotServed}
 
 none_where : {X : Type 0} (o : Option X) → is_some o ≡ false → o ≡ None
 none_where None e = refl
@@ -59,30 +59,30 @@ module _ (A : Type 0) (line : Line) (images : List (List ℕ)) (old new : Device
   refused refusal (Ok u) r k f = absurd f
   refused refusal (Err fault) r k f = inr (inl (record { refusal = refusal; told = f; refused = r }, k))
 
-  module _ (stack : Stacked) (stacked : AreStacked (profile_of line) line.owner images stack) where
+  module _ (by : Sourced) (prepared : ArePrepared line images by) where
     -- serving stopped
-    pub stopped : (r : Result (Done A) Stop) (stop : Stop) (told : Result (Unit {0}) Fault) → (t : Trace) × IsServing line stack t r old new
+    pub stopped : (r : Result (Done A) Stop) (stop : Stop) (told : Result (Unit {0}) Fault) → (t : Trace) × IsServing line by t r old new
         → r ≡ Err stop
         → IsErrAnd told (λ fault. fault ≡ Stopped stop) → IfErr told (λ fault. IsNotServed A line images fault old new)
     stopped r stop (Ok u) s e f = absurd f
     stopped r stop (Err fault) s e f = inr (inr (inl (record {
-      stack = stack;
-      stacked = stacked;
+      by = by;
+      prepared = prepared;
       trace = s.0;
       stop = stop;
       told = f;
-      serving = subst (λ v. IsServing line stack s.0 v old new) e s.1;
+      serving = subst (λ v. IsServing line by s.0 v old new) e s.1;
     })))
 
     -- serving went to its end, whatever came of the balances
-    pub whole : (r : Result (Done A) Stop) (done : Done A) → (t : Trace) × IsServing line stack t r old new → r ≡ Ok done
+    pub whole : (r : Result (Done A) Stop) (done : Done A) → (t : Trace) × IsServing line by t r old new → r ≡ Ok done
         → IsServedWhole A line images old new
     whole r done s e = record {
-      stack = stack;
-      stacked = stacked;
+      by = by;
+      prepared = prepared;
       trace = s.0;
       done = done;
-      serving = subst (λ v. IsServing line stack s.0 v old new) e s.1;
+      serving = subst (λ v. IsServing line by s.0 v old new) e s.1;
     }
 
   -- a stream that was served whole but whose balances were not written is not served

@@ -1,8 +1,7 @@
 -- What a command leaves behind: its status, and what its output gained.
-use Rattle.std.specs.Prelude.{◌≡◌, ◌≢◌, ◌<◌, ◌+◌, ◌⊎◌, ◌||◌, ℕ, List, true, Option, Some, None, is_some, length, vec_len, Result, Ok, Err, OnOk, if◌then◌else◌}
+use Rattle.std.specs.Prelude.{◌≡◌, ◌≢◌, ◌<◌, ◌+◌, ◌⊎◌, ◌||◌, ℕ, List, true, Option, Some, None, is_some, vec_len, Result, Ok, Err, OnOk, if◌then◌else◌}
 use Rattle.std.specs.Io.KnownBytes.{Appends, Consumes, IsAtEnd}
 use Rattle.romfs_format.specs.declared.rule.Profile.{Profile}
-use Rattle.romfs_format.specs.Profiles.{profile_with}
 use Rattle.node_attr.specs.declared.owner.TheConstants.Owner.{ROOT}
 use Rattle.devices.specs.Counting.{no_pulls, no_pushes, no_accepts}
 use Rattle.devices.specs.Pushing.{HasFlushed, GainsFront}
@@ -15,6 +14,7 @@ use Rattle.stack_prepare.specs.Layers.{AreRefused}
 use Rattle.stack_prepare.specs.Preparing.{AreStacked}
 use Rattle.serve_loop.specs.Serving.{Trace}
 use Rattle.reply_model.specs.declared.session.Session.{Session}
+use Rattle.reply_model.specs.Readings.{Sourced}
 use Rattle.reply_model.specs.declared.session.Session.TheVariants.{Fresh, LastingFresh}
 use Rattle.serve_core.specs.Stops.{stop_of_refusal}
 use Rattle.path_list.specs.declared.walk.ListFault.TheVariants.{Write}
@@ -28,20 +28,13 @@ use Rattle.strata.specs.declared.faults.Fault.{Fault}
 use Rattle.strata.specs.declared.faults.Fault.TheVariants.{ImageFile, RequestsFile, RepliesFile, BalancesFile, Bind, Accept, InSession, Stopped}
 use Rattle.strata.specs.Faults.{AreSizes, IsFirstFault, line_told_of, status_of, out_of_memory, write_failed}
 use Rattle.strata.specs.Texts.{size_lines, version_line}
+use Rattle.strata.specs.Images.{ArePrepared, NamesAsMany, profile_of}
 use Rattle.strata.specs.Sessions.{Accepting, AreServed, status_at, IsSession}
-
--- the rules that a line holds images to, and whether their attributes are read
-abbrev pub profile_of : Line → Profile
-profile_of line = profile_with line.strict line.attributes
 
 -- the session that its stream begins in: over a device, and where the line says so, the client is
 -- told that the tree never changes
 abbrev pub first_of : Line → Session
 first_of line = if line.lasting || line.device then LastingFresh else Fresh
-
--- as many images as the line names
-abbrev pub NamesAsMany : Line → List (List ℕ) → Type 0
-NamesAsMany line images = length images ≡ vec_len line.images
 
 -- the devices that a command is run between were not used before
 pub record AreNew (devices : Devices) : Type 0 where
@@ -152,22 +145,22 @@ pub record GetsReplies {F : Type 0} (file : Option F) (t : Trace)
   pub took : file ≡ None → Took t old new
   pub kept : is_some file ≡ true → new ≡ old
 
--- a stream was served over a stack, as a session of its own: it came from the input and its replies
--- went to the output, but where the line names a file in place of one of them
-pub record IsServing {A : Type 0} (line : Line) (stack : Stacked) (t : Trace)
+-- a stream was served over a stack and its sources, as a session of its own: it came from the input
+-- and its replies went to the output, but where the line names a file in place of one of them
+pub record IsServing {A : Type 0} (line : Line) (by : Sourced) (t : Trace)
     (result : Result (Done A) Stop) (old new : Devices) : Type 0 where
-  pub by : IsSession (first_of line) stack t result
+  pub session : IsSession (first_of line) by t result
   pub asks : Asks line.requests t result old.source new.source
   pub gains : GetsReplies line.replies t old.sink new.sink
 
 -- the images are good, and the stream was served over their stack to its end
 pub record IsServedWhole (A : Type 0) (line : Line) (images : List (List ℕ))
     (old new : Devices) : Type 0 where
-  pub stack : Stacked
-  pub stacked : AreStacked (profile_of line) line.owner images stack
+  pub by : Sourced
+  pub prepared : ArePrepared line images by
   pub trace : Trace
   pub done : Done A
-  pub serving : IsServing line stack trace (Ok done) old new
+  pub serving : IsServing line by trace (Ok done) old new
 
 -- a file that the line names could not be opened or created, and no device was touched
 pub record IsFileFault (line : Line) (fault : Fault) (old new : Devices) : Type 0 where
@@ -181,12 +174,12 @@ pub record IsFileFault (line : Line) (fault : Fault) (old new : Devices) : Type 
 -- for what
 pub record IsServedInPart (A : Type 0) (line : Line) (images : List (List ℕ)) (fault : Fault)
     (old new : Devices) : Type 0 where
-  pub stack : Stacked
-  pub stacked : AreStacked (profile_of line) line.owner images stack
+  pub by : Sourced
+  pub prepared : ArePrepared line images by
   pub trace : Trace
   pub stop : Stop
   pub told : fault ≡ Stopped stop
-  pub serving : IsServing {A = A} line stack trace (Err stop) old new
+  pub serving : IsServing {A = A} line by trace (Err stop) old new
 
 -- the stream was served to its end, but the balances could not be written to their file
 pub record AreBalancesLost (A : Type 0) (line : Line) (images : List (List ℕ)) (fault : Fault)
@@ -208,11 +201,11 @@ IsNotServed A line images fault old new =
 -- none before, which end with this fault, or with none
 pub record IsServedAtSocket (A : Type 0) (line : Line) (images : List (List ℕ))
     (fault : Option Fault) : Type 0 where
-  pub stack : Stacked
-  pub stacked : AreStacked (profile_of line) line.owner images stack
+  pub by : Sourced
+  pub prepared : ArePrepared line images by
   pub clients : Accepting
   pub first_client : clients.before ≡ no_accepts
-  pub served : AreServed A (first_of line) stack line.sessions fault clients
+  pub served : AreServed A (first_of line) by line.sessions fault clients
 
 -- and this is their status
 pub record EndsAtSocket (A : Type 0) (line : Line) (images : List (List ℕ))
@@ -224,8 +217,8 @@ pub record EndsAtSocket (A : Type 0) (line : Line) (images : List (List ℕ))
 -- the images are good, but the socket could not be bound
 pub record IsNotBound (line : Line) (images : List (List ℕ)) (fault : Fault) : Type 0 where
   pub told : fault ≡ Bind
-  pub stack : Stacked
-  pub stacked : AreStacked (profile_of line) line.owner images stack
+  pub by : Sourced
+  pub prepared : ArePrepared line images by
 
 -- why serving at a socket stopped
 abbrev pub IsNotServedAtSocket : (A : Type 0) → Line → List (List ℕ) → Fault → Type 0

@@ -3,8 +3,8 @@ use Rattle.std.specs.Prelude.{◌≡◌, ◌<◌, ◌+◌, ℕ, ◌⊎◌, ⊤, 
 use Rattle.std.specs.List.{AllByRecursion}
 use Rattle.romfs_format.specs.declared.rule.Profile.{Profile}
 use Rattle.romfs_format.specs.Rules.{IsSound}
-use Rattle.stack_model.specs.Listing.{Stacked}
 use Rattle.reply_model.specs.declared.session.Session.{Session}
+use Rattle.reply_model.specs.Readings.{Sourced}
 use Rattle.romfs_format.specs.declared.rule.ImageFault.{ImageFault}
 use Rattle.serve_core.specs.declared.stop.Stop.{Stop}
 use Rattle.serve_core.specs.declared.stop.Stop.TheVariants.{Layer, Layers, BadLength, CutOff, Read, Write, Turns, Memory}
@@ -16,8 +16,8 @@ use Rattle.command_line.specs.CommandLine.{IsLineOf}
 use Rattle.strata.specs.declared.faults.Fault.{Fault}
 use Rattle.strata.specs.declared.faults.Fault.TheVariants.{Usage, ImageFile, RequestsFile, RepliesFile, BalancesFile, Bind, Accept, Broken, InSession, Stopped}
 use Rattle.strata.specs.Faults.{stop_status, status_of}
-use Rattle.strata.specs.Sessions.{Served}
-use Rattle.strata.specs.Ending.{profile_of, NamesAsMany}
+use Rattle.strata.specs.Sessions.{ServedSession}
+use Rattle.strata.specs.Images.{NamesAsMany, profile_of}
 
 -- there are none or too many, or one of them breaks a rule of the profile
 abbrev pub AreBad : Profile → List (List ℕ) → Type 0
@@ -32,16 +32,16 @@ pub record AreToBlame (words : List (List ℕ)) : Type 0 where
   pub bad : AreBad (profile_of line) images
 
 -- a session was served to its end
-abbrev pub IsWhole : {A : Type 0} {first : Session} {stack : Stacked} → Served A first stack
+abbrev pub IsWhole : {A : Type 0} {first : Session} {by : Sourced} → ServedSession A first by
     → Type 0
 IsWhole {A} s = (done : Done A) × (s.result ≡ Ok done)
 
 -- of these sessions the first that stopped has this number, counted from 1, and did so for this
-pub record IsFirstStopped {A : Type 0} {first : Session} {stack : Stacked}
-    (served : List (Served A first stack)) (number : ℕ) (stop : Stop) : Type 0 where
-  pub before : List (Served A first stack)
-  pub stopped : Served A first stack
-  pub after : List (Served A first stack)
+pub record IsFirstStopped {A : Type 0} {first : Session} {by : Sourced}
+    (served : List (ServedSession A first by)) (number : ℕ) (stop : Stop) : Type 0 where
+  pub before : List (ServedSession A first by)
+  pub stopped : ServedSession A first by
+  pub after : List (ServedSession A first by)
   pub served_are : served ≡ before ++ stopped ∷ after
   pub number_is : number ≡ 1 + length before
   pub whole : AllByRecursion IsWhole before
@@ -49,9 +49,9 @@ pub record IsFirstStopped {A : Type 0} {first : Session} {stack : Stacked}
 
 -- what the fault and the status of sessions tell: all were served, and to their end; or all were
 -- served, and they are those of the first that stopped; or fewer were
-pub record TellsOfSessions (A : Type 0) (first : Session) (stack : Stacked)
+pub record TellsOfSessions (A : Type 0) (first : Session) (by : Sourced)
     (count : ℕ) (fault : Option Fault) (status : ℕ) : Type 0 where
-  pub served : List (Served A first stack)
+  pub served : List (ServedSession A first by)
   pub which :
       ((length served ≡ count) × (fault ≡ None) × (status ≡ 0) × AllByRecursion IsWhole served)
       ⊎ (((length served ≡ count) × (number : ℕ) × (stop : Stop)

@@ -1,5 +1,6 @@
 pub mod Faults
 pub mod Texts
+pub mod Images
 pub mod Sessions
 pub mod Ending
 pub mod Readers

@@ -6,12 +6,12 @@ use Rattle.device_readers.specs.declared.ends.End.{End}
 use Rattle.device_readers.specs.declared.ends.End.TheVariants.{AtEnd, TakenAway, Stopped}
 use Rattle.device_readers.specs.declared.ends.Ended.{Ended}
 use Rattle.device_readers.specs.Readers.{IsServedBy}
-use Rattle.stack_model.specs.Listing.{Stacked}
-use Rattle.stack_prepare.specs.Preparing.{AreStacked}
+use Rattle.reply_model.specs.Readings.{Sourced}
 use Rattle.strata.specs.declared.faults.Fault.{Fault}
 use Rattle.strata.specs.declared.faults.Fault.TheVariants as faults
 use Rattle.strata.specs.Faults.{out_of_memory, status_of, stop_status}
-use Rattle.strata.specs.Ending.{AreNotStacked, NamesAsMany, first_of, profile_of}
+use Rattle.strata.specs.Ending.{AreNotStacked, first_of}
+use Rattle.strata.specs.Images.{ArePrepared, NamesAsMany, profile_of}
 
 -- the exit status of the end that is told of readers
 abbrev pub status_of_end : End → ℕ
@@ -23,10 +23,10 @@ status_of_end AtEnd = 0
 pub record IsShared (A : Type 0) (line : Line) (end : End) : Type 0 where
   pub images : List (List ℕ)
   pub named : NamesAsMany line images
-  pub stack : Stacked
-  pub stacked : AreStacked (profile_of line) line.owner images stack
+  pub by : Sourced
+  pub prepared : ArePrepared line images by
   pub ended : Ended A
-  pub served : IsServedBy (first_of line) stack MAX_TURNS line.readers ended
+  pub served : IsServedBy (first_of line) by MAX_TURNS line.readers ended
   pub end_is : end ≡ ended.end
 
 -- one of the images that the line names could not be read, or they are not stacked, or memory ran

@@ -3,28 +3,29 @@ use Rattle.std.specs.Prelude.{◌≡◌, ◌<◌, ◌+◌, ◌⊎◌, ℕ, List,
 use Rattle.devices.specs.declared.counts.Accepts.{Accepts}
 use Rattle.devices.specs.Counting.{no_pulls, no_pushes}
 use Rattle.devices.specs.declared.limits.TheConstants.{MAX_TURNS}
-use Rattle.stack_model.specs.Listing.{Stacked}
 use Rattle.reply_model.specs.declared.session.Session.{Session}
+use Rattle.reply_model.specs.Readings.{Sourced}
 use Rattle.serve_core.specs.declared.stop.Stop.{Stop}
 use Rattle.serve_loop.specs.declared.done.Done.{Done}
 use Rattle.serve_loop.specs.Serving.{Trace}
-use Rattle.serve_core.specs.Headline.{IsRunOver}
+use Rattle.serve_core.specs.Headline.{IsRunFrom}
 use Rattle.strata.specs.declared.faults.Fault.{Fault}
 use Rattle.strata.specs.declared.faults.Fault.TheVariants.{Accept, InSession}
 use Rattle.strata.specs.Faults.{status_of}
 
--- a session was served over a stack between devices that were new, as a stream of its own
-pub record IsSession {A : Type 0} (first : Session) (stack : Stacked) (t : Trace)
+-- a session was served over a stack and the sources of its data, between devices that were new, as
+-- a stream of its own
+pub record IsSession {A : Type 0} (first : Session) (by : Sourced) (t : Trace)
     (result : Result (Done A) Stop) : Type 0 where
-  pub run : IsRunOver first stack MAX_TURNS t result
+  pub run : IsRunFrom first by MAX_TURNS t result
   pub first_pull : t.source_before ≡ no_pulls
   pub first_push : t.sink_before ≡ no_pushes
 
 -- a session: what it did, and how it ended
-pub record Served (A : Type 0) (first : Session) (stack : Stacked) : Type 0 where
+pub record ServedSession (A : Type 0) (first : Session) (by : Sourced) : Type 0 where
   pub trace : Trace
   pub result : Result (Done A) Stop
-  pub is : IsSession first stack trace result
+  pub is : IsSession first by trace result
 
 -- the fault of the session with this number, if it stopped
 abbrev pub fault_of : {A : Type 0} → ℕ → Result (Done A) Stop → Option Fault
@@ -37,15 +38,15 @@ or_later None later = later
 or_later (Some fault) later = Some fault
 
 -- the fault of the first session that stopped, if one did; they are numbered from n on
-unfoldable pub first_fault : {A : Type 0} {first : Session} {stack : Stacked} → ℕ
-    → List (Served A first stack) → Option Fault
+unfoldable pub first_fault : {A : Type 0} {first : Session} {by : Sourced} → ℕ
+    → List (ServedSession A first by) → Option Fault
 first_fault n [] = None
 first_fault n (s ∷ more) = or_later (fault_of n s.result) (first_fault (n + 1) more)
 
 -- what sessions end with: all are served, and it is the fault of the first that stopped; or fewer,
 -- and it is that no client could be accepted
-abbrev pub EndsSessions : {A : Type 0} {first : Session} {stack : Stacked} → ℕ
-    → List (Served A first stack) → Option Fault → Type 0
+abbrev pub EndsSessions : {A : Type 0} {first : Session} {by : Sourced} → ℕ
+    → List (ServedSession A first by) → Option Fault → Type 0
 EndsSessions count served fault =
     ((length served ≡ count) × (fault ≡ first_fault 1 served))
     ⊎ ((length served < count) × (fault ≡ Some Accept))
@@ -66,17 +67,17 @@ accept_failures _ = 0
 
 -- as many clients were accepted as sessions were served; and an accept failed where that is the
 -- fault, and nowhere else
-pub record HaveClients {A : Type 0} {first : Session} {stack : Stacked}
-    (served : List (Served A first stack)) (fault : Option Fault)
+pub record HaveClients {A : Type 0} {first : Session} {by : Sourced}
+    (served : List (ServedSession A first by)) (fault : Option Fault)
     (clients : Accepting) : Type 0 where
   pub accepted : clients.after.clients ≡ clients.before.clients + length served
   pub failures : clients.after.failures ≡ clients.before.failures + accept_failures fault
 
 -- so many sessions were asked for, each of a client of its own, and they end with this fault, or
 -- with none
-pub record AreServed (A : Type 0) (first : Session) (stack : Stacked) (count : ℕ)
+pub record AreServed (A : Type 0) (first : Session) (by : Sourced) (count : ℕ)
     (fault : Option Fault) (clients : Accepting) : Type 0 where
-  pub served : List (Served A first stack)
+  pub served : List (ServedSession A first by)
   pub ends : EndsSessions count served fault
   pub have : HaveClients served fault clients
 
@@ -86,8 +87,8 @@ status_at None = 0
 status_at (Some fault) = status_of fault
 
 -- so many sessions were asked for, and they end with this status
-pub record EndWith (A : Type 0) (first : Session) (stack : Stacked)
+pub record EndWith (A : Type 0) (first : Session) (by : Sourced)
     (count status : ℕ) (clients : Accepting) : Type 0 where
   pub fault : Option Fault
   pub status_is : status ≡ status_at fault
-  pub served : AreServed A first stack count fault clients
+  pub served : AreServed A first by count fault clients

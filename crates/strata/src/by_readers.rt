@@ -5,15 +5,16 @@ ghost use Rattle.command_line.specs.CommandLine.{IsInLimits};
 ghost use Rattle.strata.specs.Readers.{IsNotShared, IsRunByReaders, IsShared, status_of_end};
 
 use crate::faults::Fault;
-use crate::settings::{first_of, plan_of, profile_of};
+use crate::images::open_all;
+use crate::preparing::prepare;
+use crate::settings::{first_of, plan_of};
 use command_line::Line;
 use device_readers::{End, serve_by_readers};
-use image_files::read_images;
-use serve_core::{MAX_TURNS, Terms};
-use stack_prepare::{FreePass, prepare_owned};
+use serve_core::{FreePass, MAX_TURNS, Served, Terms};
 use std::alloc::Allocator;
 use std::fs::Files;
 use std::io::{Read, Write};
+use std::os::unix::fs::FileExt;
 use std::thread::Threads;
 
 /// Serves an open `/dev/fuse` over the images of a line by as many readers as it says, all of which
@@ -30,7 +31,7 @@ pub fn mount_by_readers<
     E: Write,
 >(rt: &R, alloc: A, line: &Line<'_>, reader: I, writer: O, faults: &mut E) -> u8
 where
-    R::File: Send,
+    R::File: FileExt + Send + Sync,
     R::Dir: Send,
     requires { IsInLimits line.now }
     ensures { IsRunByReaders A result line.now }
@@ -41,7 +42,7 @@ where
     }
 }
 
-// Reads, checks and stacks the images, serves their table by the line's readers, and gives the end
+// Opens, checks and stacks the images, serves their table by the line's readers, and gives the end
 // that is told of them.
 fn serve_shared<
     R: Files + Threads + Sync,
@@ -50,21 +51,25 @@ fn serve_shared<
     O: Write + Copy + Sync + Drop,
 >(rt: &R, alloc: A, line: &Line<'_>, reader: I, writer: O) -> Result<End, Fault>
 where
-    R::File: Send,
+    R::File: FileExt + Send + Sync,
     R::Dir: Send,
     requires { IsInLimits line.now }
     ensures served { IfOk result (IsShared A line.now) }
     ensures stopped { IfErr result (IsNotShared line.now) }
 {
-    let images = read_images(rt, alloc, line.images.as_slice())?;
-    let table = prepare_owned(rt, alloc, images, profile_of(line), line.owner, &FreePass)?;
+    let images = open_all(rt, alloc, line)?;
+    let (table, files) = prepare(rt, alloc, line, images)?;
+    let served = Served {
+        table: &table,
+        files: files.as_slice(),
+    };
     let terms = Terms {
         first: first_of(line),
         plan: plan_of(line),
         turns: MAX_TURNS,
         gate: &FreePass,
     };
-    let ended = serve_by_readers(rt, alloc, &table, reader, writer, line.readers, &terms);
+    let ended = serve_by_readers(rt, alloc, served, reader, writer, line.readers, &terms);
     Ok(ended.end)
 }
 

@@ -6,12 +6,15 @@
 ghost use Rattle.std.specs.Prelude.{◌≡◌, ◌<◌, ◌^◌};
 ghost use Rattle.devices.specs.Counting.{no_accepts};
 ghost use Rattle.devices.specs.declared.counts.Accepts.{Accepts};
+ghost use Rattle.fuse_answer.specs.Puts.{sourced_by};
+ghost use Rattle.reply_model.specs.Readings.{in_memory};
 ghost use Rattle.serve_loop.specs.Serving.{Trace};
-ghost use Rattle.strata.specs.Sessions.{accepting, fault_of, status_at, EndWith, IsSession, Served};
+ghost use Rattle.strata.specs.Sessions.{accepting, fault_of, status_at, EndWith, IsSession, ServedSession};
 
 use crate::faults::Fault;
 use devices::{Clients, Listening, Spout, Tap};
-use serve_core::{Done, FreePass, MAX_TURNS, Plan, Session, Stop, Terms, run};
+use image_bytes::Contents;
+use serve_core::{Done, FreePass, MAX_TURNS, Plan, Served, Session, Stop, Terms, run_from};
 use std::alloc::Allocator;
 use std::io::Write;
 use std::os::unix::net::{UnixListener, UnixStream};
@@ -35,13 +38,13 @@ pub fn sessions<R: Threads + Sync, A: Allocator + Copy + Send + Sync, E: Write>(
     faults: &mut E,
 ) -> u8
     ensures { (after : Accepts)
-        × EndWith A Session.Fresh table.now count result (accepting no_accepts after) }
+        × EndWith A Session.Fresh (in_memory table.now) count result (accepting no_accepts after) }
 {
     let mut clients = Listening::new(listener);
     sessions_from(
         rt,
         alloc,
-        table,
+        Served::held(table),
         Session::Fresh,
         &mut clients,
         count,
@@ -50,12 +53,19 @@ pub fn sessions<R: Threads + Sync, A: Allocator + Copy + Send + Sync, E: Write>(
     )
 }
 
-/// The same of any clients, in streams that begin in the session `first`, as [`serve_core::run`]
-/// serves them. A session is one client, and none but these is accepted.
-pub fn sessions_from<R: Threads + Sync, A: Allocator + Copy + Send + Sync, C: Clients, E: Write>(
+/// The same of any clients, over a table and its files, in streams that begin in the session
+/// `first`, as [`serve_core::run_from`] serves them. A session is one client, and none but these is
+/// accepted.
+pub fn sessions_from<
+    R: Threads + Sync,
+    A: Allocator + Copy + Send + Sync,
+    D: Contents + Sync,
+    C: Clients,
+    E: Write,
+>(
     rt: &R,
     alloc: A,
-    table: &Table<A>,
+    served: Served<'_, A, D>,
     first: Session,
     clients: &mut C,
     count: u32,
@@ -64,15 +74,15 @@ pub fn sessions_from<R: Threads + Sync, A: Allocator + Copy + Send + Sync, C: Cl
 ) -> u8
     requires clients { (C.counts clients.old).clients < 2 ^ 63 }
     requires failures { (C.counts clients.old).failures < 2 ^ 63 }
-    ensures { EndWith A first table.now count result
+    ensures { EndWith A first (sourced_by D.source served.entry) count result
         (accepting (C.counts clients.old) (C.counts clients.new)) }
 {
     let mut status = 0;
-    for served in 0..count {
+    for number in 0..count {
         let Ok(client) = clients.accept() else {
             return Fault::Accept.end(faults);
         };
-        let ended = serve_session(rt, alloc, table, first, client, served + 1, plan, faults);
+        let ended = serve_session(rt, alloc, served, first, client, number + 1, plan, faults);
         if status == 0 {
             status = ended;
         }
@@ -81,19 +91,25 @@ pub fn sessions_from<R: Threads + Sync, A: Allocator + Copy + Send + Sync, C: Cl
 }
 
 // Serves the session with this number, and gives its status.
-fn serve_session<R: Threads + Sync, A: Allocator + Copy + Send + Sync, E: Write>(
+fn serve_session<
+    R: Threads + Sync,
+    A: Allocator + Copy + Send + Sync,
+    D: Contents + Sync,
+    E: Write,
+>(
     rt: &R,
     alloc: A,
-    table: &Table<A>,
+    served: Served<'_, A, D>,
     first: Session,
     client: UnixStream,
     session: u32,
     plan: Plan,
     faults: &mut E,
 ) -> u8
-    ensures { (s : Served A first table.now) × (result ≡ status_at (fault_of session s.result)) }
+    ensures { (s : ServedSession A first (sourced_by D.source served.entry))
+        × (result ≡ status_at (fault_of session s.result)) }
 {
-    let ended = serve_client(rt, alloc, table, first, client, plan);
+    let ended = serve_client(rt, alloc, served, first, client, plan);
     end_session(session, &ended, faults)
 }
 
@@ -115,15 +131,15 @@ fn end_session<A: Allocator, E: Write>(
 }
 
 // Serves a client until its stream ends or stops, and closes the connection.
-fn serve_client<R: Threads + Sync, A: Allocator + Copy + Send + Sync>(
+fn serve_client<R: Threads + Sync, A: Allocator + Copy + Send + Sync, D: Contents + Sync>(
     rt: &R,
     alloc: A,
-    table: &Table<A>,
+    served: Served<'_, A, D>,
     first: Session,
     client: UnixStream,
     plan: Plan,
 ) -> Result<Done<A>, Stop>
-    ensures { (t : Trace) × IsSession first table.now t result }
+    ensures { (t : Trace) × IsSession first (sourced_by D.source served.entry) t result }
 {
     let mut source = Tap::new(&client);
     let mut sink = Spout::new(&client);
@@ -133,5 +149,5 @@ fn serve_client<R: Threads + Sync, A: Allocator + Copy + Send + Sync>(
         turns: MAX_TURNS,
         gate: &FreePass,
     };
-    run(rt, alloc, table, &mut source, &mut sink, &terms)
+    run_from(rt, alloc, served, &mut source, &mut sink, &terms)
 }

@@ -1,33 +1,69 @@
-//! The images of a line: read whole, or only what the rules look at.
+//! The images of a line, as they are read: whole, or what the rules look at.
 
 ghost use Rattle.std.specs.Prelude.{◌≡◌, vec_len, IfOk, IfErr};
+ghost use Rattle.image_files.specs.Opening.{held_contents};
+ghost use Rattle.stack_prepare.specs.Layers.{contents_of};
 ghost use Rattle.strata.specs.Faults.{AreUnread};
+ghost use Rattle.strata.specs.Images.{NamesAsMany, HaveSources, bytes_of, sources_of, trailers_of};
 
 use crate::faults::Fault;
 use command_line::Line;
-use image_files::{HeldImage, Trailers, gather_images, read_images};
-use std::alloc::Allocator;
+use held_image::Kept;
+use image_files::{HeldImage, ImageData, Trailers, apart, gather_images, open_images, read_images};
+use std::alloc::{AllocError, Allocator};
 use std::fs::Files;
 use std::os::unix::fs::FileExt;
 use std::thread::Threads;
 
-/// All bytes of the images of a line.
-pub fn read_all<R: Files + Threads + Sync, A: Allocator + Copy + Send + Sync>(
+/// What is held of images, the lowest layer first.
+#[derive(Drop)]
+pub enum HeldImages<A: Allocator> {
+    /// All bytes of each.
+    Whole(Vec<Vec<u8, A>, A>),
+    /// Of each what the rules look at.
+    Kept(Vec<Kept<A>, A>),
+}
+
+/// The images of a line: what is held of them, and what the data of each are read from, where they
+/// are not held whole.
+#[derive(Drop)]
+pub struct LineImages<F, A: Allocator> {
+    pub held: HeldImages<A>,
+    pub files: Vec<ImageData<F, A>, A>,
+}
+
+/// The images of a line, which stay in their files, if it does not ask for all their bytes.
+pub fn open_all<R: Files + Threads + Sync, A: Allocator + Copy + Send + Sync>(
     rt: &R,
     alloc: A,
     line: &Line<'_>,
-) -> Result<Vec<Vec<u8, A>, A>, Fault>
+) -> Result<LineImages<R::File, A>, Fault>
 where
-    R::File: Send,
+    R::File: FileExt + Send,
     R::Dir: Send,
-    ensures ok { IfOk result (λ images. vec_len images ≡ vec_len line.now.images) }
+    ensures named { IfOk result (λ images. NamesAsMany line.now (bytes_of images.held)) }
+    ensures sources { IfOk result (λ images.
+        HaveSources line.now (bytes_of images.held) (sources_of images.files)) }
     ensures err { IfErr result (AreUnread (vec_len line.now.images)) }
 {
-    Ok(read_images(rt, alloc, line.images.as_slice())?)
+    let paths = line.images.as_slice();
+    if line.whole {
+        let images = read_images(rt, alloc, paths)?;
+        return Ok(LineImages {
+            held: HeldImages::Whole(images),
+            files: Vec::new(alloc),
+        });
+    }
+    let images = open_images(rt, alloc, paths, trailers_of(line))?;
+    let (kept, files) = apart(alloc, images)?;
+    Ok(LineImages {
+        held: HeldImages::Kept(kept),
+        files,
+    })
 }
 
-/// What the rules look at of the images of a line, with their trailers where it asks for
-/// attributes.
+/// What is held of the images of a line, none of which stays open: what the rules look at, if it
+/// does not ask for all their bytes.
 pub fn gather_all<R: Files + Threads + Sync, A: Allocator + Copy + Send + Sync>(
     rt: &R,
     alloc: A,
@@ -39,10 +75,35 @@ where
     ensures ok { IfOk result (λ images. vec_len images ≡ vec_len line.now.images) }
     ensures err { IfErr result (AreUnread (vec_len line.now.images)) }
 {
-    let trailers = if line.attributes {
+    let paths = line.images.as_slice();
+    if line.whole {
+        let images = read_images(rt, alloc, paths)?;
+        return Ok(all_whole(alloc, images)?);
+    }
+    Ok(gather_images(rt, alloc, paths, trailers_of(line))?)
+}
+
+// Images that are held whole.
+fn all_whole<A: Allocator + Copy>(
+    alloc: A,
+    images: Vec<Vec<u8, A>, A>,
+) -> Result<Vec<HeldImage<A>, A>, AllocError>
+    ensures { IfOk result (λ held. held_contents held ≡ contents_of images) }
+{
+    let mut held = Vec::with_capacity(alloc, images.len())?;
+    for bytes in images {
+        held.push(HeldImage::Whole(bytes))?;
+    }
+    Ok(held)
+}
+
+// Whether the trailers of a line's images are read: where it asks for attributes.
+fn trailers_of(line: &Line<'_>) -> Trailers
+    ensures { result ≡ trailers_of line.now }
+{
+    if line.attributes {
         Trailers::Read
     } else {
         Trailers::Left
-    };
-    Ok(gather_images(rt, alloc, line.images.as_slice(), trailers)?)
+    }
 }

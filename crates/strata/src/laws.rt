@@ -7,12 +7,13 @@ ghost use Rattle.command_line.specs.declared.options.Verb.TheVariants as verbs;
 ghost use Rattle.devices.specs.States.{Devices};
 ghost use Rattle.serve_core.specs.declared.stop.Stop.TheVariants.{Read, Write};
 ghost use Rattle.strata.specs.Ending.{EndsWith, IsServedWhole, IsFileFault, IsDoneOver, first_of};
-ghost use Rattle.stack_model.specs.Listing.{Stacked};
 ghost use Rattle.reply_model.specs.declared.session.Session.{Session};
 ghost use Rattle.reply_model.specs.declared.session.Session.TheVariants.{Fresh, LastingFresh};
+ghost use Rattle.reply_model.specs.Readings.{Sourced, in_memory};
 ghost use Rattle.serve_loop.specs.declared.done.Done.{Done};
 ghost use Rattle.serve_loop.specs.Serving.{Trace};
 ghost use Rattle.fuse_device.specs.Ends.{MountEnds};
+ghost use Rattle.strata.specs.Images.{ArePrepared};
 ghost use Rattle.strata.specs.Sessions.{status_at, Accepting, AreServed, EndWith, IsSession};
 ghost use Rattle.strata.specs.declared.faults.Fault.{Fault};
 ghost use Rattle.strata.specs.declared.faults.Fault.TheVariants.{Stopped};
@@ -45,23 +46,23 @@ pub fn each_status_has_its_faults()
 /// of the first that stopped, which has its number, and with its status; or with 1 after fewer
 /// sessions than were asked for, since no client could be accepted.
 pub fn sessions_tell<A: Allocator>()
-    ensures faults { (first : Session) (stack : Stacked) (count : ℕ) (fault : Option Fault)
-        (clients : Accepting) → AreServed A first stack count fault clients →
-        TellsOfSessions A first stack count fault (status_at fault) }
-    ensures statuses { (first : Session) (stack : Stacked) (count status : ℕ)
-        (clients : Accepting) → EndWith A first stack count status clients →
-        (fault : Option Fault) × TellsOfSessions A first stack count fault status }
+    ensures faults { (first : Session) (by : Sourced) (count : ℕ) (fault : Option Fault)
+        (clients : Accepting) → AreServed A first by count fault clients →
+        TellsOfSessions A first by count fault (status_at fault) }
+    ensures statuses { (first : Session) (by : Sourced) (count status : ℕ)
+        (clients : Accepting) → EndWith A first by count status clients →
+        (fault : Option Fault) × TellsOfSessions A first by count fault status }
 {}
 
 /// A session counts by itself: one that was served whole met its end once, and nothing failed; one
 /// that a failed read or write stopped has that one failure.
 pub fn sessions_begin_anew<A: Allocator>()
-    ensures whole { (first : Session) (stack : Stacked) (t : Trace) (done : Done A) →
-        IsSession first stack t (Ok done) → HasMetItsEnd t }
-    ensures read { (first : Session) (stack : Stacked) (t : Trace) →
-        IsSession {A = A} first stack t (Err Read) → t.source.failures ≡ 1 }
-    ensures write { (first : Session) (stack : Stacked) (t : Trace) →
-        IsSession {A = A} first stack t (Err Write) → t.sink.failures ≡ 1 }
+    ensures whole { (first : Session) (by : Sourced) (t : Trace) (done : Done A) →
+        IsSession first by t (Ok done) → HasMetItsEnd t }
+    ensures read { (first : Session) (by : Sourced) (t : Trace) →
+        IsSession {A = A} first by t (Err Read) → t.source.failures ≡ 1 }
+    ensures write { (first : Session) (by : Sourced) (t : Trace) →
+        IsSession {A = A} first by t (Err Write) → t.sink.failures ≡ 1 }
 {}
 
 /// Over an open `/dev/fuse` a status other than 0 means what it means over streams; and where the
@@ -80,6 +81,14 @@ pub fn devices_are_served_lastingly()
     ensures lasting { (line : Line) → line.lasting ≡ true → first_of line ≡ LastingFresh }
     ensures usual { (line : Line) → line.device ≡ false → line.lasting ≡ false →
         first_of line ≡ Fresh }
+{}
+
+/// Of a line that asks for all bytes of its images the data are read from nothing: what is promised
+/// over its stack is what is promised over a stack that is held.
+#[tactic(auto, using(crate::proofs::Opened::whole_held))]
+pub fn whole_images_are_held()
+    ensures { (line : Line) (images : List (List ℕ)) (by : Sourced) → line.whole ≡ true →
+        ArePrepared line images by → by ≡ in_memory by.stack }
 {}
 
 /// A failed write tells that the mount was taken away where either side knows, and a failed read

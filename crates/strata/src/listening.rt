@@ -2,19 +2,22 @@
 
 ghost use Rattle.std.specs.Prelude.{◌≡◌, ◌⊎◌, is_some, true, IfOk, IfErr};
 ghost use Rattle.command_line.specs.CommandLine.{IsInLimits};
-ghost use Rattle.stack_prepare.specs.Layers.{contents_of};
-ghost use Rattle.strata.specs.Ending.{profile_of, AreNotStacked, EndsAtSocket, IsNotBound};
+ghost use Rattle.strata.specs.Ending.{AreNotStacked, EndsAtSocket, IsNotBound};
+ghost use Rattle.strata.specs.Images.{HaveSources, bytes_of, profile_of, sources_of};
 
 use crate::clients::sessions_from;
 use crate::faults::Fault;
-use crate::settings::{first_of, plan_of, profile_of};
+use crate::images::LineImages;
+use crate::preparing::prepare;
+use crate::settings::{first_of, plan_of};
 use command_line::Line;
 use devices::Listening;
-use stack_prepare::{FreePass, prepare_owned};
+use serve_core::Served;
 use std::alloc::Allocator;
 use std::fs::{self, Files};
 use std::io::Write;
 use std::net::Net;
+use std::os::unix::fs::FileExt;
 use std::os::unix::net::UnixListener;
 use std::thread::Threads;
 
@@ -25,24 +28,30 @@ pub fn listen<R: Files + Net + Threads + Sync, A: Allocator + Copy + Send + Sync
     rt: &R,
     alloc: A,
     line: &Line<'_>,
-    images: Vec<Vec<u8, A>, A>,
+    images: LineImages<R::File, A>,
     faults: &mut E,
 ) -> Result<u8, Fault>
+where
+    R::File: FileExt + Sync,
     requires limits { IsInLimits line.now }
     requires socket { is_some line.now.listen ≡ true }
-    ensures ended { IfOk result (λ status. EndsAtSocket A line.now (contents_of images) status) }
+    requires images { HaveSources line.now (bytes_of images.held) (sources_of images.files) }
+    ensures ended { IfOk result (λ status. EndsAtSocket A line.now (bytes_of images.held) status) }
     ensures stopped { IfErr result (λ fault.
-        AreNotStacked (profile_of line.now) (contents_of images) fault
-        ⊎ IsNotBound line.now (contents_of images) fault) }
+        AreNotStacked (profile_of line.now) (bytes_of images.held) fault
+        ⊎ IsNotBound line.now (bytes_of images.held) fault) }
 {
     let path = line.listen.unwrap();
-    let table = prepare_owned(rt, alloc, images, profile_of(line), line.owner, &FreePass)?;
+    let (table, files) = prepare(rt, alloc, line, images)?;
     let listener = bind(rt, path)?;
     let mut clients = Listening::new(&listener);
     let status = sessions_from(
         rt,
         alloc,
-        &table,
+        Served {
+            table: &table,
+            files: files.as_slice(),
+        },
         first_of(line),
         &mut clients,
         line.sessions,

@@ -1,15 +1,17 @@
 //! The command `list`.
 
 ghost use Rattle.std.specs.Prelude.{◌<◌, ◌^◌, OnOk, IfErr};
-ghost use Rattle.stack_prepare.specs.Layers.{contents_of};
-ghost use Rattle.strata.specs.Ending.{profile_of, IsStackListed, IsNotListed};
+ghost use Rattle.strata.specs.Ending.{IsStackListed, IsNotListed};
+ghost use Rattle.strata.specs.Images.{bytes_of, profile_of};
 
 use crate::faults::Fault;
+use crate::images::HeldImages;
+use crate::preparing::stack_held;
 use crate::settings::profile_of;
 use command_line::Line;
 use devices::Sink;
 use path_list::write_list;
-use stack_prepare::{FreePass, prepare_as};
+use stack_prepare::Owner;
 use std::alloc::Allocator;
 use std::thread::Threads;
 
@@ -19,17 +21,17 @@ pub fn list<R: Threads + Sync, A: Allocator + Copy + Send + Sync, K: Sink>(
     rt: &R,
     alloc: A,
     line: &Line<'_>,
-    images: Vec<Vec<u8, A>, A>,
+    images: HeldImages<A>,
     output: &mut K,
 ) -> Result<(), Fault>
     requires { (K.state output.old).counts.failures < 2 ^ 63 }
-    ensures done { OnOk result (IsStackListed (profile_of line.now) (contents_of images)
+    ensures done { OnOk result (IsStackListed (profile_of line.now) (bytes_of images)
         (K.state output.old) (K.state output.new)) }
     ensures stopped { IfErr result (λ fault.
-        IsNotListed (profile_of line.now) (contents_of images) fault
+        IsNotListed (profile_of line.now) (bytes_of images) fault
         (K.state output.old) (K.state output.new)) }
 {
-    let table = prepare_as(rt, alloc, images, profile_of(line), &FreePass)?;
+    let table = stack_held(rt, alloc, images, profile_of(line), Owner::ROOT)?;
     write_list(alloc, &table, output)?;
     Ok(())
 }

@@ -16,7 +16,7 @@ ghost use Rattle.strata.specs.Mounts.{mounted, status_on_device, IsRunAsSaid, Is
 use crate::by_readers::mount_by_readers;
 use crate::checking::check;
 use crate::faults::Fault;
-use crate::images::{gather_all, read_all};
+use crate::images::{gather_all, open_all};
 use crate::listening::listen;
 use crate::listing::list;
 use crate::serving::serve;
@@ -64,7 +64,7 @@ pub fn command<
     faults: &mut E,
 ) -> u8
 where
-    R::File: FileExt + Send,
+    R::File: FileExt + Send + Sync,
     R::Dir: Send,
     ensures { IsRunAsSaid A (map S.text words.now) result
         (I.remaining reader) (O.contents writer) }
@@ -87,7 +87,7 @@ fn command_of_line<
     E: Write,
 >(rt: &R, alloc: A, line: &Line<'_>, reader: I, writer: O, shared: (X, Y), faults: &mut E) -> u8
 where
-    R::File: FileExt + Send,
+    R::File: FileExt + Send + Sync,
     R::Dir: Send,
     requires limits { IsInLimits line.now }
     requires socket { NamesSocket line.now }
@@ -114,7 +114,7 @@ fn mount<
     E: Write,
 >(rt: &R, alloc: A, line: &Line<'_>, reader: I, writer: O, faults: &mut E) -> u8
 where
-    R::File: FileExt + Send,
+    R::File: FileExt + Send + Sync,
     R::Dir: Send,
     requires device { line.now.device ≡ true }
     requires limits { IsInLimits line.now }
@@ -149,7 +149,7 @@ pub fn command_on_streams<
     E: Write,
 >(rt: &R, alloc: A, line: &Line<'_>, input: &mut T, output: &mut K, faults: &mut E) -> u8
 where
-    R::File: FileExt + Send,
+    R::File: FileExt + Send + Sync,
     R::Dir: Send,
     requires streams { line.now.device ≡ false }
     requires limits { IsInLimits line.now }
@@ -186,7 +186,7 @@ pub fn command_on_device<
     faults: &mut E,
 ) -> u8
 where
-    R::File: FileExt + Send,
+    R::File: FileExt + Send + Sync,
     R::Dir: Send,
     requires device { line.now.device ≡ true }
     requires limits { IsInLimits line.now }
@@ -219,7 +219,7 @@ fn do_steps<
     faults: &mut E,
 ) -> Result<u8, Fault>
 where
-    R::File: FileExt + Send,
+    R::File: FileExt + Send + Sync,
     R::Dir: Send,
     requires new { AreNew (devices (T.state input.old) (K.state output.old)) }
     requires limits { IsInLimits line.now }
@@ -235,11 +235,11 @@ where
 {
     match line.verb {
         Verb::Serve => {
-            let images = read_all(rt, alloc, line)?;
+            let images = open_all(rt, alloc, line)?;
             as_status(serve(rt, alloc, line, images, input, output))
         }
         Verb::Socket => {
-            let images = read_all(rt, alloc, line)?;
+            let images = open_all(rt, alloc, line)?;
             listen(rt, alloc, line, images, faults)
         }
         Verb::Check => {
@@ -247,8 +247,8 @@ where
             as_status(check(alloc, images, profile_of(line), output))
         }
         Verb::List => {
-            let images = read_all(rt, alloc, line)?;
-            as_status(list(rt, alloc, line, images, output))
+            let images = open_all(rt, alloc, line)?;
+            as_status(list(rt, alloc, line, images.held, output))
         }
     }
 }

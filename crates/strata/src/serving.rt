@@ -4,22 +4,26 @@ ghost use Rattle.std.specs.Prelude.{◌≡◌, is_some, OnOk, IfErr};
 ghost use Rattle.std.specs.Io.KnownBytes.{IsAtEnd};
 ghost use Rattle.devices.specs.States.{devices};
 ghost use Rattle.command_line.specs.CommandLine.{IsInLimits};
-ghost use Rattle.stack_prepare.specs.Layers.{contents_of};
+ghost use Rattle.fuse_answer.specs.Puts.{sourced_by};
 ghost use Rattle.serve_loop.specs.Serving.{Trace, Does};
 ghost use Rattle.strata.specs.Ending.{first_of, AreNew, Gave, GetsReplies, IsServing, IsServedWhole, IsNotServed};
+ghost use Rattle.strata.specs.Images.{HaveSources, bytes_of, sources_of};
 ghost use Rattle.strata.specs.Sessions.{IsSession};
 
 use crate::balances::tell_balances;
 use crate::faults::Fault;
 use crate::files::{create_named, open_requests};
-use crate::settings::{first_of, plan_of, profile_of};
+use crate::images::LineImages;
+use crate::preparing::prepare;
+use crate::settings::{first_of, plan_of};
 use command_line::Line;
 use devices::{Sink, Source, Spout, Tap};
-use serve_core::{Done, MAX_TURNS, Stop, Terms, run};
-use stack_prepare::{FreePass, Table, prepare_owned};
+use image_bytes::Contents;
+use serve_core::{Done, FreePass, MAX_TURNS, Served, Stop, Terms, run_from};
 use std::alloc::Allocator;
 use std::fs::Files;
 use std::io::{Read, Write};
+use std::os::unix::fs::FileExt;
 use std::thread::Threads;
 
 /// Checks the images, stacks them, and answers the requests of a file or else of the input over the
@@ -30,24 +34,31 @@ pub fn serve<R: Files + Threads + Sync, A: Allocator + Copy + Send + Sync, S: So
     rt: &R,
     alloc: A,
     line: &Line<'_>,
-    images: Vec<Vec<u8, A>, A>,
+    images: LineImages<R::File, A>,
     input: &mut S,
     output: &mut K,
 ) -> Result<(), Fault>
+where
+    R::File: FileExt + Sync,
     requires limits { IsInLimits line.now }
     requires new { AreNew (devices (S.state input.old) (K.state output.old)) }
-    ensures done { OnOk result (IsServedWhole A line.now (contents_of images)
+    requires images { HaveSources line.now (bytes_of images.held) (sources_of images.files) }
+    ensures done { OnOk result (IsServedWhole A line.now (bytes_of images.held)
         (devices (S.state input.old) (K.state output.old))
         (devices (S.state input.new) (K.state output.new))) }
-    ensures stopped { IfErr result (λ fault. IsNotServed A line.now (contents_of images) fault
+    ensures stopped { IfErr result (λ fault. IsNotServed A line.now (bytes_of images.held) fault
         (devices (S.state input.old) (K.state output.old))
         (devices (S.state input.new) (K.state output.new))) }
 {
     let requests = open_requests(rt, line.requests)?;
     let replies = create_named(rt, line.replies, Fault::RepliesFile)?;
     let balances = create_named(rt, line.balances, Fault::BalancesFile)?;
-    let table = prepare_owned(rt, alloc, images, profile_of(line), line.owner, &FreePass)?;
-    let done = serve_stream(rt, alloc, line, &table, requests, replies, input, output)?;
+    let (table, files) = prepare(rt, alloc, line, images)?;
+    let served = Served {
+        table: &table,
+        files: files.as_slice(),
+    };
+    let done = serve_stream(rt, alloc, line, served, requests, replies, input, output)?;
     tell_balances(alloc, balances, done.balances.as_slice())
 }
 
@@ -55,6 +66,7 @@ pub fn serve<R: Files + Threads + Sync, A: Allocator + Copy + Send + Sync, S: So
 fn serve_stream<
     R: Threads + Sync,
     A: Allocator + Copy + Send + Sync,
+    D: Contents + Sync,
     F: Read + Write + Drop,
     S: Source,
     K: Sink,
@@ -62,7 +74,7 @@ fn serve_stream<
     rt: &R,
     alloc: A,
     line: &Line<'_>,
-    table: &Table<A>,
+    served: Served<'_, A, D>,
     requests: Option<F>,
     replies: Option<F>,
     input: &mut S,
@@ -72,13 +84,21 @@ fn serve_stream<
     requires requests { is_some requests ≡ is_some line.now.requests }
     requires replies { is_some replies ≡ is_some line.now.replies }
     requires new { AreNew (devices (S.state input.old) (K.state output.old)) }
-    ensures { (t : Trace) × IsServing line.now table.now t result
+    ensures { (t : Trace) × IsServing line.now (sourced_by D.source served.entry) t result
         (devices (S.state input.old) (K.state output.old))
         (devices (S.state input.new) (K.state output.new)) }
 {
     match requests {
-        Some(file) => serve_source(rt, alloc, line, table, &mut Tap::new(file), replies, output),
-        None => serve_source(rt, alloc, line, table, input, replies, output),
+        Some(file) => serve_source(
+            rt,
+            alloc,
+            line,
+            served,
+            &mut Tap::new(file),
+            replies,
+            output,
+        ),
+        None => serve_source(rt, alloc, line, served, input, replies, output),
     }
 }
 
@@ -86,6 +106,7 @@ fn serve_stream<
 fn serve_source<
     R: Threads + Sync,
     A: Allocator + Copy + Send + Sync,
+    D: Contents + Sync,
     S: Source,
     F: Write + Drop,
     K: Sink,
@@ -93,35 +114,43 @@ fn serve_source<
     rt: &R,
     alloc: A,
     line: &Line<'_>,
-    table: &Table<A>,
+    served: Served<'_, A, D>,
     source: &mut S,
     replies: Option<F>,
     output: &mut K,
 ) -> Result<Done<A>, Stop>
     requires limits { IsInLimits line.now }
     requires new { AreNew (devices (S.state source.old) (K.state output.old)) }
-    ensures { (t : Trace) × IsSession (first_of line.now) table.now t result
+    ensures { (t : Trace)
+        × IsSession (first_of line.now) (sourced_by D.source served.entry) t result
         × Gave t result (S.state source.old) (S.state source.new)
         × GetsReplies replies t (K.state output.old) (K.state output.new) }
 {
     match replies {
-        Some(file) => serve_between(rt, alloc, line, table, source, &mut Spout::new(file)),
-        None => serve_between(rt, alloc, line, table, source, output),
+        Some(file) => serve_between(rt, alloc, line, served, source, &mut Spout::new(file)),
+        None => serve_between(rt, alloc, line, served, source, output),
     }
 }
 
 // Answers the requests of the source, to the sink.
-fn serve_between<R: Threads + Sync, A: Allocator + Copy + Send + Sync, S: Source, K: Sink>(
+fn serve_between<
+    R: Threads + Sync,
+    A: Allocator + Copy + Send + Sync,
+    D: Contents + Sync,
+    S: Source,
+    K: Sink,
+>(
     rt: &R,
     alloc: A,
     line: &Line<'_>,
-    table: &Table<A>,
+    served: Served<'_, A, D>,
     source: &mut S,
     sink: &mut K,
 ) -> Result<Done<A>, Stop>
     requires limits { IsInLimits line.now }
     requires new { AreNew (devices (S.state source.old) (K.state sink.old)) }
-    ensures run { Does (λ t. IsSession (first_of line.now) table.now t result)
+    ensures run { Does (λ t.
+        IsSession (first_of line.now) (sourced_by D.source served.entry) t result)
         (devices (S.state source.old) (K.state sink.old))
         (devices (S.state source.new) (K.state sink.new)) }
     ensures end { OnOk result (IsAtEnd (S.state source.new).left) }
@@ -132,5 +161,5 @@ fn serve_between<R: Threads + Sync, A: Allocator + Copy + Send + Sync, S: Source
         turns: MAX_TURNS,
         gate: &FreePass,
     };
-    run(rt, alloc, table, source, sink, &terms)
+    run_from(rt, alloc, served, source, sink, &terms)
 }

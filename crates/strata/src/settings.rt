@@ -3,7 +3,8 @@
 
 ghost use Rattle.std.specs.Prelude.{◌≡◌};
 ghost use Rattle.command_line.specs.CommandLine.{IsInLimits};
-ghost use Rattle.strata.specs.Ending.{profile_of, first_of};
+ghost use Rattle.strata.specs.Ending.{first_of};
+ghost use Rattle.strata.specs.Images.{profile_of};
 
 use command_line::Line;
 use serve_core::{Plan, Profile, Session};

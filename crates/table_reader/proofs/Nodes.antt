@@ -23,7 +23,7 @@ use Rattle.table_reader.specs.declared.node.Stamp.{Stamp}
 use Rattle.table_reader.specs.declared.directory.Directory.{Directory}
 use Rattle.table_reader.specs.Rows.{Line, number_named}
 use Rattle.table_reader.specs.Directories.{HeldDirectories}
-use Rattle.table_reader.specs.Readers.{TellsNode, attr_at, parent_of, parent_at, child_of, child_at, rows_of, rows_at, data_of_number}
+use Rattle.table_reader.specs.Readers.{HoldsData, TellsNode, attr_at, parent_of, parent_at, child_of, child_at, rows_of, rows_at, data_of_number}
 use Rattle.table_reader.specs.Held.{held_at, kept_of, directory_held, row_held, brief_by, stamp_by, briefs_of, row_number, row_numbers_of, row_told, attr_held, HaveKeys, IsHeldDirectory, IsNode, IsTable}
 
 -- the number of a place that has one
@@ -169,7 +169,11 @@ module _ (stack : Stacked) (held : List Node) (directories : HeldDirectories) (b
   node_is n None e = nowhere n e
   node_is n (Some node) e =
       let h = here n node.now e in
-      record { place_is = h.is ∙ ap Some (sym h.holds.place); kind_is = h.holds.kind ∙ ap (kind_at layers) (sym h.holds.place) }
+      record {
+        place_is = h.is ∙ ap Some (sym h.holds.place);
+        kind_is = h.holds.kind ∙ ap (kind_at layers) (sym h.holds.place);
+        holds = subst (HoldsData layers node.now.place.layer node.now) (sym h.holds.place) h.holds.holds;
+      }
 
   attr_same : (n : ℕ) (node : Node) (p : Place) → IsNode (stacked layers entries) directories node p → number entries p ≡ n
       → attr_held n (brief_by (row_held rows node) node) (stamp_by (row_held rows node) owner) ≡ attr_of stack p

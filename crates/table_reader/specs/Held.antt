@@ -4,10 +4,9 @@ use Rattle.std.specs.List.{list_any, slice_index_or}
 use Rattle.std.specs.Option.{option_map_or, option_and_then}
 use Rattle.romfs_format.specs.declared.attribute_row.AttributeRow.{AttributeRow}
 use Rattle.attribute_rows.specs.Order.{position_at}
-use Rattle.romfs_reader.specs.Readers.{bytes_at, IsPart}
 use Rattle.stack_model.specs.Listing.{Entry, IsListing, Stacked, stacked}
 use Rattle.stack_model.specs.Numbers.{Place, nodes, number, parent}
-use Rattle.stack_model.specs.Attributes.{is_directory, kind_at, mode, mode_by, owner_by, row_in, size_at, rdev, nlink, blocks_of, blocks_all, data_of}
+use Rattle.stack_model.specs.Attributes.{is_directory, kind_at, mode, mode_by, owner_by, row_in, size_at, rdev, nlink, blocks_of, blocks_all}
 use Rattle.node_attr.specs.declared.attr.Attr.{Attr}
 use Rattle.node_attr.specs.declared.owner.Owner.{Owner}
 use Rattle.table_reader.specs.declared.node.Node.{Node}
@@ -18,7 +17,7 @@ use Rattle.name_lookup.specs.Keyed.{AreKeyed}
 use Rattle.name_lookup.specs.Noted.{IsNoted}
 use Rattle.table_reader.specs.Rows.{names}
 use Rattle.table_reader.specs.Directories.{HeldDirectories}
-use Rattle.table_reader.specs.Readers.{placed, rows_of}
+use Rattle.table_reader.specs.Readers.{placed, rows_of, HoldsData}
 
 -- what is held of a number, counted from 1
 abbrev pub held_at : {A : Type 0} → List A → ℕ → Option A
@@ -96,13 +95,6 @@ attr_held n brief stamp = record {
   gid = stamp.gid;
   rdev = brief.rdev;
 }
-
--- the data that the node holds lie in the place's layer, and are the place's
-pub record HoldsData (layers : List (List ℕ)) (layer : ℕ) (node : Node) (p : Place) : Type 0 where
-  pub image : List ℕ
-  pub is : slice_get layers layer ≡ Some image
-  pub lies : IsPart image node.part
-  pub data_is : bytes_at image node.part.start node.part.len ≡ data_of layers p
 
 -- a directory holds the number of the one above, and its rows with their keys
 pub record IsHeldDirectory (stack : Stacked) (held : HeldDirectories) (directory : Directory)

@@ -1,3 +1,4 @@
+pub mod Layers
 pub mod Stacked
 pub mod Rows
 pub mod Directories

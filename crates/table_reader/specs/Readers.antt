@@ -1,10 +1,11 @@
 -- What a table answers about a number, by the listing of its layers.
-use Rattle.std.specs.Prelude.{◌≡◌, ℕ, List, [], map, Option, Some, None, MatchOption, if◌then◌else◌}
+use Rattle.std.specs.Prelude.{◌≡◌, ◌≢◌, ℕ, List, [], map, slice_get, Option, Some, None, MatchOption, if◌then◌else◌}
 use Rattle.std.specs.Borrow.{Bor}
 use Rattle.std.specs.Option.{option_map, option_map_or, option_and_then}
+use Rattle.romfs_reader.specs.Readers.{bytes_at, IsPart}
 use Rattle.stack_model.specs.Listing.{Stacked}
 use Rattle.stack_model.specs.Numbers.{Place as ModelPlace, number, node_of, parent, children, child}
-use Rattle.stack_model.specs.Attributes.{is_directory_at, kind_at, attr_of, data_of}
+use Rattle.stack_model.specs.Attributes.{is_directory_at, kind_at, attr_of, data_start, data_of}
 use Rattle.whiteout_tree.specs.declared.place.Place.{Place}
 use Rattle.node_attr.specs.declared.attr.Attr.{Attr}
 use Rattle.table_reader.specs.declared.node.Node.{Node}
@@ -37,10 +38,20 @@ module _ (stack : Stacked) where
       (children stack.entries p)
       else []
 
--- the number is the node's, and the node says its place and kind
+-- the data that the node holds lie in the place's layer, and are the place's
+pub record HoldsData (layers : List (List ℕ)) (layer : ℕ) (node : Node) (p : ModelPlace)
+    : Type 0 where
+  pub image : List ℕ
+  pub is : slice_get layers layer ≡ Some image
+  pub lies : IsPart image node.part
+  pub data_is : bytes_at image node.part.start node.part.len ≡ data_of layers p
+  pub start_is : node.part.len ≢ 0 → node.part.start ≡ data_start layers p
+
+-- the number is the node's, and the node says its place and kind, and where its data are
 pub record IsNodeOf (stack : Stacked) (number : ℕ) (node : Node) : Type 0 where
   pub place_is : node_of stack.entries number ≡ Some (placed node.place)
   pub kind_is : node.kind ≡ kind_at stack.layers (placed node.place)
+  pub holds : HoldsData stack.layers node.place.layer node (placed node.place)
 
 -- the node of a number; none where the number is not in use
 abbrev pub TellsNode : Stacked → ℕ → Option (Bor Node) → Type 0

@@ -1,6 +1,6 @@
 //! The table of a stack.
 
-ghost use Rattle.std.specs.Prelude.{◌≡◌, ◌<◌, ◌+◌, ◌^◌, length, IfOk};
+ghost use Rattle.std.specs.Prelude.{◌≡◌, ◌<◌, ◌+◌, ◌^◌, length, true, IfOk};
 ghost use Rattle.stack_model.specs.Listing.{IsListing};
 ghost use Rattle.stack_model.specs.Numbers.{nodes};
 ghost use Rattle.stack_model.specs.Attributes.{blocks_all};
@@ -11,6 +11,7 @@ ghost use Rattle.table_reader.specs.Readers.{TellsNode, attr_at, parent_at, chil
 use crate::attributes::{Attributes, briefs_of, row_numbers_of, stamp_by};
 use crate::directory::{Directories, Directory};
 use crate::guess::Guess;
+use crate::layers::Layers;
 use crate::lookup::{
     Hints, attr_of, directory_at, hints_of, node_at, numbered, place_of, row_told,
 };
@@ -18,14 +19,13 @@ use crate::node::{Brief, Node};
 use crate::row::Row;
 use attribute_rows::Rows;
 use node_attr::{Attr, Owner};
-use romfs_reader::Image;
 use std::alloc::{AllocError, Allocator, Global};
 use std::marker::Model;
 
 /// The nodes of a stack of layers, by number: attributes, rows and data.
 ///
-/// A clause sees the layers, their listing, the layers' rows of attributes, and whom nodes without
-/// a row belong to. Each node and row takes at most 113 bytes beside a name of more than 22 (16 of
+/// A clause sees the layers, their listing, the layers' rows of attributes, whom nodes without a
+/// row belong to, and whether the images are held whole. Each node and row takes at most 113 bytes beside a name of more than 22 (16 of
 /// them for guesses of where names stand), a directory 32 more, and each node 4 more where any has
 /// a row of attributes, beside the 28 of the row. No reader takes memory, and each answers for
 /// every number: 1 is the root, and a number that is not in use has nothing.
@@ -46,7 +46,7 @@ use std::marker::Model;
 /// are sought once, when the table is made: a node keeps where its own stands.
 #[derive(Drop)]
 pub struct Table<A: Allocator> {
-    images: Vec<Image<A>, A>,
+    layers: Layers<A>,
     nodes: Vec<Node, A>,
     // The attributes of the nodes, in the same order.
     briefs: Vec<Brief, A>,
@@ -59,7 +59,7 @@ pub struct Table<A: Allocator> {
     directories: Directories<A>,
     hints: Hints<A>,
     blocks: u64,
-    ghost listing: { Listed images.items } by { listed_once images.items },
+    ghost listing: { Listed layers.all } by { listed_once layers.all },
 }
 
 const _: () = prove!(size_of::<Node>() <= 40);
@@ -77,19 +77,21 @@ impl<A: Allocator> Model for Table<A> {
     ghost Value = { Stacked };
 
     ghost view = { λ held. record {
-      layers = held.images.items;
+      layers = held.layers.all;
       entries = held.listing.0;
       rows = held.rows.items;
       owner = held.owner;
+      whole = held.layers.whole;
     } };
 
     ghost invariant = { λ held.
         IsHeld
         (record {
-          layers = held.images.items;
+          layers = held.layers.all;
           entries = held.listing.0;
           rows = held.rows.items;
           owner = held.owner;
+          whole = held.layers.whole;
         })
         held.nodes.items held.briefs.items held.row_numbers.items held.directories
         held.hints.filter held.blocks };
@@ -101,22 +103,23 @@ impl<A: Allocator + Copy> Table<A> {
     /// was refused.
     pub fn of_parts(
         alloc: A,
-        images: Vec<Image<A>, A>,
+        layers: Layers<A>,
         nodes: Vec<Node, A>,
         directories: Directories<A>,
         blocks: u64,
         attributes: Attributes<A>,
     ) -> Result<Self, AllocError>
-        requires { IsSomeTable images.items nodes.items directories blocks }
-        ensures { IfOk result (λ table. IsTableWith images.items attributes.rows.items
+        requires { IsSomeTable layers.all nodes.items directories blocks }
+        ensures stack { IfOk result (λ table. IsTableWith layers.all attributes.rows.items
             attributes.owner table) }
+        ensures whole { IfOk result (λ table. table.whole ≡ layers.whole) }
     {
         let hints = hints_of(alloc, &nodes, &directories)?;
         let Attributes { rows, owner } = attributes;
         let briefs = briefs_of(alloc, &nodes, &rows)?;
         let row_numbers = row_numbers_of(alloc, &nodes, &rows)?;
         Ok(Table {
-            images,
+            layers,
             nodes,
             briefs,
             row_numbers,
@@ -139,10 +142,11 @@ impl<A: Allocator> Table<A> {
     }
 
     /// The images of the layers, the lowest first.
-    pub fn images(&self) -> &[Image<A>]
-        ensures { result.now ≡ self.now.layers }
+    pub fn layers(&self) -> &Layers<A>
+        ensures all { result.now.all ≡ self.now.layers }
+        ensures whole { result.now.whole ≡ self.now.whole }
     {
-        self.images.as_slice()
+        &self.layers
     }
 
     /// The node of a number; none where the number is not in use.
@@ -229,14 +233,15 @@ impl<A: Allocator> Table<A> {
     }
 
     /// The data of a regular file, or the target of a symbolic link; empty where the number is
-    /// neither. A reply's header can say how many they are.
+    /// neither. A reply's header can say how many they are. It asks for images that are held whole.
     pub fn bytes(&self, number: u64) -> &[u8]
+        requires { self.now.whole ≡ true }
         ensures value { result.now ≡ data_of_number self.now number }
         ensures short { 16 + length result.now < 2 ^ 32 }
     {
         match node_at(&self.nodes, number) {
             Some(node) => {
-                let image = &self.images[node.place.layer as usize];
+                let image = self.layers.image(node.place.layer as usize);
                 image.part(node.part)
             }
             None => &[],

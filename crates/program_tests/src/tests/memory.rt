@@ -19,7 +19,7 @@ fn is_told<R: Files + Net + Threads + Sync>(
     whole: &[u8],
 ) -> bool
 where
-    R::File: FileExt + Send,
+    R::File: FileExt + Send + Sync,
     R::Dir: Send,
 {
     let (global, refusing) = (memories.global, &memories.refusing);
@@ -37,7 +37,7 @@ where
 /// nothing else.
 fn version_is_told<R: Files + Net + Threads + Sync>(rt: &R, memories: &Memories) -> bool
 where
-    R::File: FileExt + Send,
+    R::File: FileExt + Send + Sync,
     R::Dir: Send,
 {
     let (global, refusing) = (memories.global, &memories.refusing);
@@ -60,7 +60,7 @@ fn told_refusals<R: Files + Net + Threads + Sync>(
     whole: &[u8],
 ) -> Result<u64, u64>
 where
-    R::File: FileExt + Send,
+    R::File: FileExt + Send + Sync,
     R::Dir: Send,
 {
     refuse_in_turn(global, |memories| is_told(rt, memories, words, whole))

@@ -64,7 +64,7 @@ fn status_of<R: Files + Net + Threads + Sync, A: Allocator + Copy + Send + Sync>
     line: &[u8],
 ) -> Option<u8>
 where
-    R::File: FileExt + Send,
+    R::File: FileExt + Send + Sync,
     R::Dir: Send,
 {
     let input = Messages(&REQUESTS);
@@ -97,7 +97,7 @@ fn replies_of(alloc: Global, left: Option<u32>, number: i32) -> Replies {
 /// replies; or else wrote both.
 fn is_told<R: Files + Net + Threads + Sync>(rt: &R, memories: &Memories, words: &[&str]) -> bool
 where
-    R::File: FileExt + Send,
+    R::File: FileExt + Send + Sync,
     R::Dir: Send,
 {
     let (global, refusing) = (memories.global, &memories.refusing);
@@ -134,7 +134,7 @@ fn end_of<R: Files + Net + Threads + Sync>(
     number: i32,
 ) -> (Option<u8>, usize)
 where
-    R::File: FileExt + Send,
+    R::File: FileExt + Send + Sync,
     R::Dir: Send,
 {
     let mut replies = replies_of(global, Some(left), number);
@@ -147,7 +147,7 @@ where
 /// alone.
 fn end_at<R: Files + Net + Threads + Sync>(rt: &R, global: Global, words: &[&str]) -> Option<u8>
 where
-    R::File: FileExt + Send,
+    R::File: FileExt + Send + Sync,
     R::Dir: Send,
 {
     let mut replies = replies_of(global, None, ENODEV);

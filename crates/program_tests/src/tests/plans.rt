@@ -24,7 +24,7 @@ fn requests_by<R: Files + Net + Threads + Sync>(
     plan: (&str, &str),
 ) -> Option<u64>
 where
-    R::File: FileExt + Send,
+    R::File: FileExt + Send + Sync,
     R::Dir: Send,
 {
     let memory = Refusing::new(global, 0);
@@ -63,7 +63,7 @@ fn status_at<R: Files + Net + Threads + Sync, A: Allocator + Copy + Send + Sync>
     words: &[&str],
 ) -> Option<u8>
 where
-    R::File: FileExt + Send,
+    R::File: FileExt + Send + Sync,
     R::Dir: Send,
 {
     let mut output = Vec::new(global);
@@ -80,7 +80,7 @@ fn served_and_answered<R: Files + Net<Listener = TcpListener, Stream = TcpStream
     stream: &[u8],
 ) -> (Option<u8>, Option<usize>)
 where
-    R::File: FileExt + Send,
+    R::File: FileExt + Send + Sync,
     R::Dir: Send,
 {
     join(
@@ -104,7 +104,7 @@ fn requests_at<R: Files + Net<Listener = TcpListener, Stream = TcpStream> + Thre
     plan: (&str, &str),
 ) -> Option<u64>
 where
-    R::File: FileExt + Send,
+    R::File: FileExt + Send + Sync,
     R::Dir: Send,
 {
     let memory = Refusing::new(global, 0);
@@ -132,7 +132,7 @@ fn requests_of_plans<R: Files + Net<Listener = TcpListener, Stream = TcpStream> 
     socket: &str,
 ) -> Result<[[u64; 3]; 2], Fail>
 where
-    R::File: FileExt + Send,
+    R::File: FileExt + Send + Sync,
     R::Dir: Send,
 {
     let stream = stream(global, Long::Readdir, 120)?;

@@ -20,7 +20,7 @@ pub fn status_of<
     O: Write + Drop,
 >(rt: &R, global: Global, alloc: A, words: &[&str], input: I, output: O, line: &[u8]) -> Option<u8>
 where
-    R::File: FileExt + Send,
+    R::File: FileExt + Send + Sync,
     R::Dir: Send,
 {
     let mut faults = Vec::new(global);

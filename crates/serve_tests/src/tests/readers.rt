@@ -1,7 +1,7 @@
 //! Several readers of one device, which gives each message to one of them.
 
 use device_readers::{End, Ended, serve_by_readers};
-use serve_core::{FreePass, Gate, MAX_TURNS, Plan, Session, Stop, Terms, Work};
+use serve_core::{FreePass, Gate, MAX_TURNS, Plan, Served, Session, Stop, Terms, Work};
 use serve_test_kit::runs::table_of;
 use std::alloc::Allocator;
 use std::io::{self, Error, Read, Write};
@@ -171,7 +171,8 @@ fn served<R: Threads + Sync, A: Allocator + Copy + Send + Sync, G: Gate + Sync>(
         turns: MAX_TURNS,
         gate,
     };
-    let ended = serve_by_readers(rt, alloc, table, device, device, readers.max(1), &terms);
+    let over = Served::held(table);
+    let ended = serve_by_readers(rt, alloc, over, device, device, readers.max(1), &terms);
     (ended.end, counted(&ended))
 }
 

@@ -1,5 +1,7 @@
 //! The table of the sample image: `big` 2, `d` 3, `d/x` 4, `l` 5, `null` 6.
 
+ghost use Rattle.std.specs.Prelude.{◌≡◌, true, IfOk};
+
 use node_table::{OfTree, Table};
 use romfs_image::sample::BuildFault;
 use stack_core::{FreePass, stack};
@@ -14,7 +16,9 @@ pub fn table_of<R: Threads + Sync, A: Allocator + Copy + Send + Sync>(
     rt: &R,
     alloc: A,
     words: &str,
-) -> Result<Table<A>, BuildFault> {
+) -> Result<Table<A>, BuildFault>
+    ensures { IfOk result (λ table. table.whole ≡ true) }
+{
     let images = layers(alloc, words)?;
     if images.is_empty() || 128 < images.len() {
         return Err(BuildFault::Listing);
@@ -42,7 +46,9 @@ fn are_children<A: Allocator>(table: &Table<A>) -> bool {
 }
 
 /// Whether nothing is told of a number.
-fn is_unused<A: Allocator>(table: &Table<A>, number: u64) -> bool {
+fn is_unused<A: Allocator>(table: &Table<A>, number: u64) -> bool
+    requires { table.now.whole ≡ true }
+{
     table.node(number).is_none()
         && table.attr(number).is_none()
         && table.rows(number).is_empty()
@@ -52,7 +58,9 @@ fn is_unused<A: Allocator>(table: &Table<A>, number: u64) -> bool {
 
 /// Whether each number has a node and attributes; and, of the file `big` and of the root, its data
 /// and its rows.
-fn are_used<A: Allocator>(table: &Table<A>) -> bool {
+fn are_used<A: Allocator>(table: &Table<A>) -> bool
+    requires { table.now.whole ≡ true }
+{
     for number in 1..=table.len() {
         let ino = table.attr(number).map(|attr| attr.ino);
         if ino != Some(number) || table.node(number).is_none() {
@@ -63,7 +71,9 @@ fn are_used<A: Allocator>(table: &Table<A>) -> bool {
 }
 
 /// Whether a table of the sample image tells what it should.
-fn tells_all<A: Allocator>(table: &Table<A>) -> bool {
+fn tells_all<A: Allocator>(table: &Table<A>) -> bool
+    requires { table.now.whole ≡ true }
+{
     let are_unused = is_unused(table, 0) && is_unused(table, 7) && is_unused(table, u64::MAX);
     let parents = (table.parent(1), table.parent(3), table.parent(2));
     let is_whole = table.len() == 6 && table.blocks_all() == 11;

@@ -1,4 +1,4 @@
-use Rattle.std.proofs.Common.{rules, ◌≡◌, subst, sym, List, ℕ}
+use Rattle.std.proofs.Common.{rules, ◌≡◌, subst, sym}
 use Rattle.fuse_wire.specs.Reads.{asked_of}
 use Rattle.fuse_wire.specs.Replies.{error_reply}
 use Rattle.fuse_wire.specs.Told.{AppendsTold}

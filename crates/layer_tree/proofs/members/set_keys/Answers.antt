@@ -2,11 +2,11 @@ use Rattle.std.proofs.Common.{◌∙◌, ◌<◌, ap, length, drop, arith}
 use Rattle.std.proofs.lemmas.List.{take_rest}
 use Rattle.name_lookup.specs.Keys.{key}
 use Rattle.layer_tree.proofs.Building.{nowhere_kept}
-use Rattle.layer_tree.proofs.Keyed.{named, one_keyed, still_read, still_long}
+use Rattle.layer_tree.proofs.Keyed.{one_keyed, still_read, still_long}
 use Rattle.layer_tree.proofs.members.set_keys.Goals as goal
 
-pub given_named-head-requires : goal.given_named-head-requires
-given_named-head-requires c =
+pub given_name-name-requires : goal.given_name-name-requires
+given_name-name-requires c =
     let read = still_read c.args.image.now c.args.shared c.args.members.now c.loop-member.members c.loop-member.member-index nowhere_kept
     (omega arith) c.loop-member.invariant c.requires.read in
     record { head = read.given; name = read.length }
@@ -15,7 +15,7 @@ pub slice_bounds-key_of-start : goal.slice_bounds-key_of-start
 slice_bounds-key_of-start c =
     let long = still_long c.args.image.now c.args.shared c.args.members.now c.loop-member.members c.loop-member.member-index nowhere_kept
     (omega arith) c.loop-member.invariant c.requires.long in
-    omega (arith, long, ap length (named _ _ _ _ c.name-name.ensures c.given_named-head.ensures.value))
+    omega (arith, long, ap length c.given_name-name.ensures)
 
 pub slice_bounds-key_of-count : goal.slice_bounds-key_of-count
 slice_bounds-key_of-count c = omega (arith, slice_bounds-key_of-start c)
@@ -28,4 +28,4 @@ loop-member-preserved c =
     let now : i < length c.loop-member.members = omega arith in
     one_keyed a c.args.shared c.args.members.now c.loop-member.members i c.key_of-member.result _ old now c.loop-member.invariant
     (c.key_of-member.ensures.value ∙ ap (key 8) (take_rest _ c.args.shared
-    ∙ ap (drop c.args.shared) (named _ _ _ _ c.name-name.ensures c.given_named-head.ensures.value)))
+    ∙ ap (drop c.args.shared) c.given_name-name.ensures))

@@ -8,4 +8,4 @@ returns-then-len-members g c =
     let a = c.args.layer.now.image.now in
     let ms = c.args.members.now in
     let level : length c.args.below.now.entries.items ≡ length (members_in a ms) = omega (arith, as_many a ms) in
-    rw c.new.ensures.items (no_markers a c.args.layer.now.number c.requires level)
+    rw c.new.ensures.items (no_markers a c.args.layer.now.number c.requires.built level)

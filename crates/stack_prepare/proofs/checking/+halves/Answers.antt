@@ -9,11 +9,12 @@ returns g t c =
     let highs = c.in_ok-highs.highs.items in
     let half = c.len-half.result / 2 in
     let within : half ≤ length c.args.images.items = omega arith in
-    let up = counted (λ image. image.items) c.args.images.items lows half c.args.first c.in_ok-highs.ensures.items within in
-    let all = joined c.args.first c.args.profile (map (λ image. image.items) lows) (map (λ image. image.items) highs)
-    _ _ c.together.result (record { lower = c.join-high.ensures.second; upper = rw up at c.join-high.ensures.first }) c.together.ensures in
-    subst (λ xs. Checks c.args.first c.args.profile xs c.together.result) (halved (λ image. image.items) c.args.images.items lows highs half
-    c.in_ok-highs.ensures.items c.in_ok-highs.ensures.tail) all
+    let bytes = g.U.Unchecked.bytes in
+    let up = counted bytes c.args.images.items lows half c.args.first c.in_ok-highs.ensures.items within in
+    let all = joined g.U.Unchecked.accessible c.args.first c.args.profile (map bytes lows) (map bytes highs) _ _ c.together.result
+    (record { lower = c.join-high.ensures.second; upper = rw up at c.join-high.ensures.first }) c.together.ensures in
+    subst (λ xs. Checks g.U.Unchecked.accessible c.args.first c.args.profile xs c.together.result)
+    (halved bytes c.args.images.items lows highs half c.in_ok-highs.ensures.items c.in_ok-highs.ensures.tail) all
 
 pub check_in_turn-requires : goal.check_in_turn-requires
 check_in_turn-requires g t c = c.requires

@@ -3,7 +3,7 @@ use Rattle.strata.proofs.InTurn.{sessions_tell, tells}
 use Rattle.strata.proofs.laws.sessions_tell.Goals as goal
 
 pub returns-clause-faults : goal.returns-clause-faults
-returns-clause-faults g c = λ first stack count fault clients a. tells count _ fault refl a
+returns-clause-faults g c = λ first by count fault clients a. tells count _ fault refl a
 
 pub returns-clause-statuses : goal.returns-clause-statuses
 returns-clause-statuses g c = sessions_tell g.row.A.Denot

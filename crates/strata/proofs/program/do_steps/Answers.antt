@@ -48,7 +48,7 @@ pub returns-in_ok-images-in-Serve : goal.returns-in_ok-images-in-Serve
 returns-in_ok-images-in-Serve g c =
     let line = c.args.line.now in
     let both = λ (words : List (List ℕ)) (is : IsLineOf words c.args.line.now).
-    let named = all_held line _ c.in_ok-images-in-Serve.images c.in_ok-images-in-Serve.ensures.ok in
+    let named = c.in_ok-images-in-Serve.ensures.named in
     ended g.row.A.Denot words line _ verbs.Serve _ _ is named c.in-Serve.is c.serve.result c.as_status.result c.as_status.ensures
     c.serve.ensures.done c.serve.ensures.stopped (λ d. d) (λ fault s. s) in
     record { over = λ words read. (both words read).0; stopped = λ words read. (both words read).1 }
@@ -56,13 +56,13 @@ returns-in_ok-images-in-Serve g c =
 pub returns-in_ok-images-in-Socket-clause-over : goal.returns-in_ok-images-in-Socket-clause-over
 returns-in_ok-images-in-Socket-clause-over g c = λ words is.
     let line = c.args.line.now in
-    let named = all_held line _ c.in_ok-images-in-Socket.images c.in_ok-images-in-Socket.ensures.ok in
+    let named = c.in_ok-images-in-Socket.ensures.named in
     over_there g.row.A.Denot _ line _ _ is named c.in-Socket.is c.listen.result c.listen.ensures.ended
 
 pub returns-in_ok-images-in-Socket-clause-stopped : goal.returns-in_ok-images-in-Socket-clause-stopped
 returns-in_ok-images-in-Socket-clause-stopped g c = λ words is.
     let line = c.args.line.now in
-    let named = all_held line _ c.in_ok-images-in-Socket.images c.in_ok-images-in-Socket.ensures.ok in
+    let named = c.in_ok-images-in-Socket.ensures.named in
     stopped_there g.row.A.Denot _ line _ _ is named c.in-Socket.is c.listen.result c.listen.ensures.stopped
 
 pub returns-in_ok-images-in-Check : goal.returns-in_ok-images-in-Check
@@ -87,7 +87,7 @@ pub returns-in_ok-images-in-List : goal.returns-in_ok-images-in-List
 returns-in_ok-images-in-List g c =
     let line = c.args.line.now in
     let both = λ (words : List (List ℕ)) (is : IsLineOf words c.args.line.now).
-    let named = all_held line _ c.in_ok-images-in-List.images c.in_ok-images-in-List.ensures.ok in
+    let named = c.in_ok-images-in-List.ensures.named in
     ended g.row.A.Denot words line _ verbs.List _ _ is named c.in-List.is c.list.result
     c.as_status-in-List.result c.as_status-in-List.ensures
     c.list.ensures.done c.list.ensures.stopped (λ d. (refl, d)) (λ fault s. (refl, s)) in

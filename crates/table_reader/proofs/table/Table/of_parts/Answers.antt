@@ -10,9 +10,9 @@ hints_of-requires g c = rw c.deref.ensures.value (have_keys _ _ _ _ c.requires.1
 
 pub invariant_of-result-2 : goal.invariant_of-result-2
 invariant_of-result-2 g c =
-    let mine : Listed c.args.images.items = (c.requires.0, ∣ c.requires.1.listing ∣₁) in
-    let table = subst (λ (e : List Entry). IsTable (stacked c.args.images.items e) c.args.nodes.items c.args.directories c.args.blocks)
-    (ap (λ x. x.0) (listed_once c.args.images.items mine c.result-1.given.0)) c.requires.1 in
+    let mine : Listed c.args.layers.all = (c.requires.0, ∣ c.requires.1.listing ∣₁) in
+    let table = subst (λ (e : List Entry). IsTable (stacked c.args.layers.all e) c.args.nodes.items c.args.directories c.args.blocks)
+    (ap (λ x. x.0) (listed_once c.args.layers.all mine c.result-1.given.0)) c.requires.1 in
     record {
       table = record { listing = table.listing; are = table.are; blocks_are = table.blocks_are };
       briefs_are = rw (c.deref-2.ensures.value, c.deref-3.ensures.value) at c.in_ok-briefs.ensures;
@@ -20,13 +20,13 @@ invariant_of-result-2 g c =
       noted = rw c.deref.ensures.value at c.in_ok-hints.ensures.noted;
     }
 
-pub returns : goal.returns
-returns g c =
-    let mine : Listed c.args.images.items = (c.requires.0, ∣ c.requires.1.listing ∣₁) in
+pub returns-clause-stack : goal.returns-clause-stack
+returns-clause-stack g c =
+    let mine : Listed c.args.layers.all = (c.requires.0, ∣ c.requires.1.listing ∣₁) in
     record {
       layers_are = refl;
       rows_are = refl;
       owner_is = refl;
-      listing = subst (λ (e : List Entry). IsListing c.args.images.items e)
-          (ap (λ x. x.0) (listed_once c.args.images.items mine c.result-1.given.0)) c.requires.1.listing;
+      listing = subst (λ (e : List Entry). IsListing c.args.layers.all e)
+          (ap (λ x. x.0) (listed_once c.args.layers.all mine c.result-1.given.0)) c.requires.1.listing;
     }

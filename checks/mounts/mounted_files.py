@@ -1,0 +1,229 @@
+"""Checks of checks/mounts/mounted.py: images that stay in their files, while something happens to these."""
+import errno
+import os
+import random
+import signal
+import time
+
+from checks.mounts.mounted_readers import statuses
+from checks.mounts.mounted_trees import MIB, file, folder
+from checks.shared.images import laid_out
+from checks.shared.mounting import Failed, hold
+from checks.shared.watched_file import FAIL, SERVE, WAIT, WatchedFile
+
+PAGE = 4096
+READERS = 8
+FILES = 24
+NODES = 1000
+
+
+def items_of(seed):
+    """A folder of large files, each of other bytes, and a link."""
+    rng = random.Random(seed)
+    return [folder("d"), *[file("d/%02d" % number, rng.randbytes(MIB // 4 + number)) for number in range(FILES)]]
+
+
+def part(path, offset, size):
+    """Some of a file's bytes, past what the kernel has kept of them; or the error that they are told as."""
+    opened = os.open(path, os.O_RDONLY)
+    try:
+        os.posix_fadvise(opened, 0, 0, os.POSIX_FADV_DONTNEED)
+        os.posix_fadvise(opened, 0, 0, os.POSIX_FADV_RANDOM)
+        return os.pread(opened, size, offset)
+    except OSError as fault:
+        return fault.errno
+    finally:
+        os.close(opened)
+
+
+def read_until_told(mount, wanted, told):
+    """What one process does: it reads parts of files until it is told to end; each is of those wanted, or EIO."""
+    rng = random.Random(os.getpid())
+    while not os.path.exists(told):
+        number, offset = rng.randrange(FILES), rng.randrange(MIB // 4 // PAGE) * PAGE
+        got = part(mount.path(b"d", b"%02d" % number), offset, PAGE)
+        if got != errno.EIO and not is_of(got, [items[number + 1].data[offset:offset + PAGE] for items in wanted]):
+            os._exit(3)
+        os.lstat(mount.path(b"d", b"%02d" % rng.randrange(FILES)))
+
+
+def is_of(got, ways):
+    """Whether each byte is one of those that may stand there: what is read while a file is written over may be of both."""
+    return len(got) == len(ways[0]) and all(set(bytes) & {byte} for byte, *bytes in zip(got, *ways))
+
+
+def reading(mount, wanted, told):
+    child = os.fork()
+    if child == 0:
+        status = 1
+        try:
+            signal.alarm(50)
+            read_until_told(mount, wanted, told)
+            status = 0
+        finally:
+            os._exit(status)
+    return child
+
+
+def while_read(room, change, *others):
+    """What is seen once something has happened to an image, while 8 processes read: right bytes or EIO, and the tree as it was."""
+    items = items_of(1)
+    image = room.write(laid_out(b"v", items))
+    mount, told = room.mount([image]), room.folder + "/told%d" % len(os.listdir(room.folder))
+    children = [reading(mount, [items, *others], told) for _ in range(READERS)]
+    time.sleep(0.1)
+    change(image)
+    time.sleep(0.1)
+    names = sorted(os.listdir(mount.path(b"d")))
+    hold("names", [b"%02d" % number for number in range(FILES)], names)
+    sizes = [os.lstat(mount.path(b"d", name)).st_size for name in names]
+    hold("sizes", [len(item.data) for item in items[1:]], sizes)
+    with open(told, "wb"):
+        hold("processes that read", {0}, statuses(children))
+    return mount, items
+
+
+def cut(room):
+    """An image that is cut off: what lies before the cut can be read, what lies behind it is EIO, and the server goes on."""
+    mount, items = while_read(room, lambda image: os.truncate(image, 3 * MIB))
+    first, last = mount.path(b"d", b"00"), mount.path(b"d", b"%02d" % (FILES - 1))
+    hold("data before the cut", items[1].data[:PAGE], part(first, 0, PAGE))
+    hold("data behind it", errno.EIO, part(last, 0, PAGE))
+    mount.end()
+    return "right bytes before the cut, EIO behind it, names and sizes as they were"
+
+
+def overwritten(room):
+    """An image that another is written over: headers stay what they were, data are what the file has."""
+    others = items_of(2)
+    data = laid_out(b"v", others)
+
+    def change(image):
+        with open(image, "r+b") as out:
+            out.write(bytes(512))
+            out.seek(512)
+            out.write(data[512:])
+    mount, _ = while_read(room, change, others)
+    hold("data", others[5].data[PAGE:2 * PAGE], part(mount.path(b"d", b"04"), PAGE, PAGE))
+    mount.end()
+    return "the new data, names and sizes as they were"
+
+
+def deleted(room):
+    """An image that is deleted, and one that another takes the place of: both go on."""
+    def replace(image):
+        os.rename(room.write(laid_out(b"v", items_of(3))), image)
+    for change in (os.unlink, replace):
+        mount, items = while_read(room, change)
+        hold("data", items[9].data, part(mount.path(b"d", b"08"), 0, MIB))
+        mount.end()
+    return "a deleted image, and one that was replaced, are read to their ends"
+
+
+def kept(room):
+    """With -o whole nothing that happens to an image matters."""
+    items = items_of(1)
+    image = room.write(laid_out(b"v", items))
+    mount = room.mount([image], "-o", "whole")
+    os.truncate(image, 0)
+    for number in range(FILES):
+        hold("data", items[number + 1].data, part(mount.path(b"d", b"%02d" % number), 0, MIB))
+    mount.end()
+    return "-o whole: an image that is emptied is read to its end"
+
+
+def failing(room):
+    """An image on a file system that fails: EIO for what can't be read, all else goes on; headers are not read again."""
+    items = items_of(4)
+    data = laid_out(b"v", items)
+    disk = WatchedFile(room, data)
+    at = data.index(items[6].data)
+    mount = room.mount([disk.image])
+    path, other = mount.path(b"d", b"05"), mount.path(b"d", b"06")
+    disk.order(FAIL, at + 2 * PAGE, at + 3 * PAGE)
+    hold("data that fail", errno.EIO, part(path, 2 * PAGE, PAGE))
+    hold("data before them", items[6].data[:PAGE], part(path, 0, PAGE))
+    hold("another file", items[7].data[:PAGE], part(other, 0, PAGE))
+    disk.order(FAIL)
+    before = disk.reads()
+    hold("names", FILES, len(os.listdir(mount.path(b"d"))))
+    hold("sizes", [len(item.data) for item in items[1:]],
+         [os.lstat(mount.path(b"d", b"%02d" % number)).st_size for number in range(FILES)])
+    hold("reads of the image for names and sizes", before, disk.reads())
+    disk.order(SERVE)
+    hold("data once they can be read", items[6].data[2 * PAGE:3 * PAGE], part(path, 2 * PAGE, PAGE))
+    mount.end()
+    disk.end()
+    return "EIO for what fails, for as long as it does; no header is read again"
+
+
+def stalled(room):
+    """An image whose reads wait: one reader waits with them, and of four another one answers."""
+    items = items_of(5)
+    data = laid_out(b"v", items)
+    at = data.index(items[3].data)
+    for count in (1, 4):
+        disk = WatchedFile(room, data)
+        mount = room.mount([disk.image], "-o", "readers=%d" % count)
+        disk.order(WAIT, at, at + MIB // 4)
+        slow = asking(lambda: hold("slow data", items[3].data[:PAGE], part(mount.path(b"d", b"02"), 0, PAGE)))
+        wait_until("a read of the image waits", lambda: disk.held_back() > 0)
+        quick = asking(lambda: os.lstat(mount.path(b"d", b"07")))
+        if count > 1:
+            hold("a look beside the read that waits", {0}, statuses([quick]))
+            hold("the read waits still", (True, (0, 0)), (disk.held_back() > 0, os.waitpid(slow, os.WNOHANG)))
+        else:
+            time.sleep(0.2)
+            hold("a look beside the read that waits", (0, 0), os.waitpid(quick, os.WNOHANG))
+        disk.order(SERVE)
+        hold("both, once the read goes on", {0}, statuses([slow] if count > 1 else [slow, quick]))
+        mount.end()
+        disk.end()
+    return "one reader waits for a read that waits, four go on beside it"
+
+
+def asking(function):
+    """A process that calls a function; its status is 0 where that raised nothing."""
+    child = os.fork()
+    if child == 0:
+        status = 1
+        try:
+            signal.alarm(50)
+            function()
+            status = 0
+        finally:
+            os._exit(status)
+    return child
+
+
+def wait_until(what, test):
+    for _ in range(5000):
+        if test():
+            return
+        time.sleep(0.005)
+    raise Failed("never: %s" % what)
+
+
+def anonymous(process):
+    """The memory of its own that a process has, in bytes."""
+    with open("/proc/%d/status" % process, encoding="ascii") as lines:
+        return sum(int(line.split()[1]) << 10 for line in lines if line.startswith("RssAnon"))
+
+
+def fifty(room):
+    """50 mounts of one image of 64 MiB hold names, not data."""
+    data = random.Random(7).randbytes(64 * MIB)
+    items = [file("big", data), *[file("%03d" % number, b"x") for number in range(NODES)]]
+    image = room.write(laid_out(b"v", items))
+    most = 6 * MIB + 300 * (NODES + 2)
+    mounts = [room.mount([image]) for _ in range(50)]
+    for mount in mounts:
+        hold("data", data[MIB:MIB + PAGE], part(mount.path(b"big"), MIB, PAGE))
+    held = sum(anonymous(mount.server) for mount in mounts)
+    hold("memory is below %d" % (50 * most), True, held < 50 * most)
+    for mount in mounts:
+        mount.end()
+    return "50 mounts of an image of 64 MiB hold %.1f MiB together" % (held / MIB)
+
+
+CHECKS = (cut, overwritten, deleted, kept, failing, stalled, fifty)

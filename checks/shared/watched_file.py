@@ -1,0 +1,116 @@
+"""A FUSE file system (linux/fuse.h) of one file, `image`, whose reads wait or fail as a check says. It keeps nothing in the
+kernel's page cache, so each read comes here."""
+import errno
+import mmap
+import os
+import select
+import struct
+
+from mount import DEVICE, MNT_DETACH, called, libc
+
+LOOKUP, FORGET, GETATTR, OPEN, READ, RELEASE, FLUSH, INIT, INTERRUPT = 1, 2, 3, 14, 15, 18, 25, 26, 36
+ROOT, FILE = 1, 2
+FOPEN_DIRECT_IO = 1
+# what is done with reads that touch some bytes: their reply is held back, or is EIO
+SERVE, WAIT, FAIL = 0, 1, 2
+ORDERS = struct.Struct("=QQQQQ")
+
+
+class WatchedFile:
+    """The file system, mounted, with a process that serves it."""
+
+    def __init__(self, room, data):
+        self.at, self.data = room.place(), data
+        self.orders = mmap.mmap(-1, ORDERS.size)
+        self.device = os.open(DEVICE, os.O_RDWR)
+        text = "fd=%d,rootmode=40000,user_id=%d,group_id=%d" % (self.device, 0, 0)
+        called(libc.mount(b"watched", os.fsencode(self.at), b"fuse", 0, text.encode()))
+        self.server = os.fork()
+        if self.server == 0:
+            try:
+                self.serve()
+            finally:
+                os._exit(0)
+        os.close(self.device)
+        self.image = self.at + "/image"
+
+    def order(self, what, first=0, last=1 << 63):
+        """From now on this is done with reads that touch bytes of this range."""
+        held, reads = self.state()[3:]
+        self.orders[:] = ORDERS.pack(what, first, last, held, reads)
+
+    def state(self):
+        return ORDERS.unpack(self.orders[:])
+
+    def held_back(self):
+        """How many reads wait for another order."""
+        return self.state()[3]
+
+    def reads(self):
+        """How many reads came so far."""
+        return self.state()[4]
+
+    def end(self):
+        self.order(SERVE)
+        called(libc.umount2(os.fsencode(self.at), MNT_DETACH))
+        os.waitpid(self.server, 0)
+
+    def serve(self):
+        """Answers requests until the mount is taken away."""
+        waiting = []
+        while True:
+            if select.select([self.device], [], [], 0.002)[0]:
+                try:
+                    message = os.read(self.device, 1 << 18)
+                except OSError:
+                    return
+                if not self.answer(message):
+                    waiting.append(message)
+            if waiting and self.state()[0] != WAIT:
+                for message in waiting:
+                    self.answer(message)
+                waiting = []
+            what, first, last, _, reads = self.state()
+            self.orders[:] = ORDERS.pack(what, first, last, len(waiting), reads)
+
+    def reply(self, unique, data=b"", error=0):
+        try:
+            os.write(self.device, struct.pack("<IiQ", 16 + len(data), -error, unique) + data)
+        except OSError:
+            pass
+
+    def attr(self, node):
+        size, mode = (len(self.data), 0o100644) if node == FILE else (0, 0o040755)
+        return struct.pack("<QQQQQQIIIIIIIIII", node, size, size // 512, 0, 0, 0, 0, 0, 0, mode, 1, 0, 0, 0, 4096, 0)
+
+    def answer(self, message):
+        """Answers a request; whether that was done."""
+        _, opcode, unique, node = struct.unpack_from("<IIQQ", message)
+        body = message[40:]
+        if opcode == INIT:
+            self.reply(unique, struct.pack("<IIIIHHIIHH8I", 7, 31, 0, 0, 16, 12, 131072, 1, 32, 0, *[0] * 8))
+        elif opcode == LOOKUP and node == ROOT and body.rstrip(b"\0") == b"image":
+            self.reply(unique, struct.pack("<QQQQII", FILE, 0, 60, 60, 0, 0) + self.attr(FILE))
+        elif opcode == GETATTR:
+            self.reply(unique, struct.pack("<QII", 60, 0, 0) + self.attr(node))
+        elif opcode == OPEN:
+            self.reply(unique, struct.pack("<QII", 0, FOPEN_DIRECT_IO, 0))
+        elif opcode == READ:
+            return self.answer_read(unique, *struct.unpack_from("<QQI", body)[1:])
+        elif opcode in (RELEASE, FLUSH):
+            self.reply(unique)
+        elif opcode not in (FORGET, INTERRUPT):
+            self.reply(unique, error=errno.ENOENT if opcode == LOOKUP else errno.ENOSYS)
+        return True
+
+    def answer_read(self, unique, offset, size):
+        what, first, last, held, reads = self.state()
+        touched = offset < last and first < offset + size
+        if touched and what == WAIT:
+            return False
+        self.orders[:] = ORDERS.pack(what, first, last, held, reads + 1)
+        if touched and what == FAIL:
+            self.reply(unique, error=errno.EIO)
+        else:
+            self.reply(unique, self.data[offset:offset + size])
+        return True

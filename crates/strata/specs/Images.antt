@@ -1,0 +1,66 @@
+-- The images of a line, as they are held: all bytes of each, or what the rules look at, with zeros
+-- where nothing is held.
+use Rattle.std.specs.Prelude.{◌≡◌, ◌⊎◌, ℕ, true, false, List, [], ◌∷◌, Some, ⊤, length, map, vec_len, if◌then◌else◌}
+use Rattle.std.specs.declared.vec.Vec.{Vec}
+use Rattle.romfs_format.specs.declared.rule.Profile.{Profile}
+use Rattle.romfs_format.specs.Profiles.{profile_with}
+use Rattle.image_bytes.specs.Sources.{Source, held, unknown}
+use Rattle.image_files.specs.declared.image_data.ImageData.{ImageData}
+use Rattle.image_files.specs.declared.whole.Trailers.{Trailers}
+use Rattle.image_files.specs.declared.whole.Trailers.TheVariants.{Read, Left}
+use Rattle.image_files.specs.Data.{source_of}
+use Rattle.image_files.specs.Opened.{WasGathered}
+use Rattle.stack_prepare.specs.Layers.{contents_of}
+use Rattle.stack_prepare.specs.Preparing.{AreStacked}
+use Rattle.reply_model.specs.Readings.{Sourced}
+use Rattle.command_line.specs.declared.options.Line.{Line}
+use Rattle.strata.specs.declared.images.HeldImages.{HeldImages}
+use Rattle.strata.specs.declared.images.HeldImages.TheVariants.{Whole, Kept}
+
+-- the rules that a line holds images to, and whether their attributes are read
+abbrev pub profile_of : Line → Profile
+profile_of line = profile_with line.strict line.attributes
+
+-- whether the trailers of its images are read
+abbrev pub trailers_of : Line → Trailers
+trailers_of line = if line.attributes then Read else Left
+
+-- as many images as the line names
+abbrev pub NamesAsMany : Line → List (List ℕ) → Type 0
+NamesAsMany line images = length images ≡ vec_len line.images
+
+-- the bytes that are held of images
+abbrev pub bytes_of : {A : Type 0} → HeldImages A → List (List ℕ)
+bytes_of (Whole images) = contents_of images
+bytes_of (Kept images) = images.items
+
+-- what reads of the data of images may give
+abbrev pub sources_of : {F A B : Type 0} → Vec (ImageData F A) B → List Source
+sources_of files = map source_of files.items
+
+-- the data of an image of which this is held are read from its file, of which nothing is known; or
+-- from bytes of which just this was gathered
+abbrev pub IsDataOf : Trailers → List ℕ → Source → Type 0
+IsDataOf trailers image source =
+    (source ≡ unknown)
+    ⊎ ((bytes : List ℕ) × (source ≡ held bytes) × WasGathered trailers (Some bytes) image)
+
+-- those of each image are so
+abbrev pub AreDataOf : Trailers → List (List ℕ) → List Source → Type 0
+AreDataOf trailers [] [] = ⊤
+AreDataOf trailers (image ∷ images) (source ∷ sources) =
+    IsDataOf trailers image source × AreDataOf trailers images sources
+AreDataOf trailers [] (source ∷ sources) = ⊥
+AreDataOf trailers (image ∷ images) [] = ⊥
+
+-- what the data of the images of a line are read from: nothing where it says `--whole`, since all
+-- is held then; else each from a source of its own
+pub record HaveSources (line : Line) (images : List (List ℕ)) (sources : List Source)
+    : Type 0 where
+  pub whole : line.whole ≡ true → sources ≡ []
+  pub opened : line.whole ≡ false → AreDataOf (trailers_of line) images sources
+
+-- the images of a line are good, and this is their stack with the sources of their data
+pub record ArePrepared (line : Line) (images : List (List ℕ)) (by : Sourced) : Type 0 where
+  pub stacked : AreStacked (profile_of line) line.owner images by.stack
+  pub sources : HaveSources line images by.sources
