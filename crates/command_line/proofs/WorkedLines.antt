@@ -266,6 +266,7 @@ refused_lines = record {
   option_without_file = refl;
   device_of_check = refl;
   lasting_list = refl;
+  in_files_of_check = refl;
   requests_and_device = crosses verbs.Serve refl;
   replies_and_device = crosses verbs.Serve refl;
   balances_and_device = crosses verbs.Serve refl;

@@ -79,9 +79,11 @@ abbrev pub images : List Rule
 images = flag (codes "strict") ∷ flag (codes "attributes") ∷ flag (codes "whole")
     ∷ words (codes "image") ∷ []
 
--- the images that are served, what the client is told of them, and whom their files belong to
+-- the images that are served, what the client is told of them, whom their files belong to, and
+-- whether they stay in theirs
 abbrev pub served_images : List Rule
-served_images = flag (codes "lasting") ∷ value_option (codes "owner") ∷ images
+served_images = flag (codes "lasting") ∷ value_option (codes "owner") ∷ flag (codes "in-files")
+    ∷ images
 
 -- the command `serve`
 abbrev pub serve_command : App
@@ -202,6 +204,7 @@ pub record LineParts : Type 0 where
   pub strict : Bool
   pub attributes : Bool
   pub whole : Bool
+  pub in_files : Bool
   pub device : Bool
   pub readers : ℕ
   pub lasting : Bool
@@ -228,6 +231,7 @@ parts_of verb rows = record {
   strict = is_given (codes "strict") rows;
   attributes = is_given (codes "attributes") rows;
   whole = is_given (codes "whole") rows;
+  in_files = is_given (codes "in-files") rows;
   device = is_given (codes "device") rows;
   readers = number_in (codes "readers") rows;
   lasting = is_given (codes "lasting") rows;
@@ -249,6 +253,7 @@ parts_in line = record {
   strict = line.strict;
   attributes = line.attributes;
   whole = line.whole;
+  in_files = line.in_files;
   device = line.device;
   readers = line.readers;
   lasting = line.lasting;
@@ -351,8 +356,8 @@ IsFlagFilled id rows = MatchOption (one_of id rows) (is_given id rows ≡ false)
 
 -- the flags of the program
 abbrev pub flags : List Text
-flags = codes "strict" ∷ codes "attributes" ∷ codes "whole" ∷ codes "device" ∷ codes "lasting"
-    ∷ []
+flags = codes "strict" ∷ codes "attributes" ∷ codes "whole" ∷ codes "in-files" ∷ codes "device"
+    ∷ codes "lasting" ∷ []
 
 -- the option of this name is one of them
 abbrev pub is_flag : Text → Bool

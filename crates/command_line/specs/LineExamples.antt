@@ -25,6 +25,7 @@ plain verb images = record {
   strict = false;
   attributes = false;
   whole = false;
+  in_files = false;
   device = false;
   readers = 1;
   lasting = false;
@@ -55,7 +56,7 @@ pub record ReadsAs (text : Text) (parts : LineParts) : Type 0 where
 abbrev pub every_option : Text
 every_option =
     codes "serve --workers 2 --batch 3 --requests q --replies r --balances b --readers 6"
-    ++ codes " --owner 7:8 --attributes --strict --whole --lasting f"
+    ++ codes " --owner 7:8 --attributes --strict --whole --in-files --lasting f"
 
 -- words that are a command, and what they say
 pub record TakenLines : Type 0 where
@@ -87,6 +88,7 @@ pub record TakenLines : Type 0 where
         strict = true;
         attributes = true;
         whole = true;
+        in_files = true;
         device = false;
         readers = 6;
         lasting = true;
@@ -103,11 +105,12 @@ pub record TakenLines : Type 0 where
   pub socket_one : ReadsAs (codes "socket --listen s f") (at_socket (codes "s") (codes "f"))
   pub socket_options : ReadsAs
       (codes "socket --workers 2 --batch 3 --listen s --sessions 5 --lasting --strict"
-      ++ codes " --owner 7:8 --attributes --whole f g")
+      ++ codes " --owner 7:8 --attributes --whole --in-files f g")
       (record (at_socket (codes "s") (codes "f g")) {
         strict = true;
         attributes = true;
         whole = true;
+        in_files = true;
         lasting = true;
         workers = 2;
         batch = 3;
@@ -166,6 +169,7 @@ pub record RefusedLines : Type 0 where
   pub option_without_file : HasOneFault (codes "serve a --requests") kind.InvalidValue
   pub device_of_check : HasOneFault (codes "check --device a") kind.UnknownArgument
   pub lasting_list : HasOneFault (codes "list --lasting a") kind.UnknownArgument
+  pub in_files_of_check : HasOneFault (codes "check --in-files a") kind.UnknownArgument
   pub requests_and_device : IsCrossed (words_of (codes "serve --requests q --device a"))
   pub replies_and_device : IsCrossed (words_of (codes "serve --device --replies r a"))
   pub balances_and_device : IsCrossed (words_of (codes "serve a --device --balances b"))

@@ -115,6 +115,12 @@ const WHOLE: Argument = Argument {
     help: "Reads images whole into memory, in place of leaving them in their files",
 };
 
+const IN_FILES: Argument = Argument {
+    name: "in-files",
+    form: Form::Flag,
+    help: "Leaves images in their files, however few bytes they have",
+};
+
 const OWNER: Argument = Argument {
     name: "owner",
     form: Form::Value("UID:GID"),
@@ -173,8 +179,8 @@ fn serve<'a>(alloc: Global) -> Result<Command<'a>, AllocError>
         "serve",
         "Answers FUSE requests over the stacked images",
         &[
-            WORKERS, BATCH, REQUESTS, REPLIES, BALANCES, DEVICE, READERS, LASTING, OWNER, STRICT,
-            ATTRIBUTES, WHOLE, IMAGE,
+            WORKERS, BATCH, REQUESTS, REPLIES, BALANCES, DEVICE, READERS, LASTING, OWNER, IN_FILES,
+            STRICT, ATTRIBUTES, WHOLE, IMAGE,
         ],
     )
 }
@@ -187,7 +193,8 @@ fn socket<'a>(alloc: Global) -> Result<Command<'a>, AllocError>
         "socket",
         "Answers FUSE requests of one client after another at a Unix socket",
         &[
-            WORKERS, BATCH, LISTEN, SESSIONS, LASTING, OWNER, STRICT, ATTRIBUTES, WHOLE, IMAGE,
+            WORKERS, BATCH, LISTEN, SESSIONS, LASTING, OWNER, IN_FILES, STRICT, ATTRIBUTES, WHOLE,
+            IMAGE,
         ],
     )
 }

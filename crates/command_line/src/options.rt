@@ -37,6 +37,9 @@ pub struct Line<'a> {
     pub attributes: bool,
     /// Images are read whole into memory, and not left in their files.
     pub whole: bool,
+    /// Images that are served stay in their files, however few bytes they have, if they are not
+    /// read whole.
+    pub in_files: bool,
     /// Standard input and output are one open `/dev/fuse`. No file is named in place of one of
     /// them, nor for the balances.
     pub device: bool,

@@ -114,6 +114,7 @@ fn line_of<'a>(alloc: Global, verb: Verb, found: &ArgMatches<'a>) -> Result<Line
         strict: flag(found, "strict"),
         attributes: flag(found, "attributes"),
         whole: flag(found, "whole"),
+        in_files: flag(found, "in-files"),
         device: flag(found, "device"),
         readers: number(alloc, found, "readers", DEFAULT_READERS, MAX_READERS)?,
         lasting: flag(found, "lasting"),

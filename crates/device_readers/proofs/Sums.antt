@@ -136,21 +136,26 @@ module _ {A : Type 0} (session : Session) (over : Sourced) (turns : ℕ) where
   came_append (x ∷ xs) ys (p ∷ ps) qs c d = (c.0, came_append xs ys ps qs c.1 d)
 
   came_with : (r : Reader A) (readers : List (Reader A)) → IsRunFrom session over turns r.trace r.result
-      → (parts : List (List (List ℕ))) × CameOf (answering_from session over) (length (nodes over.stack.entries)) (done_of_all readers) parts
-      → (parts : List (List (List ℕ))) × CameOf (answering_from session over) (length (nodes over.stack.entries)) (done_of_all (r ∷ readers)) parts
+      → (parts : List (List (List ℕ)))
+      × CameOf (answering_from session over) (length (nodes over.stack.entries)) (done_of_all readers) parts
+      → (parts : List (List (List ℕ)))
+      × CameOf (answering_from session over) (length (nodes over.stack.entries)) (done_of_all (r ∷ readers)) parts
   came_with r readers run (qs, d) =
       let (ps, c) = came_one r.trace r.result run in
       (ps ++ qs, came_append (done_of r.result) (done_of_all readers) ps qs c d)
 
   came_all : (from : Counts) (readers : List (Reader A)) → AllByRecursion (IsReader session over turns from) readers
-      → (parts : List (List (List ℕ))) × CameOf (answering_from session over) (length (nodes over.stack.entries)) (done_of_all readers) parts
+      → (parts : List (List (List ℕ)))
+      × CameOf (answering_from session over) (length (nodes over.stack.entries)) (done_of_all readers) parts
   came_all from [] each = ([], tt)
   came_all from (r ∷ readers) each = came_with r readers each.0.run (came_all from readers each.1)
 
   pub came : (from : Counts) (count : ℕ) (readers : List (Reader A)) → AreReaders session over turns from count readers
-      → (parts : List (List (List ℕ))) × CameOf (answering_from session over) (length (nodes over.stack.entries)) (done_of_all readers) parts
+      → (parts : List (List (List ℕ)))
+      × CameOf (answering_from session over) (length (nodes over.stack.entries)) (done_of_all readers) parts
   came from count readers are =
-      subst (λ rs. (parts : List (List (List ℕ))) × CameOf (answering_from session over) (length (nodes over.stack.entries)) (done_of_all rs) parts)
+      subst (λ rs. (parts : List (List (List ℕ)))
+      × CameOf (answering_from session over) (length (nodes over.stack.entries)) (done_of_all rs) parts)
       (sym are.readers_are) (came_with are.leader are.others are.goes_on.run (came_all _ are.others are.new.each))
 
 -- both of them, for the goals of the law

@@ -1,5 +1,5 @@
--- What the readers of one open /dev/fuse do, each a stream of its own over one stack and the sources
--- of its data.
+-- What the readers of one open /dev/fuse do, each a stream of its own over one stack and the
+-- sources of its data.
 use Rattle.std.specs.Prelude.{◌≡◌, ℕ, ◌+◌, ◌<◌, ◌⊎◌, Bool, IsTrue, List, [], ◌∷◌, ◌++◌, length, Result, Ok, Err, IfOk}
 use Rattle.std.specs.List.{AllByRecursion}
 use Rattle.devices.specs.Counting.{no_pulls, no_pushes}

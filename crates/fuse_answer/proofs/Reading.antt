@@ -80,7 +80,8 @@ module _ (layers : List (List ℕ)) (layer : ℕ) (node : Node) (p : Place) (hol
 module _ (A : Type 0) (stack : Stacked) (agreed : Agreement) (n offset size : ℕ) where
   read_at_place : (node : Bor Node) (len : ℕ) → IsNodeOf stack n node.now → node.now.kind ≡ Regular → size ≤ MAX_DATA_SIZE
       → len ≡ min size (node.now.part.len - offset)
-      → IsAnswerAt {A = A} stack agreed (read offset size) (placed node.now.place) (Data (record { node = node; offset = offset; len = len }))
+      → IsAnswerAt {A = A} stack agreed (read offset size) (placed node.now.place)
+      (Data (record { node = node; offset = offset; len = len }))
   read_at_place node len is kind small count = record {
     taken = rw (sym is.kind_is ∙ kind, le-ltb MAX_DATA_SIZE size small) refl;
     data_is = rw count (same_part stack.layers node.now.place.layer node.now (placed node.now.place) is.holds offset size);

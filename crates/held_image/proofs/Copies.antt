@@ -42,7 +42,8 @@ zero_copied size blocks bytes at room near r none within some =
     let f = filled_long size blocks bytes in
     let d = length-drop at (filled size blocks bytes) in
     let t = length-take-le 1 (drop at (filled size blocks bytes)) (omega arith) in
-    let z : byte_of blocks bytes at ≡ 0 = ap (byte_of blocks bytes) (let e : at ≡ at + length near = omega arith in e) ∙ r.stops (omega arith) in
+    let z : byte_of blocks bytes at ≡ 0 =
+    ap (byte_of blocks bytes) (let e : at ≡ at + length near = omega arith in e) ∙ r.stops (omega arith) in
     let is : 0 ∷ [] ≡ take 1 (drop at (filled size blocks bytes)) = ext_get_or 0 (0 ∷ []) _ (sym t) (λ i l.
     let i0 : i ≡ 0 = omega arith in
     ap (λ k. get_or (0 ∷ []) k 0) i0 ∙ sym z ∙ sym (filled_at size blocks bytes at within)

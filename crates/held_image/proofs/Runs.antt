@@ -1,6 +1,6 @@
 -- The bytes of blocks: of one that is kept (byte_kept), of none (byte_none), and of a row of them
--- (run_is).
-use Rattle.std.proofs.Common.{◌≡◌, ◌≢◌, ◌∙◌, sym, ap, ℕ, zero, suc, ◌+◌, ◌-◌, ◌*◌, ◌/◌, ◌%◌, ◌<◌, ◌==◌, inl, inr, if◌then◌else◌, List, [], ◌∷◌, length, take, drop, get_or, refl, arith, length-drop, length-take-le}
+-- (run_is). Blocks as far apart as their numbers are a row (dense_row).
+use Rattle.std.proofs.Common.{◌≡◌, ◌≢◌, ◌∙◌, sym, ap, ℕ, zero, suc, ◌+◌, ◌-◌, ◌*◌, ◌/◌, ◌%◌, ◌-◌, ◌<◌, ◌≤◌, ◌==◌, inl, inr, if◌then◌else◌, List, [], ◌∷◌, length, take, drop, get_or, refl, arith, length-drop, length-take-le}
 use Rattle.std.proofs.lemmas.List.{get_or-drop, get_or-take}
 use Rattle.std.proofs.lemmas.Bool.{cases_lt}
 use Rattle.std.proofs.lemmas.Bool.Decides.{nat_tests}
@@ -35,6 +35,32 @@ byte_none [] bytes p h = refl
 byte_none (b ∷ blocks) bytes p h =
     here_else b (p / 16) _ _ (h 0 (omega arith))
     ∙ byte_none blocks (drop 16 bytes) p (λ i l. h (suc i) (omega arith))
+
+-- numbers rise by one at least
+gap : (blocks : List ℕ) → Rises blocks → (i n : ℕ) → i + n < length blocks → get_or blocks i 0 + n ≤ get_or blocks (i + n) 0
+gap blocks r i zero l = (let e = ap (λ x. get_or blocks x 0) (let e : i + 0 ≡ i = omega arith in e) in omega arith)
+gap blocks r i (suc n) l =
+    let g = gap blocks r i n (omega arith) in
+    let a = r.above (i + n) (i + suc n) (omega arith) l in
+    omega arith
+
+-- so those between two that are as far apart as their numbers have all numbers between
+between : (blocks : List ℕ) → Rises blocks → (at block n : ℕ) → at + n < length blocks → get_or blocks at 0 ≡ block
+    → get_or blocks (at + n) 0 ≡ block + n → (i : ℕ) → i ≤ n → get_or blocks (at + i) 0 ≡ block + i
+between blocks r at block n l e f i m =
+    let low = gap blocks r at i (omega arith) in
+    let high = gap blocks r (at + i) (n - i) (omega arith) in
+    let g = ap (λ x. get_or blocks x 0) (let e : at + i + (n - i) ≡ at + n = omega arith in e) in
+    omega arith
+
+pub dense_row : (blocks : List ℕ) → Rises blocks → (at block n : ℕ) → at + n < length blocks → get_or blocks at 0 ≡ block
+    → get_or blocks (at + n) 0 ≡ block + n → 17 ≤ n → AreInRow blocks at block (n + 1)
+dense_row blocks r at block n l e f long = record {
+  some = omega arith;
+  within = omega arith;
+  rise = λ i m. between blocks r at block n l e f i (omega arith);
+  stops = λ few. absurd (omega arith);
+}
 
 -- where a byte of a row lies
 row_place : (at i : ℕ) → (at + i) / 16 ≡ at / 16 + (at % 16 + i) / 16

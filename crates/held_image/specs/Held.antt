@@ -7,9 +7,9 @@ use Rattle.held_image.specs.Blocks.{IsKept, filled}
 -- all bytes, or those of the blocks and zeros between
 abbrev pub bytes_of : Form → List ℕ
 bytes_of (Whole bytes) = bytes.now
-bytes_of (Sparse size blocks bytes) = filled size blocks.now bytes.now
+bytes_of (Sparse size blocks bytes) = filled size blocks.all.now bytes.now
 
 -- blocks that are held are in order, and whole
 abbrev pub IsHeld : Form → Type 0
 IsHeld (Whole bytes) = ⊤
-IsHeld (Sparse size blocks bytes) = IsKept blocks.now bytes.now
+IsHeld (Sparse size blocks bytes) = IsKept blocks.all.now bytes.now

@@ -1,8 +1,8 @@
 //! Blocks that are kept of an image, and reading in them.
 //!
 //! The numbers of the blocks that are kept rise, and their bytes stand one block after another: so
-//! bytes that lie together in the image lie together here, and a name is a slice. A block is looked
-//! up by halves. What is called for a field is marked as cold, so that whoever reads by `read` has
+//! bytes that lie together in the image lie together here, and a name is a slice. `numbers`
+//! finds a block. What is called for a field is marked as cold, so that whoever reads by `read` has
 //! the way to a slice close at hand.
 
 ghost use Rattle.std.specs.Prelude.{◌≡◌, ◌+◌, ◌*◌, ◌/◌, ◌^◌, ◌<◌, ◌≤◌, ◌%◌, length, take, drop, get_or, slice_index, min, ℕ, List, IfSome};
@@ -11,8 +11,9 @@ ghost use Rattle.romfs_format.specs.declared.limits.TheConstants.{HEAD_SIZE};
 ghost use Rattle.romfs_format.specs.Fields.{word as word_of, text_at as text_of, text_end, ended, name_field as field_of, word_sum};
 ghost use Rattle.romfs_format.specs.Heads.{head_of, name_of};
 ghost use Rattle.romfs_format.specs.Trailer.{long_word as long_word_of};
-ghost use Rattle.held_image.specs.Blocks.{Rises, IsRank, AreInRow, IsRun, IsKept, IsFront, CopiesSome, filled, byte_of};
+ghost use Rattle.held_image.specs.Blocks.{Rises, AreInRow, IsRun, IsKept, IsFront, CopiesSome, filled, byte_of};
 
+use crate::numbers::Numbers;
 use byteorder::{BigEndian, ByteOrder};
 use memchr::memchr;
 use romfs_format::head::Head;
@@ -28,27 +29,24 @@ const RUN_BLOCKS: usize = 18;
 /// How many numbers a word can be.
 const WORDS: u64 = 0x1_0000_0000;
 
-/// How many blocks have a number below this one.
-pub(crate) fn rank(blocks: &[u32], block: u32) -> usize
-    requires { Rises blocks.now }
-    ensures { IsRank blocks.now block result }
-{
-    let mut low = 0;
-    let mut high = blocks.len();
-    while low < high {
-        let middle = low + (high - low) / 2;
-        if blocks[middle] < block {
-            low = middle + 1;
-        } else {
-            high = middle;
-        }
-    }
-    low
-}
-
 /// How many blocks from the one at a position on have numbers that rise by one, at most
 /// [`RUN_BLOCKS`].
 fn row(blocks: &[u32], at: usize, block: u32) -> usize
+    requires rises { Rises blocks.now }
+    requires at { at < length blocks.now }
+    requires is { slice_index blocks.now at ≡ block }
+    requires block { block < 2 ^ 28 }
+    ensures { AreInRow blocks.now at block result }
+{
+    let last = at + (RUN_BLOCKS - 1);
+    if last < blocks.len() && blocks[last] == block + (RUN_BLOCKS as u32 - 1) {
+        return RUN_BLOCKS;
+    }
+    row_by_steps(blocks, at, block)
+}
+
+/// The same, one by one.
+fn row_by_steps(blocks: &[u32], at: usize, block: u32) -> usize
     requires at { at < length blocks.now }
     requires is { slice_index blocks.now at ≡ block }
     requires block { block < 2 ^ 28 }
@@ -66,27 +64,28 @@ fn row(blocks: &[u32], at: usize, block: u32) -> usize
 
 /// The kept bytes from a place on, as far as they go without a gap, or farther than a header and
 /// its name can.
-fn run<'a>(blocks: &[u32], bytes: &'a [u8], at: u32) -> &'a [u8]
-    requires { IsKept blocks.now bytes.now }
-    ensures { IsRun blocks.now bytes.now at result.now }
+fn run<'a>(blocks: &Numbers<'_>, bytes: &'a [u8], at: u32) -> &'a [u8]
+    requires { IsKept blocks.now.all.now bytes.now }
+    ensures { IsRun blocks.now.all.now bytes.now at result.now }
 {
     let block = at / 16;
-    let position = rank(blocks, block);
-    if position == blocks.len() {
+    let position = blocks.rank(block);
+    let all = blocks.all;
+    if position == all.len() {
         return &[];
     }
-    if blocks[position] != block {
+    if all[position] != block {
         return &[];
     }
-    let count = row(blocks, position, block);
+    let count = row(all, position, block);
     let from = position * BLOCK_SIZE + at as usize % BLOCK_SIZE;
     &bytes[from..(position + count) * BLOCK_SIZE]
 }
 
 /// The byte at a place.
-fn byte_in(blocks: &[u32], bytes: &[u8], at: u32) -> u8
-    requires { IsKept blocks.now bytes.now }
-    ensures { result ≡ byte_of blocks.now bytes.now at }
+fn byte_in(blocks: &Numbers<'_>, bytes: &[u8], at: u32) -> u8
+    requires { IsKept blocks.now.all.now bytes.now }
+    ensures { result ≡ byte_of blocks.now.all.now bytes.now at }
 {
     match run(blocks, bytes, at).first() {
         Some(byte) => *byte,
@@ -96,10 +95,10 @@ fn byte_in(blocks: &[u32], bytes: &[u8], at: u32) -> u8
 
 /// The big-endian word at a place.
 #[cold]
-pub(crate) fn word_in(blocks: &[u32], bytes: &[u8], size: u32, at: u32) -> u32
-    requires kept { IsKept blocks.now bytes.now }
+pub(crate) fn word_in(blocks: &Numbers<'_>, bytes: &[u8], size: u32, at: u32) -> u32
+    requires kept { IsKept blocks.now.all.now bytes.now }
     requires at { at + 4 ≤ size }
-    ensures { result ≡ word_of (filled size blocks.now bytes.now) at }
+    ensures { result ≡ word_of (filled size blocks.now.all.now bytes.now) at }
 {
     let near = run(blocks, bytes, at);
     if near.len() >= 4 {
@@ -115,10 +114,10 @@ pub(crate) fn word_in(blocks: &[u32], bytes: &[u8], size: u32, at: u32) -> u32
 
 /// The big-endian number in the eight bytes at a place.
 #[tactic(auto, using(crate::proofs::Views::long_by_words))]
-pub(crate) fn long_word_in(blocks: &[u32], bytes: &[u8], size: u32, at: u32) -> u64
-    requires kept { IsKept blocks.now bytes.now }
+pub(crate) fn long_word_in(blocks: &Numbers<'_>, bytes: &[u8], size: u32, at: u32) -> u64
+    requires kept { IsKept blocks.now.all.now bytes.now }
     requires at { at + 8 ≤ size }
-    ensures { result ≡ long_word_of (filled size blocks.now bytes.now) at }
+    ensures { result ≡ long_word_of (filled size blocks.now.all.now bytes.now) at }
 {
     let high = word_in(blocks, bytes, size, at);
     let low = word_in(blocks, bytes, size, at + 4);
@@ -214,20 +213,20 @@ fn head_in(near: &[u8], at: u32, size: u32) -> Head
 /// The byte at a place, of an image of this size.
 #[tactic(auto, using(crate::proofs::Fronts::filled_at))]
 #[cold]
-pub(crate) fn byte_of_blocks(blocks: &[u32], bytes: &[u8], size: u32, at: u32) -> u8
-    requires kept { IsKept blocks.now bytes.now }
+pub(crate) fn byte_of_blocks(blocks: &Numbers<'_>, bytes: &[u8], size: u32, at: u32) -> u8
+    requires kept { IsKept blocks.now.all.now bytes.now }
     requires at { at < size }
-    ensures { result ≡ get_or (filled size blocks.now bytes.now) at 0 }
+    ensures { result ≡ get_or (filled size blocks.now.all.now bytes.now) at 0 }
 {
     byte_in(blocks, bytes, at)
 }
 
 /// The header at a place, of an image of this size.
 #[cold]
-pub(crate) fn head_of_blocks(blocks: &[u32], bytes: &[u8], size: u32, at: u32) -> Head
-    requires kept { IsKept blocks.now bytes.now }
+pub(crate) fn head_of_blocks(blocks: &Numbers<'_>, bytes: &[u8], size: u32, at: u32) -> Head
+    requires kept { IsKept blocks.now.all.now bytes.now }
     requires inside { at + HEAD_SIZE ≤ size }
-    ensures { result ≡ head_of (filled size blocks.now bytes.now) at }
+    ensures { result ≡ head_of (filled size blocks.now.all.now bytes.now) at }
 {
     let near = run(blocks, bytes, at);
     if near.len() >= HEAD_SIZE {
@@ -241,16 +240,16 @@ pub(crate) fn head_of_blocks(blocks: &[u32], bytes: &[u8], size: u32, at: u32) -
 /// The same, by the length of its name.
 #[cold]
 pub(crate) fn head_in_blocks(
-    blocks: &[u32],
+    blocks: &Numbers<'_>,
     bytes: &[u8],
     size: u32,
     at: u32,
     name_len: u32,
 ) -> Head
-    requires kept { IsKept blocks.now bytes.now }
+    requires kept { IsKept blocks.now.all.now bytes.now }
     requires inside { at + HEAD_SIZE ≤ size }
-    requires name { name_len ≡ length (name_of (filled size blocks.now bytes.now) at) }
-    ensures { result ≡ head_of (filled size blocks.now bytes.now) at }
+    requires name { name_len ≡ length (name_of (filled size blocks.now.all.now bytes.now) at) }
+    ensures { result ≡ head_of (filled size blocks.now.all.now bytes.now) at }
 {
     let first = word_in(blocks, bytes, size, at);
     let spec = word_in(blocks, bytes, size, at + 4);
@@ -261,15 +260,15 @@ pub(crate) fn head_in_blocks(
 /// The name whose field begins at a place, of an image of this size.
 #[cold]
 pub(crate) fn text_of_blocks<'a>(
-    blocks: &[u32],
+    blocks: &Numbers<'_>,
     bytes: &'a [u8],
     size: u32,
     at: u32,
 ) -> Option<&'a [u8]>
-    requires kept { IsKept blocks.now bytes.now }
+    requires kept { IsKept blocks.now.all.now bytes.now }
     requires at { at ≤ size }
     ensures value { option_map (λ text. text.now) result
-        ≡ text_of (filled size blocks.now bytes.now) at }
+        ≡ text_of (filled size blocks.now.all.now bytes.now) at }
     ensures within { IfSome result (λ text. text_end at text.now ≤ size) }
 {
     text_in(run(blocks, bytes, at), at, size)
@@ -277,10 +276,15 @@ pub(crate) fn text_of_blocks<'a>(
 
 /// The name of the header at a place, of an image of this size; the empty one where it has no end.
 #[cold]
-pub(crate) fn name_of_blocks<'a>(blocks: &[u32], bytes: &'a [u8], size: u32, at: u32) -> &'a [u8]
-    requires kept { IsKept blocks.now bytes.now }
+pub(crate) fn name_of_blocks<'a>(
+    blocks: &Numbers<'_>,
+    bytes: &'a [u8],
+    size: u32,
+    at: u32,
+) -> &'a [u8]
+    requires kept { IsKept blocks.now.all.now bytes.now }
     requires inside { at + HEAD_SIZE ≤ size }
-    ensures { result.now ≡ name_of (filled size blocks.now bytes.now) at }
+    ensures { result.now ≡ name_of (filled size blocks.now.all.now bytes.now) at }
 {
     match text_of_blocks(blocks, bytes, size, at + HEAD_SIZE as u32) {
         Some(name) => name,
@@ -290,10 +294,11 @@ pub(crate) fn name_of_blocks<'a>(blocks: &[u32], bytes: &'a [u8], size: u32, at:
 
 /// The sum of the whole words of so many bytes from a place on, of an image of this size.
 #[tactic(auto, using(crate::proofs::Sums::run_part))]
-pub(crate) fn sum_in(blocks: &[u32], bytes: &[u8], size: u32, at: u32, len: u32) -> u32
-    requires kept { IsKept blocks.now bytes.now }
+pub(crate) fn sum_in(blocks: &Numbers<'_>, bytes: &[u8], size: u32, at: u32, len: u32) -> u32
+    requires kept { IsKept blocks.now.all.now bytes.now }
     requires within { at + len ≤ size }
-    ensures { result ≡ word_sum (take len (drop at (filled size blocks.now bytes.now))) % 2 ^ 32 }
+    ensures { result
+        ≡ word_sum (take len (drop at (filled size blocks.now.all.now bytes.now))) % 2 ^ 32 }
 {
     let near = run(blocks, bytes, at);
     if near.len() >= len as usize {
@@ -303,10 +308,11 @@ pub(crate) fn sum_in(blocks: &[u32], bytes: &[u8], size: u32, at: u32, len: u32)
 }
 
 /// The same, word by word.
-fn sum_of_words(blocks: &[u32], bytes: &[u8], size: u32, at: u32, len: u32) -> u32
-    requires kept { IsKept blocks.now bytes.now }
+fn sum_of_words(blocks: &Numbers<'_>, bytes: &[u8], size: u32, at: u32, len: u32) -> u32
+    requires kept { IsKept blocks.now.all.now bytes.now }
     requires within { at + len ≤ size }
-    ensures { result ≡ word_sum (take len (drop at (filled size blocks.now bytes.now))) % 2 ^ 32 }
+    ensures { result
+        ≡ word_sum (take len (drop at (filled size blocks.now.all.now bytes.now))) % 2 ^ 32 }
 {
     let mut sum: u32 = 0;
     let mut done: u32 = 0;
@@ -321,16 +327,16 @@ fn sum_of_words(blocks: &[u32], bytes: &[u8], size: u32, at: u32, len: u32) -> u
 /// else one that is 0. It says how many.
 #[cold]
 pub(crate) fn copy_some_of_blocks(
-    blocks: &[u32],
+    blocks: &Numbers<'_>,
     bytes: &[u8],
     size: u32,
     at: u32,
     room: &mut [u8],
 ) -> usize
-    requires kept { IsKept blocks.now bytes.now }
+    requires kept { IsKept blocks.now.all.now bytes.now }
     requires at { at < size }
     requires room { 0 < length room.old }
-    ensures { CopiesSome (filled size blocks.now bytes.now) at result room.old room.new }
+    ensures { CopiesSome (filled size blocks.now.all.now bytes.now) at result room.old room.new }
 {
     let near = run(blocks, bytes, at);
     if near.is_empty() {

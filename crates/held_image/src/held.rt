@@ -3,6 +3,7 @@
 ghost use Rattle.std.specs.Prelude.{◌≡◌, ◌<◌, ◌≤◌, ◌^◌, length, take};
 ghost use Rattle.held_image.specs.Blocks.{IsKept, filled};
 
+use crate::numbers::Numbers;
 use std::marker::Model;
 
 /// An image. A clause sees the list of its bytes, of an image of which blocks are kept those at
@@ -20,7 +21,7 @@ pub(crate) enum Form<'a> {
     /// Some blocks of an image of this size: their numbers, rising, and their bytes.
     Sparse {
         size: u32,
-        blocks: &'a [u32],
+        blocks: Numbers<'a>,
         bytes: &'a [u8],
     },
 }
@@ -49,9 +50,9 @@ impl<'a> Held<'a> {
 
     /// Blocks of an image of this size: their numbers, rising, and their bytes.
     #[tactic(auto, using(crate::proofs::Fronts::filled_long))]
-    pub(crate) fn sparse(size: u32, blocks: &'a [u32], bytes: &'a [u8]) -> Held<'a>
-        requires { IsKept blocks.now bytes.now }
-        ensures value { result ≡ filled size blocks.now bytes.now }
+    pub(crate) fn sparse(size: u32, blocks: Numbers<'a>, bytes: &'a [u8]) -> Held<'a>
+        requires { IsKept blocks.all.now bytes.now }
+        ensures value { result ≡ filled size blocks.entry.all.now bytes.now }
         ensures small { length result < 2 ^ 32 }
     {
         Held {

@@ -3,8 +3,9 @@
 ghost use Rattle.std.specs.Prelude.{◌≡◌, ◌+◌, ◌*◌, ◌/◌, ◌%◌, ◌<◌, ◌≤◌, ◌^◌, length, take, IfOk, OnOk};
 ghost use Rattle.held_image.specs.Blocks.{HasNumbers, IsCut, IsFollowed, IsKept, IsPadded, filled};
 
-use crate::blocks::{BLOCK_SIZE, rank};
+use crate::blocks::BLOCK_SIZE;
 use crate::held::Held;
+use crate::numbers::Stretches;
 use std::alloc::{AllocError, Allocator};
 use std::marker::Model;
 
@@ -17,6 +18,8 @@ pub struct Kept<A: Allocator> {
     blocks: Vec<u32, A>,
     /// The bytes of the blocks, one block behind the other.
     bytes: Vec<u8, A>,
+    /// What is noted of the numbers.
+    stretches: Stretches<A>,
 }
 
 impl<A: Allocator> Model for Kept<A> {
@@ -33,19 +36,28 @@ impl<A: Allocator> Model for Kept<A> {
 
 impl<A: Allocator> Kept<A> {
     /// Blocks of an image of this size in bytes: their numbers, rising, and the bytes of each, one
-    /// behind the other. Those behind the size are let go.
+    /// behind the other. Those behind the size are let go. The error comes only where memory was
+    /// refused.
     #[tactic(auto, using(crate::proofs::Fronts::filled_long))]
-    pub fn new(size: u32, mut blocks: Vec<u32, A>, mut bytes: Vec<u8, A>) -> Kept<A>
+    pub fn new(
+        alloc: A,
+        size: u32,
+        mut blocks: Vec<u32, A>,
+        mut bytes: Vec<u8, A>,
+    ) -> Result<Kept<A>, AllocError>
         requires { IsKept blocks.items bytes.items }
-        ensures bytes { result ≡ filled size blocks.items bytes.items }
-        ensures size { length result ≡ size }
+        ensures bytes { IfOk result (λ kept. kept ≡ filled size blocks.items bytes.items) }
+        ensures size { IfOk result (λ kept. length kept ≡ size) }
     {
-        cut(&mut blocks, &mut bytes, size);
-        Kept {
+        let mut stretches = Stretches::new(alloc);
+        cut(&stretches, &mut blocks, &mut bytes, size);
+        stretches.note(&blocks)?;
+        Ok(Kept {
             size,
             blocks,
             bytes,
-        }
+            stretches,
+        })
     }
 
     /// The image, to be read.
@@ -54,7 +66,7 @@ impl<A: Allocator> Kept<A> {
         ensures value { result ≡ self.now }
         ensures small { length self.now < 2 ^ 32 }
     {
-        Held::sparse(self.size, &self.blocks, &self.bytes)
+        Held::sparse(self.size, self.stretches.beside(&self.blocks), &self.bytes)
     }
 
     /// The first bytes alone, so many. The blocks behind them are let go.
@@ -64,7 +76,19 @@ impl<A: Allocator> Kept<A> {
         ensures value { result ≡ take count self }
         ensures length { length result ≡ count }
     {
-        Kept::new(count, self.blocks, self.bytes)
+        let Kept {
+            mut blocks,
+            mut bytes,
+            stretches,
+            ..
+        } = self;
+        cut(&stretches, &mut blocks, &mut bytes, count);
+        Kept {
+            size: count,
+            blocks,
+            bytes,
+            stretches,
+        }
     }
 
     /// The same image, and some bytes behind it, from a multiple of 16 on.
@@ -76,24 +100,32 @@ impl<A: Allocator> Kept<A> {
     {
         let mut blocks = self.blocks;
         let mut bytes = self.bytes;
+        let mut stretches = self.stretches;
         let count = tail.len().div_ceil(BLOCK_SIZE);
         add_row(&mut blocks, at / 16, count as u32)?;
         add_padded(&mut bytes, tail)?;
+        stretches.note(&blocks)?;
         Ok(Kept {
             size: at + tail.len() as u32,
             blocks,
             bytes,
+            stretches,
         })
     }
 }
 
 /// Lets go the blocks behind a size.
-fn cut<A: Allocator>(blocks: &mut Vec<u32, A>, bytes: &mut Vec<u8, A>, size: u32)
+fn cut<A: Allocator>(
+    stretches: &Stretches<A>,
+    blocks: &mut Vec<u32, A>,
+    bytes: &mut Vec<u8, A>,
+    size: u32,
+)
     requires { IsKept blocks.old.items bytes.old.items }
     ensures { IsCut size blocks.old.items bytes.old.items blocks.new.items bytes.new.items }
 {
     let end = ((u64::from(size) + 15) / 16) as u32;
-    let count = rank(blocks, end);
+    let count = stretches.beside(blocks).rank(end);
     blocks.truncate(count);
     bytes.truncate(count * BLOCK_SIZE);
 }

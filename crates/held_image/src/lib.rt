@@ -14,6 +14,7 @@
 pub mod blocks;
 mod held;
 mod kept;
+mod numbers;
 pub mod read;
 
 pub use blocks::BLOCK_SIZE;

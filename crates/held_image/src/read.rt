@@ -31,7 +31,7 @@ pub fn byte_at(image: &Held<'_>, at: usize) -> u8
             size,
             blocks,
             bytes,
-        } => byte_of_blocks(blocks, bytes, size, at as u32),
+        } => byte_of_blocks(&blocks, bytes, size, at as u32),
     }
 }
 
@@ -77,7 +77,7 @@ pub fn word(image: &Held<'_>, at: usize) -> u32
             size,
             blocks,
             bytes,
-        } => word_in(blocks, bytes, size, at as u32),
+        } => word_in(&blocks, bytes, size, at as u32),
     }
 }
 
@@ -93,7 +93,7 @@ pub fn long_word(image: &Held<'_>, at: usize) -> u64
             size,
             blocks,
             bytes,
-        } => long_word_in(blocks, bytes, size, at as u32),
+        } => long_word_in(&blocks, bytes, size, at as u32),
     }
 }
 
@@ -113,7 +113,7 @@ pub fn text_at<'a>(image: &Held<'a>, at: usize) -> Option<&'a [u8]>
             size,
             blocks,
             bytes,
-        } => text_of_blocks(blocks, bytes, size, at as u32),
+        } => text_of_blocks(&blocks, bytes, size, at as u32),
     }
 }
 
@@ -132,7 +132,7 @@ pub fn sum(image: &Held<'_>, at: usize, len: usize) -> u32
             size,
             blocks,
             bytes,
-        } => sum_in(blocks, bytes, size, at as u32, len as u32),
+        } => sum_in(&blocks, bytes, size, at as u32, len as u32),
     }
 }
 
@@ -150,7 +150,7 @@ pub fn head_at(image: &Held<'_>, at: u32) -> Head
             size,
             blocks,
             bytes,
-        } => head_of_blocks(blocks, bytes, size, at),
+        } => head_of_blocks(&blocks, bytes, size, at),
     }
 }
 
@@ -169,7 +169,7 @@ pub fn head_named(image: &Held<'_>, at: u32, name_len: u32) -> Head
             size,
             blocks,
             bytes,
-        } => head_in_blocks(blocks, bytes, size, at, name_len),
+        } => head_in_blocks(&blocks, bytes, size, at, name_len),
     }
 }
 
@@ -188,7 +188,7 @@ pub fn name_of<'a>(image: &Held<'a>, at: u32, name_len: u32) -> &'a [u8]
             size,
             blocks,
             bytes,
-        } => name_of_blocks(blocks, bytes, size, at),
+        } => name_of_blocks(&blocks, bytes, size, at),
     }
 }
 
@@ -225,7 +225,7 @@ pub fn copy_some(image: &Held<'_>, at: usize, room: &mut [u8]) -> usize
             size,
             blocks,
             bytes,
-        } => copy_some_of_blocks(blocks, bytes, size, at as u32, room),
+        } => copy_some_of_blocks(&blocks, bytes, size, at as u32, room),
     }
 }
 

@@ -20,7 +20,8 @@ WasGathered Read known kept = IsGatheredWithTrailer known kept
 WasGathered Left known kept = IsGathered known kept
 
 -- an image is open over data of which these bytes are known, with its trailer or without
-pub record IsOpenOver (known : Option (List ℕ)) (trailers : Trailers) (image : Opened) : Type 0 where
+pub record IsOpenOver (known : Option (List ℕ)) (trailers : Trailers) (image : Opened)
+    : Type 0 where
   pub known_is : image.known ≡ known
   pub trailers_are : image.trailers ≡ trailers
 

@@ -158,13 +158,15 @@ where
         move || -> Run<T, A>
             requires { IsSync R.row × IsSync A.row × IsSend A.row
                 × Frees A.Allocator A.dealloc_token × (next + length highs.now < 2 ^ 64) }
-            ensures count { IsReadUpTo next (length highs.entry.now) (vec_len result.images) result.end }
+            ensures count { IsReadUpTo next (length highs.entry.now) (vec_len result.images)
+                result.end }
             ensures read { All (T.is_read trailers) result.images.items }
         { read_from(rt, alloc, next, highs, trailers, less) },
         move || -> Run<T, A>
             requires { IsSync R.row × IsSync A.row × IsSend A.row
                 × Frees A.Allocator A.dealloc_token × (first + length lows.now < 2 ^ 64) }
-            ensures count { IsReadUpTo first (length lows.entry.now) (vec_len result.images) result.end }
+            ensures count { IsReadUpTo first (length lows.entry.now) (vec_len result.images)
+                result.end }
             ensures read { All (T.is_read trailers) result.images.items }
         { read_from(rt, alloc, first, lows, trailers, less) },
     );

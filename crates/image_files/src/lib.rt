@@ -13,9 +13,9 @@
 //! is told.
 //!
 //! The private parts: `images` shares a list out, whatever is read of each file; `whole` reads one
-//! file, and `opening` opens one; `open_image` and `image_data` have what is open. No clause sees a path,
-//! nor what a file holds: the tests open real files. Of bytes in memory a clause says that what is
-//! kept was gathered of them.
+//! file, and `opening` opens one; `open_image` and `image_data` have what is open. No clause sees a
+//! path, nor what a file holds: the tests open real files. Of bytes in memory a clause says that
+//! what is kept was gathered of them.
 #![tactic(auto)]
 
 mod image_data;

@@ -1,6 +1,6 @@
 -- Blocks in order and their bytes: one that is above all others goes to their end (pushed), and what is
 -- joined of pieces in order holds what these hold (Joined).
-use Rattle.std.proofs.Common.{◌≡◌, ◌≢◌, ◌∙◌, sym, ap, subst, ℕ, ◌+◌, ◌-◌, ◌*◌, ◌/◌, ◌%◌, ◌<◌, ◌≤◌, inl, inr, List, [], ◌∷◌, ◌++◌, length, get_or, refl, arith, length-append}
+use Rattle.std.proofs.Common.{◌≡◌, ◌≢◌, ◌∙◌, sym, ap, subst, ℕ, ◌+◌, ◌-◌, ◌*◌, ◌/◌, ◌%◌, ◌<◌, ◌≤◌, inl, inr, List, [], ◌∷◌, ◌++◌, length, get_or, refl, arith, length-append, Result, Ok, Err, IfOk}
 use Rattle.std.specs.List.{Contains}
 use Rattle.std.specs.List.Sorted.{IsNonDecreasingBy}
 use Rattle.std.proofs.lemmas.Bool.{cases_lt, cases_eq}
@@ -220,3 +220,9 @@ packed_filled old pieces size blocks bytes s k = record {
   same = λ xs r p l h. filled_at size blocks bytes p l
       ∙ k.same xs (record { each = λ x c. r.each x (s.fewer.from x c) }) p (s.fewer.stays (p / 16) h);
 }
+
+-- what is made of a list that is filled is filled
+pub filled_if_ok : {E : Type 0} (pieces : List Piece) (size : ℕ) (xs : List ℕ) (result : Result (List ℕ) E)
+    → IfOk result (λ kept. kept ≡ xs) → IsFilled pieces size xs → IfOk result (IsFilled pieces size)
+filled_if_ok pieces size xs (Ok kept) e f = subst (λ a. IsFilled pieces size a) (sym e) f
+filled_if_ok pieces size xs (Err fault) e f = tt

@@ -28,7 +28,7 @@ pub fn pack<A: Allocator + Copy>(
 {
     sort(&mut pieces);
     let packed = pack_sorted(alloc, &pieces)?;
-    Ok(Kept::new(size, packed.blocks, packed.bytes))
+    Kept::new(alloc, size, packed.blocks, packed.bytes)
 }
 
 /// Each block once, and its bytes.

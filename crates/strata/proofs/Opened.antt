@@ -1,7 +1,7 @@
 -- The images of a line. `are_sources` says of images that were taken apart what their data are read from, `whole_held`
 -- that nothing is where a line asks for all bytes; `seen_as` lends their files. `one_held` is the step of the loop that
 -- holds images whole.
-use Rattle.std.proofs.Common.{◌≡◌, ◌∙◌, sym, ap, subst, refl, ℕ, inl, inr, true, false, true≢false, List, [], ◌∷◌, ◌++◌, append_assoc, map, All, Some, Vec}
+use Rattle.std.proofs.Common.{◌≡◌, ◌∙◌, sym, ap, subst, refl, ℕ, inl, inr, true, false, true≢false, List, [], ◌∷◌, ◌++◌, append_assoc, map, All, Bool, Some, Vec}
 use Rattle.std.specs.List.{AllByRecursion}
 use Rattle.std.proofs.lemmas.List.{map-append}
 use Rattle.std.proofs.lemmas.List.Elements.{recursion_from_All}
@@ -38,17 +38,21 @@ are_data trailers (image ∷ images) (d ∷ files) known read faithful =
     let rest : map known_bytes files ≡ map (λ (image : Opened). image.known) images = cc in
     (is_data trailers image d first read.0 faithful.0, are_data trailers images files rest read.1 faithful.1)
 
--- the sources of images that were taken apart, of a line that leaves them in their files
+-- the sources of images that were taken apart, of a line whose images are not read whole
 pub are_sources : {F A B C : Type 0} (line : Line) (images : List Opened) (kept : Vec (List ℕ) B) (files : Vec (ImageData F A) C)
-    → line.whole ≡ false → All (λ (image : Opened). image.trailers ≡ trailers_of line) images → AreApart images kept.items files.items
+    → (whole : Bool) → whole ≡ false → (line.whole ≡ true → whole ≡ true)
+    → All (λ (image : Opened). image.trailers ≡ trailers_of line) images → AreApart images kept.items files.items
     → HaveSources line kept.items (sources_of files)
-are_sources line images kept files left read apart = record {
-  whole = λ all. absurd (true≢false (sym all ∙ left));
-  opened = λ _. subst (λ held. AreDataOf (trailers_of line) held (sources_of files)) (sym apart.kept_are)
-      (are_data (trailers_of line) images files.items apart.known_are
-      (recursion_from_All (λ (image : Opened). image.trailers ≡ trailers_of line) images read)
-      (recursion_from_All IsFaithful images apart.gathered));
-}
+are_sources line images kept files whole left asked read apart =
+    let are = subst (λ held. AreDataOf (trailers_of line) held (sources_of files)) (sym apart.kept_are)
+    (are_data (trailers_of line) images files.items apart.known_are
+    (recursion_from_All (λ (image : Opened). image.trailers ≡ trailers_of line) images read)
+    (recursion_from_All IsFaithful images apart.gathered)) in
+    record {
+      whole = λ all. absurd (true≢false (sym (asked all) ∙ left));
+      opened = λ _ _. are;
+      either = inr are;
+    }
 
 -- the stack of a line that asks for all bytes is held
 pub whole_held : (line : Line) (images : List (List ℕ)) (by : Sourced) → line.whole ≡ true → ArePrepared line images by

@@ -1,6 +1,6 @@
 -- The images of a line, as they are held: all bytes of each, or what the rules look at, with zeros
 -- where nothing is held.
-use Rattle.std.specs.Prelude.{◌≡◌, ◌⊎◌, ℕ, true, false, List, [], ◌∷◌, Some, ⊤, length, map, vec_len, if◌then◌else◌}
+use Rattle.std.specs.Prelude.{◌≡◌, ◌⊎◌, ◌||◌, ℕ, Bool, true, false, List, [], ◌∷◌, Some, ⊤, length, map, vec_len, if◌then◌else◌}
 use Rattle.std.specs.declared.vec.Vec.{Vec}
 use Rattle.romfs_format.specs.declared.rule.Profile.{Profile}
 use Rattle.romfs_format.specs.Profiles.{profile_with}
@@ -53,12 +53,18 @@ AreDataOf trailers (image ∷ images) (source ∷ sources) =
 AreDataOf trailers [] (source ∷ sources) = ⊥
 AreDataOf trailers (image ∷ images) [] = ⊥
 
--- what the data of the images of a line are read from: nothing where it says `--whole`, since all
--- is held then; else each from a source of its own
+-- whether the images of a line stay in their files, however few bytes they have
+abbrev pub stay_in_files : Line → Bool
+stay_in_files line = line.in_files || line.device
+
+-- what the data of the images of a line are read from: each from a source of its own; or nothing,
+-- since all is held, as where it says `--whole`
 pub record HaveSources (line : Line) (images : List (List ℕ)) (sources : List Source)
     : Type 0 where
   pub whole : line.whole ≡ true → sources ≡ []
-  pub opened : line.whole ≡ false → AreDataOf (trailers_of line) images sources
+  pub opened : line.whole ≡ false → stay_in_files line ≡ true
+      → AreDataOf (trailers_of line) images sources
+  pub either : (sources ≡ []) ⊎ AreDataOf (trailers_of line) images sources
 
 -- the images of a line are good, and this is their stack with the sources of their data
 pub record ArePrepared (line : Line) (images : List (List ℕ)) (by : Sourced) : Type 0 where

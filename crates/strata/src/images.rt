@@ -1,19 +1,24 @@
 //! The images of a line, as they are read: whole, or what the rules look at.
 
-ghost use Rattle.std.specs.Prelude.{◌≡◌, vec_len, IfOk, IfErr};
+ghost use Rattle.std.specs.Prelude.{◌≡◌, false, true, vec_len, IfOk, IfErr};
 ghost use Rattle.image_files.specs.Opening.{held_contents};
 ghost use Rattle.stack_prepare.specs.Layers.{contents_of};
 ghost use Rattle.strata.specs.Faults.{AreUnread};
-ghost use Rattle.strata.specs.Images.{NamesAsMany, HaveSources, bytes_of, sources_of, trailers_of};
+ghost use Rattle.strata.specs.Images.{NamesAsMany, HaveSources, bytes_of, sources_of, stay_in_files, trailers_of};
 
 use crate::faults::Fault;
 use command_line::Line;
 use held_image::Kept;
 use image_files::{HeldImage, ImageData, Trailers, apart, gather_images, open_images, read_images};
 use std::alloc::{AllocError, Allocator};
+use std::fs;
 use std::fs::Files;
 use std::os::unix::fs::FileExt;
 use std::thread::Threads;
+
+/// The most bytes, in all, of images that are read whole where requests come as a stream: to read
+/// so many takes less time than to gather what the rules look at.
+const SMALL_STACK: u64 = 32 << 20;
 
 /// What is held of images, the lowest layer first.
 #[derive(Drop)]
@@ -32,7 +37,8 @@ pub struct LineImages<F, A: Allocator> {
     pub files: Vec<ImageData<F, A>, A>,
 }
 
-/// The images of a line, which stay in their files, if it does not ask for all their bytes.
+/// The images of a line that serves. They stay in their files, if it does not ask for all their
+/// bytes, and if they have more than [`SMALL_STACK`] bytes together, or it asks for that.
 pub fn open_all<R: Files + Threads + Sync, A: Allocator + Copy + Send + Sync>(
     rt: &R,
     alloc: A,
@@ -47,7 +53,7 @@ where
     ensures err { IfErr result (AreUnread (vec_len line.now.images)) }
 {
     let paths = line.images.as_slice();
-    if line.whole {
+    if are_read_whole(rt, line) {
         let images = read_images(rt, alloc, paths)?;
         return Ok(LineImages {
             held: HeldImages::Whole(images),
@@ -95,6 +101,41 @@ fn all_whole<A: Allocator + Copy>(
         held.push(HeldImage::Whole(bytes))?;
     }
     Ok(held)
+}
+
+// Whether the images of a line that serves are read whole: where it asks for that; and where they
+// are small together, and need not stay in their files.
+fn are_read_whole<R: Files>(rt: &R, line: &Line<'_>) -> bool
+    ensures asked { line.now.whole ≡ true → result ≡ true }
+    ensures left { line.now.whole ≡ false → stay_in_files line.now ≡ true → result ≡ false }
+{
+    if line.whole {
+        return true;
+    }
+    if line.in_files || line.device {
+        return false;
+    }
+    rest_of_small(rt, line.images.as_slice()).is_some()
+}
+
+// How many bytes less than [`SMALL_STACK`] these files have together; none where they have more, or
+// where one is no regular file.
+fn rest_of_small<R: Files>(rt: &R, paths: &[&str]) -> Option<u64> {
+    let mut rest = SMALL_STACK;
+    for path in paths {
+        rest = rest.checked_sub(regular_len(rt, path)?)?;
+    }
+    Some(rest)
+}
+
+// How many bytes a regular file has.
+fn regular_len<R: Files>(rt: &R, path: &str) -> Option<u64> {
+    let metadata = fs::metadata(rt, path).ok()?;
+    if metadata.is_file() {
+        Some(metadata.len())
+    } else {
+        None
+    }
 }
 
 // Whether the trailers of a line's images are read: where it asks for attributes.

@@ -1,3 +1,4 @@
 pub mod Names
 pub mod Nodes
 pub mod Noting
+pub mod Stamps

@@ -1,16 +1,13 @@
 -- What a table's parts say of the node with a number. A number is held exactly where it is in use
 -- (`here`, `nowhere`), and a directory where the place is one (`found`, `not_found`); the others
 -- say of each reader that what it reads is what the stack says.
-use Rattle.std.proofs.Common.{◌≡◌, ◌∙◌, sym, ap, subst, ℕ, zero, suc, ◌+◌, ◌<◌, ◌≤◌, inl, inr, List, [], ◌∷◌, length, map, Bool, true, false, ◌||◌, Option, Some, None, Bor, MatchOption, cond, refl, arith}
-use Rattle.std.specs.Prelude.{slice_get, slice_range, find, is_some, unwrap_or}
-use Rattle.std.specs.List.{list_any, slice_index_or}
+use Rattle.std.proofs.Common.{◌≡◌, ◌∙◌, sym, ap, subst, ℕ, zero, suc, ◌<◌, ◌≤◌, inl, inr, List, [], ◌∷◌, length, map, Bool, true, false, Option, Some, None, Bor, MatchOption, cond, refl, arith}
+use Rattle.std.specs.Prelude.{slice_get, slice_range, find, unwrap_or}
+use Rattle.std.specs.List.{slice_index_or}
 use Rattle.std.specs.Option.{option_map, option_map_or, option_and_then}
 use Rattle.std.proofs.lemmas.Option.{slice_get_within, slice_get-get_or, slice_get_past, slice_get_cases, get_or_from_slice_get}
 use Rattle.romfs_reader.specs.Readers.{bytes_at, IsPart}
 use Rattle.romfs_format.specs.declared.attribute_row.AttributeRow.{AttributeRow}
-use Rattle.romfs_format.specs.Trailer.{row_at}
-use Rattle.attribute_rows.specs.Order.{position_at}
-use Rattle.attribute_rows.proofs.Search.{row_at_position}
 use Rattle.stack_model.specs.Listing.{Entry, Stacked, stacked}
 use Rattle.stack_model.specs.Numbers.{Place, Child, nodes, node_of, number_of, number, same_name, children, child}
 use Rattle.stack_model.specs.Attributes.{is_directory, is_directory_at, kind_at, blocks_of, mode_by, owner_by, row_in, attr_of}
@@ -19,12 +16,13 @@ use Rattle.node_attr.specs.declared.attr.Attr.{Attr}
 use Rattle.node_attr.specs.declared.owner.Owner.{Owner}
 use Rattle.table_reader.specs.declared.node.Node.{Node}
 use Rattle.table_reader.specs.declared.node.Brief.{Brief}
-use Rattle.table_reader.specs.declared.node.Stamp.{Stamp}
+use Rattle.table_reader.specs.declared.stamp.Stamp.{Stamp}
 use Rattle.table_reader.specs.declared.directory.Directory.{Directory}
 use Rattle.table_reader.specs.Rows.{Line, number_named}
 use Rattle.table_reader.specs.Directories.{HeldDirectories}
 use Rattle.table_reader.specs.Readers.{HoldsData, TellsNode, attr_at, parent_of, parent_at, child_of, child_at, rows_of, rows_at, data_of_number}
-use Rattle.table_reader.specs.Held.{held_at, kept_of, directory_held, row_held, brief_by, stamp_by, briefs_of, row_number, row_numbers_of, row_told, attr_held, HaveKeys, IsHeldDirectory, IsNode, IsTable}
+use Rattle.table_reader.specs.Held.{kept_of, directory_held, row_held, brief_by, stamp_by, stamp_held, briefs_of, attr_held, AreStampsOf, HaveKeys, IsHeldDirectory, IsNode, IsTable}
+use Rattle.table_reader.specs.Stamps.{held_at}
 
 -- the number of a place that has one
 number_is : (entries : List Entry) (n : ℕ) (p : Place) → node_of entries n ≡ Some p → number entries p ≡ n
@@ -49,7 +47,7 @@ named_child f name [] = refl
 named_child f name (c ∷ cs) = step f name c cs (same_name name c.name) refl (named_child f name cs)
 
 -- what a map holds of a number is made of what is held of it
-held_map : {A B : Type 0} (f : A → B) (all : List A) (n : ℕ) → held_at (map f all) n ≡ option_map f (held_at all n)
+pub held_map : {A B : Type 0} (f : A → B) (all : List A) (n : ℕ) → held_at (map f all) n ≡ option_map f (held_at all n)
 held_map f all zero = refl
 held_map f [] (suc k) = refl
 held_map f (x ∷ all) (suc zero) = refl
@@ -74,58 +72,6 @@ same_attr : (owner : Owner) {n n' size size' mode mode' nlink nlink' rdev rdev' 
     → size ≡ size' → mode ≡ mode' → nlink ≡ nlink' → rdev ≡ rdev' → row ≡ row'
     → attr_by owner n size mode nlink rdev row ≡ attr_by owner n' size' mode' nlink' rdev' row'
 same_attr owner e f g h i j = rw (e, f, g, h, i, j) refl
-
-held_nowhere : {A : Type 0} (n : ℕ) → held_at {A = A} [] n ≡ None
-held_nowhere zero = refl
-held_nowhere (suc k) = refl
-
--- where none passes a test, none that is held does
-none_passes : {A : Type 0} (test : A → Bool) (all : List A) (n : ℕ) (x : A) → list_any test all ≡ false → held_at all n ≡ Some x
-    → test x ≡ false
-none_passes test all zero x e f = absurd (cc)
-none_passes test [] (suc k) x e f = absurd (cc)
-none_passes test (y ∷ all) (suc zero) x e f =
-    let same : Some y ≡ Some x = f in
-    let is : y ≡ x = cc in
-    rw (sym is) (first (test y) (list_any test all) e)
-  where
-    first : (a b : Bool) → (a || b) ≡ false → a ≡ false
-    first true b g = g
-    first false b g = refl
-none_passes test (y ∷ all) (suc (suc k)) x e f = none_passes test all (suc k) x (rest (test y) (list_any test all) e) f
-  where
-    rest : (a b : Bool) → (a || b) ≡ false → b ≡ false
-    rest true b g = absurd (cc)
-    rest false b g = g
-
-no_row : (row : Option AttributeRow) → is_some row ≡ false → row ≡ None
-no_row None e = refl
-no_row (Some row) e = absurd (cc)
-
--- the row with the number of an offset's row is that offset's
-numbered_row : (xs : List AttributeRow) (p : ℕ) → held_at xs (option_map_or (λ k. k + 1) (position_at xs p) 0) ≡ row_at xs p
-numbered_row xs p = go (position_at xs p) ∙ sym (row_at_position xs p)
-  where
-    go : (o : Option ℕ) → held_at xs (option_map_or (λ k. k + 1) o 0) ≡ option_and_then (slice_get xs) o
-    go None = refl
-    go (Some k) = let e : k + 1 ≡ suc k = omega arith in rw e refl
-
--- what is told of a node by where its row stands, or by nothing where no node has a row, is its row
-row_is : (rows : List (List AttributeRow)) (held : List Node) (n : ℕ) (node : Node) → held_at held n ≡ Some node
-    → row_told rows (row_numbers_of rows held) node.place.layer n ≡ row_held rows node
-row_is rows held n node e = go (list_any has_row held) refl
-  where
-    has_row : Node → Bool
-    has_row x = is_some (row_held rows x)
-
-    told : Option ℕ → Option AttributeRow
-    told number = option_and_then (held_at (slice_index_or rows node.place.layer [])) number
-
-    go : (b : Bool) → list_any has_row held ≡ b
-        → told (held_at (cond b (map (row_number rows) held) []) n) ≡ row_held rows node
-    go true f = rw (held_map (row_number rows) held n, e) (numbered_row (slice_index_or rows node.place.layer []) node.place.header)
-    go false f = ap told (held_nowhere {A = ℕ} n)
-        ∙ sym (no_row (row_held rows node) (none_passes has_row held n node f e))
 
 module _ (stack : Stacked) (held : List Node) (directories : HeldDirectories) (blocks : ℕ) (t : IsTable stack held directories blocks) where
   abbrev layers : List (List ℕ)
@@ -185,25 +131,20 @@ module _ (stack : Stacked) (held : List Node) (directories : HeldDirectories) (b
       let h = here n node e in
       rw h.is (ap Some (attr_same n node h.at h.holds (number_is entries n h.at h.is)))
 
-  -- the attributes made of what is held in brief, and of whose the node is, are those of its number
-  pub attr_is : (n : ℕ) (brief : Brief) (stamp : Stamp) → held_at (briefs_of rows held) n ≡ Some brief
-      → stamp ≡ stamp_by (row_told rows (row_numbers_of rows held) brief.layer n) owner → Some (attr_held n brief stamp) ≡ attr_at stack n
-  attr_is n brief stamp e s = go (held_at held n) refl
+  -- the attributes made of what is held in brief, and of the stamp that is held, are those of its number
+  pub attr_is : (n : ℕ) (brief : Brief) (stamps : List Stamp) → AreStampsOf rows owner held stamps
+      → held_at (briefs_of rows held) n ≡ Some brief → Some (attr_held n brief (stamp_held stamps owner n)) ≡ attr_at stack n
+  attr_is n brief stamps s e = go (held_at held n) refl
     where
       of_node : Node → Brief
       of_node node = brief_by (row_held rows node) node
 
-      go : (o : Option Node) → held_at held n ≡ o → Some (attr_held n brief stamp) ≡ attr_at stack n
+      go : (o : Option Node) → held_at held n ≡ o → Some (attr_held n brief (stamp_held stamps owner n)) ≡ attr_at stack n
       go None f = absurd (let z = sym e ∙ held_map of_node held n ∙ ap (option_map of_node) f in cc)
       go (Some node) f =
           let same : Some brief ≡ Some (of_node node) = sym e ∙ held_map of_node held n ∙ ap (option_map of_node) f in
           let is : brief ≡ of_node node = cc in
-          let layer : brief.layer ≡ node.place.layer = ap (λ (b : Brief). b.layer) is in
-          rw (
-            is,
-            s ∙ ap (λ l. stamp_by (row_told rows (row_numbers_of rows held) l n) owner) layer
-                ∙ ap (λ r. stamp_by r owner) (row_is rows held n node f),
-          ) (attr_here n node f)
+          rw (is, s.each n node f) (attr_here n node f)
 
   -- what is not held in brief has no attributes
   pub attr_none : (n : ℕ) → held_at (briefs_of rows held) n ≡ None → None ≡ attr_at stack n

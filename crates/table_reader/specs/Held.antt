@@ -1,28 +1,25 @@
 -- What a table holds, and what of it agrees with the listing of its layers.
-use Rattle.std.specs.Prelude.{◌≡◌, ℕ, zero, suc, ◌+◌, ◌≤◌, List, [], length, map, slice_get, slice_range, All, Bool, Option, Some, None, is_some, true, if◌then◌else◌}
+use Rattle.std.specs.Prelude.{◌≡◌, ℕ, ◌≤◌, List, [], length, map, slice_get, slice_range, nat_eq, All, Bool, Option, Some, None, unwrap_or, true, false, not, if◌then◌else◌}
 use Rattle.std.specs.List.{list_any, slice_index_or}
 use Rattle.std.specs.Option.{option_map_or, option_and_then}
 use Rattle.romfs_format.specs.declared.attribute_row.AttributeRow.{AttributeRow}
 use Rattle.attribute_rows.specs.Order.{position_at}
 use Rattle.stack_model.specs.Listing.{Entry, IsListing, Stacked, stacked}
-use Rattle.stack_model.specs.Numbers.{Place, nodes, number, parent}
+use Rattle.stack_model.specs.Numbers.{Place as ModelPlace, nodes, number, parent}
 use Rattle.stack_model.specs.Attributes.{is_directory, kind_at, mode, mode_by, owner_by, row_in, size_at, rdev, nlink, blocks_of, blocks_all}
 use Rattle.node_attr.specs.declared.attr.Attr.{Attr}
 use Rattle.node_attr.specs.declared.owner.Owner.{Owner}
 use Rattle.table_reader.specs.declared.node.Node.{Node}
 use Rattle.table_reader.specs.declared.node.Brief.{Brief}
-use Rattle.table_reader.specs.declared.node.Stamp.{Stamp}
+use Rattle.table_reader.specs.declared.stamp.Stamp.{Stamp}
+use Rattle.whiteout_tree.specs.declared.place.Place.{Place}
 use Rattle.table_reader.specs.declared.directory.Directory.{Directory}
 use Rattle.name_lookup.specs.Keyed.{AreKeyed}
 use Rattle.name_lookup.specs.Noted.{IsNoted}
 use Rattle.table_reader.specs.Rows.{names}
+use Rattle.table_reader.specs.Stamps.{held_at}
 use Rattle.table_reader.specs.Directories.{HeldDirectories}
 use Rattle.table_reader.specs.Readers.{placed, rows_of, HoldsData}
-
--- what is held of a number, counted from 1
-abbrev pub held_at : {A : Type 0} → List A → ℕ → Option A
-held_at held zero = None
-held_at held (suc k) = slice_get held k
 
 -- what is held of a node that is a directory
 abbrev pub kept_of : HeldDirectories → Node → Option Directory
@@ -37,14 +34,13 @@ directory_held held directories n = option_and_then (kept_of directories) (held_
 abbrev pub row_held : List (List AttributeRow) → Node → Option AttributeRow
 row_held rows node = row_in rows (placed node.place)
 
--- in brief the attributes of a node that has this row or none, and its layer
+-- in brief the attributes of a node that has this row or none
 abbrev pub brief_by : Option AttributeRow → Node → Brief
 brief_by row node = record {
   size = node.part.len;
   nlink = node.nlink;
   rdev = node.rdev;
   mode = mode_by row node.mode;
-  layer = node.place.layer;
 }
 
 -- whose the node of a row is, and when it was changed; without a row it is this owner's
@@ -60,26 +56,24 @@ stamp_by given owner = record {
 abbrev pub briefs_of : List (List AttributeRow) → List Node → List Brief
 briefs_of rows held = map (λ node. brief_by (row_held rows node) node) held
 
--- where the node's row stands among those of its layer, counted from 0, if it has one
-abbrev pub position_held : List (List AttributeRow) → Node → Option ℕ
-position_held rows node =
-    position_at (slice_index_or rows node.place.layer []) node.place.header
+-- where the row of a place stands among those of its layer, counted from 0, if there is one
+abbrev pub position_held : List (List AttributeRow) → Place → Option ℕ
+position_held rows place = position_at (slice_index_or rows place.layer []) place.header
 
--- the same, counted from 1; 0 where it has none
-abbrev pub row_number : List (List AttributeRow) → Node → ℕ
-row_number rows node = option_map_or (λ k. k + 1) (position_held rows node) 0
+-- any layer has a row
+abbrev pub have_rows : List (List AttributeRow) → Bool
+have_rows rows = list_any (λ of_layer. not (nat_eq (length of_layer) 0)) rows
 
--- the row numbers of nodes, where any of them has a row; else nothing
-abbrev pub row_numbers_of : List (List AttributeRow) → List Node → List ℕ
-row_numbers_of rows held =
-    if list_any (λ node. is_some (row_held rows node)) held
-    then map (row_number rows) held
-    else []
+-- the stamp of the node with a number; the owner's where none is held
+abbrev pub stamp_held : List Stamp → Owner → ℕ → Stamp
+stamp_held stamps owner n = unwrap_or (held_at stamps n) (stamp_by None owner)
 
--- the row of the node with a number, among those of its layer: the one that its row number tells
-abbrev pub row_told : List (List AttributeRow) → List ℕ → ℕ → ℕ → Option AttributeRow
-row_told rows row_numbers layer n =
-    option_and_then (held_at (slice_index_or rows layer [])) (held_at row_numbers n)
+-- each node's stamp is held of its number, and no stamp where no layer has a row
+pub record AreStampsOf (rows : List (List AttributeRow)) (owner : Owner) (held : List Node)
+    (stamps : List Stamp) : Type 0 where
+  pub each : (n : ℕ) (node : Node) → held_at held n ≡ Some node
+      → stamp_held stamps owner n ≡ stamp_by (row_held rows node) owner
+  pub none : have_rows rows ≡ false → stamps ≡ []
 
 -- the attributes of the node with a number
 abbrev pub attr_held : ℕ → Brief → Stamp → Attr
@@ -98,7 +92,7 @@ attr_held n brief stamp = record {
 
 -- a directory holds the number of the one above, and its rows with their keys
 pub record IsHeldDirectory (stack : Stacked) (held : HeldDirectories) (directory : Directory)
-    (p : Place) : Type 0 where
+    (p : ModelPlace) : Type 0 where
   pub parent_is : directory.parent ≡ number stack.entries (parent stack.entries p)
   pub start : directory.rows_start ≤ directory.rows_end
   pub end : directory.rows_end ≤ length held.rows
@@ -109,14 +103,14 @@ pub record IsHeldDirectory (stack : Stacked) (held : HeldDirectories) (directory
       (names (slice_range held.rows directory.rows_start directory.rows_end))
 
 -- the directory of this node is held, and is the place's
-pub record HoldsDirectory (stack : Stacked) (held : HeldDirectories) (node : Node) (p : Place)
+pub record HoldsDirectory (stack : Stacked) (held : HeldDirectories) (node : Node) (p : ModelPlace)
     : Type 0 where
   pub directory : Directory
   pub is : slice_get held.all node.directory ≡ Some directory
   pub holds : IsHeldDirectory stack held directory p
 
 -- the node holds what the definitions say of its place
-pub record IsNode (stack : Stacked) (directories : HeldDirectories) (node : Node) (p : Place)
+pub record IsNode (stack : Stacked) (directories : HeldDirectories) (node : Node) (p : ModelPlace)
     : Type 0 where
   pub place : placed node.place ≡ p
   pub holds : HoldsData stack.layers node.place.layer node p
@@ -133,7 +127,7 @@ pub record AreNodes (stack : Stacked) (held : List Node) (directories : HeldDire
     : Type 0 where
   pub level : length held ≡ length (nodes stack.entries)
   pub keys_level : length directories.keys ≡ length directories.rows
-  pub each : (k : ℕ) (node : Node) (p : Place) → slice_get held k ≡ Some node
+  pub each : (k : ℕ) (node : Node) (p : ModelPlace) → slice_get held k ≡ Some node
       → slice_get (nodes stack.entries) k ≡ Some p → IsNode stack directories node p
 
 -- a table of the stack's layers and their listing. The nodes say what headers do, whatever rows
@@ -156,12 +150,12 @@ pub record AreNotedUpTo (held : List Node) (directories : HeldDirectories) (filt
       → All (IsNoted filter n) (slice_range directories.keys d.rows_start d.rows_end)
 
 -- what a table holds: the attributes of its nodes are held once more, with the modes that rows say;
--- of each node it is held where its row stands; and all keys are noted
-pub record IsHeld (stack : Stacked) (held : List Node) (briefs : List Brief) (row_numbers : List ℕ)
+-- the stamps are those of its nodes; and all keys are noted
+pub record IsHeld (stack : Stacked) (held : List Node) (briefs : List Brief) (stamps : List Stamp)
     (directories : HeldDirectories) (filter : List Bool) (blocks : ℕ) : Type 0 where
   pub table : IsTable stack held directories blocks
   pub briefs_are : briefs ≡ briefs_of stack.rows held
-  pub row_numbers_are : row_numbers ≡ row_numbers_of stack.rows held
+  pub stamps_are : AreStampsOf stack.rows stack.owner held stamps
   pub noted : AreNotedUpTo held directories filter (length held)
 
 -- some listing of the layers makes it a table

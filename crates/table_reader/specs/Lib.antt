@@ -3,4 +3,5 @@ pub mod Stacked
 pub mod Rows
 pub mod Directories
 pub mod Readers
+pub mod Stamps
 pub mod Held

@@ -4,10 +4,14 @@
 //! A [`Table`] stands for a stack: its layers, and the listing of the paths that they show. Each
 //! reader answers by the definitions of `stack_model`, as `specs/Readers.antt` puts them together,
 //! for every number up to 2^64 - 1, and takes no memory. What the table's parts have to say of the
-//! listing is its invariant (`specs/Held.antt`). `node_table` makes them: the crates are two, so
-//! that what answers from a table is proved beside its making, and not after it. The crate stands
-//! on `whiteout_tree` for places, on `romfs_reader` for images, on `attribute_rows` for rows of
-//! attributes and on `name_lookup` for look-ups.
+//! listing is its invariant (`specs/Held.antt`). Rows of attributes are given as `attribute_rows`
+//! reads them, and held otherwise: owners and times by the numbers of nodes, 20 bytes each, and 12
+//! bytes a row that tell the rest (`specs/Stamps.antt`).
+//!
+//! `node_table` makes tables: the crates are two, so that what answers from a table is proved
+//! beside its making, and not after it. The crate stands on `whiteout_tree` for places, on
+//! `romfs_reader` for images, on `attribute_rows` for rows of attributes and on `name_lookup` for
+//! look-ups.
 #![tactic(auto)]
 
 mod attributes;
@@ -17,6 +21,10 @@ mod layers;
 mod lookup;
 mod node;
 mod row;
+mod slim_row;
+mod slim_rows;
+mod stamp;
+mod stamped_rows;
 mod table;
 
 pub use attribute_rows::Rows;

@@ -4,18 +4,18 @@ ghost use Rattle.std.specs.Prelude.{◌≡◌, ◌≤◌, ◌+◌, ◌*◌, ⊤,
 ghost use Rattle.name_lookup.specs.Names.{Rise, place_of};
 ghost use Rattle.name_lookup.specs.Keyed.{AreKeyed};
 ghost use Rattle.name_lookup.specs.Noted.{IsNoted};
-ghost use Rattle.table_reader.specs.Held.{attr_held, row_told, held_at, directory_held};
+ghost use Rattle.table_reader.specs.Held.{attr_held, directory_held};
 ghost use Rattle.table_reader.specs.Held.{HaveKeys, AreNotedUpTo};
 ghost use Rattle.table_reader.specs.Rows.{names};
+ghost use Rattle.table_reader.specs.Stamps.{held_at};
 
 use crate::directory::{Directories, Directory};
 use crate::guess::Guess;
-use crate::node::{Brief, Node, Stamp};
+use crate::node::{Brief, Node};
 use crate::row::Row;
-use attribute_rows::Rows;
+use crate::stamp::Stamp;
 use name_lookup::{Guesses, KeyFilter, find};
 use node_attr::Attr;
-use romfs_format::AttributeRow;
 use romfs_reader::Kind;
 use std::alloc::{AllocError, Allocator};
 
@@ -36,30 +36,6 @@ pub(crate) fn numbered<T>(all: &[T], number: u64) -> Option<&T>
         return None;
     }
     all.get((number - 1) as usize)
-}
-
-// The row of the node with this number, which is in this layer: the one that its row number tells.
-pub(crate) fn row_told<A: Allocator>(
-    rows: &[Rows<A>],
-    row_numbers: &[u32],
-    layer: u16,
-    number: u64,
-) -> Option<AttributeRow>
-    ensures { result ≡ row_told rows.now row_numbers.now layer number }
-{
-    let row_number = *numbered(row_numbers, number)?;
-    let of_layer = rows.get(layer as usize)?;
-    row_numbered(of_layer, row_number)
-}
-
-// The row with this number among those of a layer, counted from 1.
-fn row_numbered<A: Allocator>(rows: &Rows<A>, row_number: u32) -> Option<AttributeRow>
-    ensures { result ≡ held_at rows.now row_number }
-{
-    if row_number == 0 {
-        return None;
-    }
-    rows.get(row_number - 1)
 }
 
 // The attributes of a node with this number, which has these in brief, and this stamp.

@@ -22,23 +22,13 @@ pub struct Node {
     pub directory: usize,
 }
 
-/// The attributes of a node but for its number and its [`Stamp`], in 16 bytes: four nodes' lie in a
+/// The attributes of a node but for its number and its `Stamp`, in 16 bytes: four nodes' lie in a
 /// line of the processor's cache, where requests for attributes in any order find more of them than
-/// of nodes. The mode is the row's, where there is one; the row is among those of the layer.
+/// of nodes. The mode is the row's, where there is one.
 #[derive(Clone, Copy, Debug)]
 pub(crate) struct Brief {
     pub(crate) size: u32,
     pub(crate) nlink: u32,
     pub(crate) rdev: u32,
     pub(crate) mode: u16,
-    pub(crate) layer: u16,
-}
-
-/// Whose a node is, and when it was changed last. No table holds it: the node's row says it.
-#[derive(Clone, Copy, Debug)]
-pub(crate) struct Stamp {
-    pub(crate) seconds: u64,
-    pub(crate) nanoseconds: u32,
-    pub(crate) uid: u32,
-    pub(crate) gid: u32,
 }

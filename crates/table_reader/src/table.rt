@@ -8,16 +8,14 @@ ghost use Rattle.table_reader.specs.Stacked.{Listed, listed_once, IsTableWith};
 ghost use Rattle.table_reader.specs.Held.{IsSomeTable};
 ghost use Rattle.table_reader.specs.Readers.{TellsNode, attr_at, parent_at, child_at, rows_at, data_of_number};
 
-use crate::attributes::{Attributes, briefs_of, row_numbers_of, stamp_by};
+use crate::attributes::{Attributes, briefs_of};
 use crate::directory::{Directories, Directory};
 use crate::guess::Guess;
 use crate::layers::Layers;
-use crate::lookup::{
-    Hints, attr_of, directory_at, hints_of, node_at, numbered, place_of, row_told,
-};
+use crate::lookup::{Hints, attr_of, directory_at, hints_of, node_at, numbered, place_of};
 use crate::node::{Brief, Node};
 use crate::row::Row;
-use attribute_rows::Rows;
+use crate::stamped_rows::StampedRows;
 use node_attr::{Attr, Owner};
 use std::alloc::{AllocError, Allocator, Global};
 use std::marker::Model;
@@ -25,10 +23,11 @@ use std::marker::Model;
 /// The nodes of a stack of layers, by number: attributes, rows and data.
 ///
 /// A clause sees the layers, their listing, the layers' rows of attributes, whom nodes without a
-/// row belong to, and whether the images are held whole. Each node and row takes at most 113 bytes beside a name of more than 22 (16 of
-/// them for guesses of where names stand), a directory 32 more, and each node 4 more where any has
-/// a row of attributes, beside the 28 of the row. No reader takes memory, and each answers for
-/// every number: 1 is the root, and a number that is not in use has nothing.
+/// row belong to, and whether the images are held whole. Each node and row takes at most 113 bytes
+/// beside a name of more than 22 (16 of them for guesses of where names stand), and a directory 32
+/// more. Where any layer has a row of attributes, each node takes 20 more, and each such row 12, or
+/// 32 where it belongs to no node. No reader takes memory, and each answers for every number: 1 is
+/// the root, and a number that is not in use has nothing.
 ///
 /// ```text
 /// if let Some(number) = table.child(1, b"etc") {
@@ -42,19 +41,16 @@ use std::marker::Model;
 /// together; beside each row lies the key by which its name is found (`name_lookup`), where a guess
 /// does not tell the row. A node keeps where its data lie, so no answer parses a header, and only a
 /// directory keeps more: where its rows lie, and which directory is above. Attributes lie once more
-/// in a list of their own, since most requests ask for nothing else of a node. Rows of attributes
-/// are sought once, when the table is made: a node keeps where its own stands.
+/// in a list of their own, since most requests ask for nothing else of a node; owners and times in
+/// another, where any layer has a row of attributes. Rows are sought once, when the table is made.
 #[derive(Drop)]
 pub struct Table<A: Allocator> {
     layers: Layers<A>,
     nodes: Vec<Node, A>,
     // The attributes of the nodes, in the same order.
     briefs: Vec<Brief, A>,
-    // Where the row of attributes of each node stands among those of its layer, counted from 1, in
-    // the same order; 0 without one. Empty where no node has a row.
-    row_numbers: Vec<u32, A>,
-    // The rows of attributes of each layer.
-    rows: Vec<Rows<A>, A>,
+    // The rows of attributes of each layer, and whose the nodes are, in the same order.
+    rows: StampedRows<A>,
     owner: Owner,
     directories: Directories<A>,
     hints: Hints<A>,
@@ -79,7 +75,7 @@ impl<A: Allocator> Model for Table<A> {
     ghost view = { λ held. record {
       layers = held.layers.all;
       entries = held.listing.0;
-      rows = held.rows.items;
+      rows = held.rows.rows;
       owner = held.owner;
       whole = held.layers.whole;
     } };
@@ -89,11 +85,11 @@ impl<A: Allocator> Model for Table<A> {
         (record {
           layers = held.layers.all;
           entries = held.listing.0;
-          rows = held.rows.items;
+          rows = held.rows.rows;
           owner = held.owner;
           whole = held.layers.whole;
         })
-        held.nodes.items held.briefs.items held.row_numbers.items held.directories
+        held.nodes.items held.briefs.items held.rows.stamps held.directories
         held.hints.filter held.blocks };
 }
 
@@ -117,12 +113,11 @@ impl<A: Allocator + Copy> Table<A> {
         let hints = hints_of(alloc, &nodes, &directories)?;
         let Attributes { rows, owner } = attributes;
         let briefs = briefs_of(alloc, &nodes, &rows)?;
-        let row_numbers = row_numbers_of(alloc, &nodes, &rows)?;
+        let rows = StampedRows::of(alloc, &rows, &nodes, owner)?;
         Ok(Table {
             layers,
             nodes,
             briefs,
-            row_numbers,
             rows,
             owner,
             directories,
@@ -228,8 +223,8 @@ impl<A: Allocator> Table<A> {
         ensures { result ≡ attr_at self.now number }
     {
         let brief = numbered(&self.briefs, number)?;
-        let row = row_told(&self.rows, &self.row_numbers, brief.layer, number);
-        Some(attr_of(number, brief, stamp_by(row, self.owner)))
+        let stamp = self.rows.stamp(number, self.owner);
+        Some(attr_of(number, brief, stamp))
     }
 
     /// The data of a regular file, or the target of a symbolic link; empty where the number is

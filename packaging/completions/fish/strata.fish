@@ -10,6 +10,7 @@ complete -c strata -n "__fish_seen_subcommand_from $commands" -l strict -d 'Ask 
 complete -c strata -n "__fish_seen_subcommand_from $commands" -l attributes -d 'Read modes, owners and times behind images'
 complete -c strata -n "__fish_seen_subcommand_from $commands" -l whole -d 'Read images whole into memory'
 complete -c strata -n "__fish_seen_subcommand_from serve socket" -l owner -x -d 'Whose files are of which no image says it'
+complete -c strata -n "__fish_seen_subcommand_from serve socket" -l in-files -d 'Leave images in their files'
 complete -c strata -n "__fish_seen_subcommand_from serve socket" -l workers -x -d 'At most N workers'
 complete -c strata -n "__fish_seen_subcommand_from serve socket" -l batch -x -d 'At most N requests a batch'
 complete -c strata -n "__fish_seen_subcommand_from serve socket" -l lasting -d 'Tell the client that nothing changes'

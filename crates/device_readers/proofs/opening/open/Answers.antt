@@ -1,7 +1,5 @@
-use Rattle.std.proofs.Common.{rules, ◌≡◌, ◌∙◌, ap, map, List, Ok, Err, IfOk}
+use Rattle.std.proofs.Common.{rules, ◌≡◌, Ok, Err, IfOk}
 use Rattle.devices.specs.States.{devices}
-use Rattle.stack_model.specs.Listing.{Stacked}
-use Rattle.reply_model.specs.Readings.{sourced}
 use Rattle.fuse_answer.specs.Puts.{sourced_by}
 use Rattle.reply_pool.specs.Spread.{SpreadsFrom}
 use Rattle.serve_core.proofs.Headline.{spread_answers}

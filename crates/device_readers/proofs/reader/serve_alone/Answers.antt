@@ -4,5 +4,6 @@ use Rattle.device_readers.proofs.reader.serve_alone.Goals as goal
 
 pub returns-in-Err : goal.returns-in-Err
 returns-in-Err g c =
-    roomless {A = g.row.A.Denot} c.args.terms.now.first (sourced_by g.D.Contents.source c.args.served) c.args.terms.now.turns c.ended_alone.result
+    let by = sourced_by g.D.Contents.source c.args.served in
+    roomless {A = g.row.A.Denot} c.args.terms.now.first by c.args.terms.now.turns c.ended_alone.result
     c.ended_alone.ensures.end c.ended_alone.ensures.done

@@ -7,6 +7,7 @@ pub returns : goal.returns
 returns g c =
     let old = (ends g.I.Read.remaining c.args.input.now c.args.output.now).devices in
     let new = (ends g.I.Read.remaining c.run_from-ended.new.source c.run_from-ended.new.sink).devices in
-    by_devices {A = g.row.A.Denot} c.args.terms.now.first (sourced_by g.D.Contents.source c.args.served) c.args.terms.now.turns c.run_from-ended.result old new
+    let by = sourced_by g.D.Contents.source c.args.served in
+    by_devices {A = g.row.A.Denot} c.args.terms.now.first by c.args.terms.now.turns c.run_from-ended.result old new
     c.is_gone-input_gone.result c.is_gone-output_gone.result c.ended_alone.result c.run_from-ended.ensures.run
     c.is_gone-input_gone.ensures.failed c.is_gone-output_gone.ensures.failed c.ended_alone.ensures.end c.ended_alone.ensures.done

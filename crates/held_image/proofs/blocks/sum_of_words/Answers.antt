@@ -6,8 +6,8 @@ use Rattle.held_image.proofs.blocks.sum_of_words.Goals as goal
 
 pub loop-done-preserved : goal.loop-done-preserved
 loop-done-preserved c =
-    let a = filled c.args.size c.args.blocks.now c.args.bytes.now in
-    let e = filled_long c.args.size c.args.blocks.now c.args.bytes.now in
+    let a = filled c.args.size c.args.blocks.now.all.now c.args.bytes.now in
+    let e = filled_long c.args.size c.args.blocks.now.all.now c.args.bytes.now in
     record {
       within = omega arith;
       sum = sum_goes_on a c.args.at c.args.len (omega arith) _ _ _ (omega arith) (omega arith) c.loop-done.invariant.sum;
@@ -15,6 +15,6 @@ loop-done-preserved c =
 
 pub returns : goal.returns
 returns c =
-    let a = filled c.args.size c.args.blocks.now c.args.bytes.now in
-    let e = filled_long c.args.size c.args.blocks.now c.args.bytes.now in
+    let a = filled c.args.size c.args.blocks.now.all.now c.args.bytes.now in
+    let e = filled_long c.args.size c.args.blocks.now.all.now c.args.bytes.now in
     sum_ends a c.args.at c.args.len (omega arith) _ _ (omega arith) (omega arith) (omega arith) c.loop-done.invariant.sum

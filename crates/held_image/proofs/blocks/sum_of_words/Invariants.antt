@@ -7,8 +7,8 @@ use Rattle.held_image.proofs.blocks.sum_of_words.Given as goal
 abbrev pub invariant-loop-done : goal.invariant-loop-done
 invariant-loop-done l = record {
   within : l.done ≤ l.len;
-  sum : (l.sum + word_sum (drop l.done (take l.len (drop l.at (filled l.size l.blocks l.bytes))))) % 2 ^ 32
-      ≡ word_sum (take l.len (drop l.at (filled l.size l.blocks l.bytes))) % 2 ^ 32;
+  sum : (l.sum + word_sum (drop l.done (take l.len (drop l.at (filled l.size l.blocks.all.now l.bytes))))) % 2 ^ 32
+      ≡ word_sum (take l.len (drop l.at (filled l.size l.blocks.all.now l.bytes))) % 2 ^ 32;
 }
 
 -- how many bytes are left

@@ -1,4 +1,4 @@
-use Rattle.std.proofs.Common.{subst, arith, ◌+◌, ◌/◌}
+use Rattle.std.proofs.Common.{subst, arith, ◌∙◌, ◌+◌, ◌/◌}
 use Rattle.held_image.specs.Blocks.{IsRank}
 use Rattle.held_image.proofs.Rows.{cut_is}
 use Rattle.held_image.proofs.kept.cut.Goals as goal
@@ -6,5 +6,5 @@ use Rattle.held_image.proofs.kept.cut.Goals as goal
 pub returns : goal.returns
 returns g c = rw (c.truncate.ensures.items, c.truncate-2.ensures.items)
     (cut_is c.args.blocks.now.items c.args.bytes.now.items c.requires ((c.from.result + 15) / 16) c.rank-count.result
-    (subst (λ b. IsRank b ((c.from.result + 15) / 16) c.rank-count.result) c.deref.ensures.value c.rank-count.ensures)
+    (subst (λ b. IsRank b ((c.from.result + 15) / 16) c.rank-count.result) (c.beside.ensures ∙ c.deref.ensures.value) c.rank-count.ensures)
     c.args.size (omega (arith, c.from.ensures)))

@@ -6,6 +6,7 @@ use Rattle.strata.proofs.images.open_all.Goals as goal
 pub returns-clause-sources : goal.returns-clause-sources
 returns-clause-sources g c =
     let images = c.in_ok-images-2.images.items in
-    are_sources c.args.line.now images c.in_ok-kept.kept c.in_ok-kept.files c.if-line.false
+    are_sources c.args.line.now images c.in_ok-kept.kept c.in_ok-kept.files c.are_read_whole.result c.if-are_read_whole.false
+    c.are_read_whole.ensures.asked
     (subst (λ t. All (λ (image : Opened). image.trailers ≡ t) images) c.trailers_of.ensures c.in_ok-images-2.ensures.trailers)
     c.in_ok-kept.ensures

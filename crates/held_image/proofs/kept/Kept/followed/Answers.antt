@@ -3,10 +3,10 @@ use Rattle.held_image.specs.Blocks.{HasNumbers, IsFollowed, filled}
 use Rattle.held_image.proofs.Fronts.{filled_long}
 use Rattle.held_image.proofs.Rows.{followed_kept, followed_below, followed_filled}
 use Rattle.held_image.proofs.kept.Kept.followed.Given.{Over}
-use Rattle.held_image.proofs.kept.Kept.followed.Goals.{In_ok-add_padded}
+use Rattle.held_image.proofs.kept.Kept.followed.Goals.{In_ok-note}
 use Rattle.held_image.proofs.kept.Kept.followed.Goals as goal
 
-module _ (g : Over) (c : In_ok-add_padded g) where
+module _ (g : Over) (c : In_ok-note g) where
   behind : c.self.inside.size ≤ c.args.at
   behind =
       let v = ap length c.self.view_is in

@@ -15,8 +15,9 @@ invariant_of-result-2 g c =
     (ap (λ x. x.0) (listed_once c.args.layers.all mine c.result-1.given.0)) c.requires.1 in
     record {
       table = record { listing = table.listing; are = table.are; blocks_are = table.blocks_are };
-      briefs_are = rw (c.deref-2.ensures.value, c.deref-3.ensures.value) at c.in_ok-briefs.ensures;
-      row_numbers_are = rw (c.deref-4.ensures.value, c.deref-5.ensures.value) at c.in_ok-row_numbers.ensures;
+      briefs_are = rw (c.deref-2.ensures.value, c.deref-3.ensures.value, ← c.deref-4.ensures.value, ← c.in_ok-rows.ensures.rows)
+          at c.in_ok-briefs.ensures;
+      stamps_are = rw (c.deref-5.ensures.value, ← c.in_ok-rows.ensures.rows) at c.in_ok-rows.ensures.stamps;
       noted = rw c.deref.ensures.value at c.in_ok-hints.ensures.noted;
     }
 
@@ -25,7 +26,7 @@ returns-clause-stack g c =
     let mine : Listed c.args.layers.all = (c.requires.0, ∣ c.requires.1.listing ∣₁) in
     record {
       layers_are = refl;
-      rows_are = refl;
+      rows_are = rw c.deref-4.ensures.value at c.in_ok-rows.ensures.rows;
       owner_is = refl;
       listing = subst (λ (e : List Entry). IsListing c.args.layers.all e)
           (ap (λ x. x.0) (listed_once c.args.layers.all mine c.result-1.given.0)) c.requires.1.listing;

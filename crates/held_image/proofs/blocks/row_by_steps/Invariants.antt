@@ -1,5 +1,5 @@
 use Rattle.std.proofs.Common.{◌≡◌, ◌≤◌, ◌<◌, ◌+◌, ◌-◌, ℕ, length, get_or}
-use Rattle.held_image.proofs.blocks.row.Given as goal
+use Rattle.held_image.proofs.blocks.row_by_steps.Given as goal
 
 -- the blocks so far rise by one
 abbrev pub invariant-loop-count : goal.invariant-loop-count

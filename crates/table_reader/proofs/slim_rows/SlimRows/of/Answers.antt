@@ -1,0 +1,15 @@
+use Rattle.std.proofs.Common.{sym, ◌<◌, length, arith}
+use Rattle.table_reader.specs.Stamps.{slim_of}
+use Rattle.table_reader.proofs.Stamps.{mapped_more, stands}
+use Rattle.table_reader.proofs.slim_rows.SlimRows.of.Goals as goal
+use Rattle.table_reader.proofs.slim_rows.SlimRows.of.Goals.{in-Some+in_ok-push, in_default}
+
+pub loop-position-preserved : goal.loop-position-preserved
+loop-position-preserved g c =
+    let level = c.in_ok-count.ensures in
+    let within : c.loop-position.position < length c.args.rows.now = omega arith in
+    elim c.match-get.branch [
+      | in-Some+in_ok-push w ↦ rw (w.slims-is, w.in_ok-push.ensures.items, w.of.ensures, c.loop-position.invariant)
+          (sym (mapped_more slim_of c.args.rows.now c.loop-position.position w.in-Some.row (sym w.in-Some.ensures.value)))
+      | in_default w ↦ absurd (stands c.args.rows.now c.loop-position.position within (sym w.in_default.ensures.value))
+    ]

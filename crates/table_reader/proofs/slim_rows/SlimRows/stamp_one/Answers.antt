@@ -1,0 +1,37 @@
+use Rattle.std.proofs.Common.{◌∙◌, ◌≢◌, ◌+◌, Some, sym, ap, arith}
+use Rattle.table_reader.specs.Stamps.{stamped, AreFirst, AreSlim, HasStamp, Keeps}
+use Rattle.table_reader.proofs.Stamps.{are_still, first_set, held_last, keeps_push, once_set, row_set}
+use Rattle.table_reader.proofs.slim_rows.SlimRows.stamp_one.Goals as goal
+
+pub returns-clause-slim : goal.returns-clause-slim
+returns-clause-slim g c =
+    let old = c.args.stamps.now.items in
+    let new = c.push.new.self.items in
+    let rows = c.args.rows.now in
+    let slims = c.args.self.now in
+    let push = c.in_ok-push.ensures.items in
+    let stamp = ap Some (c.of.ensures ∙ c.stamp_of.ensures) in
+    let number = c.len.ensures ∙ c.push.new.self.ok.0 in
+    let still = are_still old new (keeps_push old new c.of.result push) rows slims c.requires.slim in
+    once_set c.set_stamp.result c.len.result c.args.position slims c.set_stamp.new.self (AreSlim new rows c.set_stamp.new.self)
+    (λ s. row_set new rows slims c.set_stamp.new.self c.in-Some.row c.len.result c.args.position still (sym c.in-Some.ensures.value)
+    (held_last old new c.of.result c.len.result push number ∙ stamp) s) c.set_stamp.ensures
+
+pub returns-clause-have : goal.returns-clause-have
+returns-clause-have g c =
+    let at = c.args.position in
+    let slims = c.args.self.now in
+    let new = c.set_stamp.new.self in
+    let len = c.in_ok-push.ensures.len in
+    let number = c.len.ensures in
+    let some : c.len.result ≢ 0 = λ e. absurd (omega arith) in
+    once_set c.set_stamp.result c.len.result at slims new (AreFirst HasStamp slims at → AreFirst HasStamp new (at + 1))
+    (λ s f. rw s.is (first_set HasStamp slims at (stamped c.len.result s.slim) f some)) c.set_stamp.ensures
+
+pub returns-clause-keeps : goal.returns-clause-keeps
+returns-clause-keeps g c =
+    let old = c.args.stamps.now.items in
+    let new = c.push.new.self.items in
+    let keeps = keeps_push old new c.of.result c.in_ok-push.ensures.items in
+    once_set c.set_stamp.result c.len.result c.args.position c.args.self.now c.set_stamp.new.self (Keeps old new)
+    (λ s. keeps) c.set_stamp.ensures
