@@ -9,7 +9,8 @@ class Below:
     """Layers, the lowest first, as they are added."""
 
     def __init__(self):
-        self.images, self.found = [], {(): []}
+        # the folders at a path, and at each path above it
+        self.images, self.path, self.found = [], (), [[]]
 
     def add(self, number):
         """Adds the layer in an open file. One that is broken, which no mount takes, shows nothing."""
@@ -17,21 +18,31 @@ class Below:
             self.images.append(ReadImage(number))
         except Refused:
             pass
-        self.found = {(): [(image, image.root) for image in reversed(self.images)]}
+        self.path, self.found = (), [[(image, image.root) for image in reversed(self.images)]]
 
     def folders(self, path):
-        """The folders that lie on one another at a path, the uppermost first; none where no folder is shown there."""
-        depth = len(path)
-        while path[:depth] not in self.found:
-            depth -= 1
-        for end in range(depth, len(path)):
-            self.found[path[:end + 1]] = below(self.found[path[:end]], path[end])
-        return self.found[path]
+        """The folders that lie on one another at a path, the uppermost first; none where no folder is shown there. It goes
+        on from the path that was asked for before."""
+        same = common(path, self.path)
+        del self.found[same + 1:]
+        for name in path[same:]:
+            self.found.append(below(self.found[-1], name))
+        self.path = path
+        return self.found[-1]
 
     def said(self, path):
         """What a row says of the folder that is shown at a path, or None."""
         folders = self.folders(path)
         return folders[0][0].said(folders[0][1]) if folders else None
+
+
+def common(path, other):
+    """How many names two paths begin with alike. Paths may be deep, and many have most of their names in common."""
+    low, high = 0, min(len(path), len(other))
+    while low < high:
+        middle = (low + high + 1) // 2
+        low, high = (middle, high) if path[low:middle] == other[low:middle] else (low, middle - 1)
+    return low
 
 
 def below(folders, name):
@@ -51,14 +62,22 @@ def below(folders, name):
 def implied(root):
     """The folders of a layer, as romfs.Image has them, that no entry said anything of and that layers below may show, each
     with its path."""
-    todo = [((), root)]
+    path, todo = [], [iter([(None, root)])]
     while todo:
-        path, folder = todo.pop()
-        if folder.said is None:
-            yield path, folder
-        if OPAQUE in folder.members:
+        name, folder = next(todo[-1], (None, None))
+        if folder is None:
+            todo.pop()
+            del path[-1:]
             continue
-        for name, it in folder.members.items():
-            is_folder = getattr(it, "members", None) is not None
-            if is_folder and not name.startswith(MARKER) and MARKER + name not in folder.members:
-                todo.append(((*path, name), it))
+        path += [name] * (folder is not root)
+        if folder.said is None:
+            yield tuple(path), folder
+        todo.append(iter(shown_folders(folder)))
+
+
+def shown_folders(folder):
+    """The folders in a folder of a layer below which other layers may show something, with their names."""
+    if OPAQUE in folder.members:
+        return []
+    return [(name, it) for name, it in folder.members.items() if getattr(it, "members", None) is not None
+            and not name.startswith(MARKER) and MARKER + name not in folder.members]

@@ -9,6 +9,7 @@ import ctypes
 import hashlib
 import os
 import re
+import resource
 import secrets
 import shutil
 import signal
@@ -23,6 +24,8 @@ from refused import Refused, shown
 TRANSPORT = "docker://"
 TAG = "pulled"
 PR_SET_PDEATHSIG = 1
+# files that are no blobs
+OWN_MOST = 1 << 28
 MESSAGE = re.compile(r'level=fatal msg="((?:[^"\\]|\\.)*)"')
 libc = ctypes.CDLL(None)
 
@@ -32,22 +35,35 @@ def end_with_parent():
     libc.prctl(PR_SET_PDEATHSIG, signal.SIGKILL)
 
 
-def skopeo(*words):
+def skopeo(*words, folder=None, most=resource.RLIM_INFINITY):
     """What skopeo prints; Refused with what it says where it fails. On a terminal it tells what it
-    does."""
+    does. It writes in a folder, and no file of it is larger than the most, whatever a registry
+    sends."""
     program = shutil.which("skopeo")
     if program is None:
         raise Refused("docker:// needs the program skopeo")
     is_shown = words[0] == "copy" and sys.stderr is not None and sys.stderr.isatty()
     done = subprocess.run([program, *words], stdin=subprocess.DEVNULL, stderr=subprocess.PIPE,
                           stdout=sys.stderr if is_shown else subprocess.PIPE,
-                          preexec_fn=end_with_parent, check=False)
+                          preexec_fn=lambda: (end_with_parent(), bound_files(most)), cwd=folder, check=False)
     if done.returncode != 0:
         said = done.stderr.decode(errors="replace").strip()
         found = MESSAGE.search(said)
         said = found[1].replace('\\"', '"') if found else " ".join(said.split())
         raise Refused("skopeo: %s" % (said or "status %d" % done.returncode))
     return done.stdout
+
+
+def bound_files(most):
+    """Lets a process write no file that is larger."""
+    limits = [it for it in (most, *resource.getrlimit(resource.RLIMIT_FSIZE)) if it >= 0]
+    if limits:
+        resource.setrlimit(resource.RLIMIT_FSIZE, (min(limits), min(limits)))
+
+
+def largest(manifest, where):
+    """The size of the largest file that skopeo may write for an image; it has files of its own, too."""
+    return max(OWN_MOST, *(it.size for it in layers_in(manifest, where)))
 
 
 def split_reference(reference):
@@ -101,7 +117,8 @@ def fetched(store, reference, asked, is_known):
                     out.truncate(layer.size)
         with open(os.path.join(folder, "oci-layout"), "wb") as out:
             out.write(json_bytes({"imageLayoutVersion": "1.0.0"}))
-        skopeo("copy", TRANSPORT + it.name + "@" + digest, "oci:%s:%s" % (folder, TAG))
+        # a folder's name with a colon would be another to skopeo
+        skopeo("copy", TRANSPORT + it.name + "@" + digest, "oci:.:" + TAG, folder=folder, most=largest(manifest, where))
         yield Layout(folder), digest
     finally:
         shutil.rmtree(folder, ignore_errors=True)

@@ -60,7 +60,7 @@ class Reading:
         self.rows[at] = said_by(found)
         names = os.listxattr(self.place(path), follow_symlinks=False)
         if names:
-            self.lost.note("attributes", shown(self.place(path)), shown(",".join(sorted(names))))
+            self.lost.note("attributes", shown(self.place(path)), [os.fsencode(name) for name in sorted(names)])
 
 
 def check_behind(number, full):

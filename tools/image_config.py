@@ -10,7 +10,11 @@ NUMBERS = re.compile(r"([0-9]+)(?::([0-9]+))?")
 
 
 def is_text(value):
-    return isinstance(value, str) and "\0" not in value
+    """Whether a word of the system can say it: JSON may name halves of characters, too."""
+    try:
+        return isinstance(value, str) and b"\0" not in value.encode()
+    except UnicodeEncodeError:
+        return False
 
 
 def texts(value, name):

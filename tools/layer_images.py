@@ -13,6 +13,8 @@ VOLUME_NAME_MOST = 127
 # an owner that no number of 32 bits says, as Linux shows one
 NOBODY = 65534
 TIME_LEAST, TIME_MOST = -2 ** 63, 2 ** 63 - 1
+# so many bytes may the paths of folders have that a store notes with a layer
+IMPLIED_MOST = 1 << 22
 
 
 def path_of(name):
@@ -61,7 +63,8 @@ def is_owner(number):
 
 def write_image(out, source, volume_name, note, below):
     """Writes the image of an archive, which lies on the layers `below`; the paths of the folders
-    that it implies without an entry, and that may be shown below."""
+    that it implies without an entry, and that may be shown below, or None where these are very
+    long."""
     image = romfs.Image(out, volume_name)
     for entry in tars.Tar(source).entries():
         path = path_of(entry.name)
@@ -74,11 +77,21 @@ def write_image(out, source, volume_name, note, below):
     # what stands behind the archive says nothing, but a packed one has its own checksum at the end
     while source.read(tars.PIECE):
         pass
-    found = list(implied(image.root))
-    for path, folder in found:
-        folder.said = below.said(path)
+    found = filled(implied(image.root), below)
     image.finish()
-    return [path for path, _ in found]
+    return found
+
+
+def filled(folders, below):
+    """Gives folders that a layer implies the rows that they have in the layers below. Their paths, or None where these
+    are very long together: a few deep entries imply very many."""
+    paths, left = [], IMPLIED_MOST
+    for path, folder in folders:
+        folder.said = below.said(path)
+        left -= sum(map(len, path)) + len(path)
+        if left >= 0:
+            paths.append(path)
+    return paths if left >= 0 else None
 
 
 def write_unpacked(blob, number, descriptor, out, lost, below, unpacked):

@@ -1,9 +1,9 @@
 """The verbs of strata-layers: convert, pull, images, verify, remove, prune, config, attributes."""
 import argparse
 import os
-import sys
 import textwrap
 
+import ends
 from convert import convert
 from folder_attributes import add_attributes
 from image_config import config_lines, sandbox_words
@@ -12,6 +12,7 @@ from lost import Lost
 from open_layout import open_layout
 from packing import PACKINGS
 from pull import pull
+from refused import bytes_of
 from store import Store, default_place
 from store_images import full_name, image_in, remove_image
 from store_upkeep import image_lines, prune, verified
@@ -23,12 +24,12 @@ def platform_asked(text):
 
 
 def print_line(text):
-    sys.stdout.buffer.write(os.fsencode(text) + b"\n")
+    ends.put(bytes_of(text) + b"\n")
 
 
 def told(lost):
     for line in lost.lines():
-        sys.stderr.write(line + "\n")
+        ends.write(line + "\n")
 
 
 def run_convert(asked):

@@ -18,6 +18,7 @@ import secrets
 import shlex
 import signal
 
+import ends
 from below import Below
 from layer_images import write_layer
 from lost import Lost
@@ -86,7 +87,7 @@ def convert(word, path):
 
 
 def say(line):
-    sys.stderr.write(line + "\n")
+    ends.write(line + "\n")
 
 
 def help_text():
@@ -103,13 +104,13 @@ def images_of_layout(words):
     for line in lost.lines():
         say(line)
     line = " ".join([command("mount"), *(shlex.quote(path) for path in paths), "DIR"])
-    sys.stdout.buffer.write(os.fsencode(line) + b"\n")
+    ends.put(os.fsencode(line) + b"\n")
     return 0
 
 
 def run(words):
     if words[:1] == ["--version"]:
-        sys.stdout.write("strata-layers %s\n" % version())
+        ends.put(b"strata-layers %s\n" % version().encode())
         return 0
     if words and words[0] in VERBS:
         import layer_verbs
@@ -121,6 +122,7 @@ def run(words):
 
 
 def main(words):
+    ends.begin()
     # an end by a signal takes away what was begun
     signal.signal(signal.SIGTERM, lambda *_: sys.exit(143))
     try:
@@ -128,7 +130,7 @@ def main(words):
     except Refused as refused:
         say(str(refused))
     except OSError as fault:
-        where = shown(os.fsencode(fault.filename or words[-1]))
+        where = shown(fault.filename if isinstance(fault.filename, (str, bytes)) else words[-1])
         say("%s: %s" % (where, (fault.strerror or str(fault)).lower()))
     except MemoryError:
         # names are held, and a small archive may have very many

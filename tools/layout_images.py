@@ -52,10 +52,11 @@ def image_of(layout, descriptor, asked=None):
 def all_images(layout, tag):
     """The images of all platforms, through nested indexes; what builders attest is left out."""
     todo, where = layout.found(tag)
-    found = []
+    found = {}
     for _ in range(NESTED_MOST + 1):
         images = [it for it in todo if it.media in MANIFESTS and not it.is_note]
-        found += [it for it in images if it not in found]
+        for it in images:
+            found.setdefault((it.digits, it.size, it.media, it.platform, str(it.reference)), it)
         # an index that is named many times is read once
         indexes = {it.digits: it for it in todo if it.media in INDEXES}
         inner = [layout.manifests(*layout.document(it)) for it in indexes.values()]
@@ -64,4 +65,4 @@ def all_images(layout, tag):
             break
     if not found:
         raise Refused("%s: no image" % where)
-    return [image_of(layout, it) for it in found]
+    return [image_of(layout, it) for it in found.values()]

@@ -154,9 +154,10 @@ class LayoutWriter:
                 raise
             value = {"schemaVersion": 2}
         there = value.get("manifests", [])
-        if not has_type(there, list) or not all(has_type(it, dict) for it in there):
+        notes = [it.get("annotations") or {} for it in there if has_type(it, dict)] if has_type(there, list) else [None]
+        if len(notes) != len(there) or not all(has_type(it, dict) for it in notes):
             raise Refused("%s: no good 'manifests'" % name)
-        others = [it for it in there if (it.get("annotations") or {}).get(REFERENCE) != tag]
+        others = [it for it, its_notes in zip(there, notes) if its_notes.get(REFERENCE) != tag]
         named = {**descriptor, "annotations": {REFERENCE: tag}}
         self.write(self.root, "index.json", json_bytes({**value, "manifests": [*others, named]}))
 

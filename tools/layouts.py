@@ -37,6 +37,10 @@ PACKED = {
 DIGESTS = {"sha256": 64, "sha512": 128}
 REFERENCE = "org.opencontainers.image.ref.name"
 JSON_MOST, NESTED_MOST, LAYERS_MOST = 4 << 20, 16, 128
+# so deep may JSON be, and so large a file
+DEPTH_MOST, SIZE_MOST = 100, 2 ** 63 - 1
+# so many names are told
+TOLD_MOST = 20
 # the machines' names as OCI says them, each with its variants, the best one first
 MACHINES = {
     "x86_64": ("amd64", "v1"), "i386": ("386",), "i686": ("386",), "aarch64": ("arm64", "v8"),
@@ -60,11 +64,22 @@ def field(value, name, kind, where, default=None):
     return found
 
 
+def is_shallow(value):
+    """Whether a value can be written as JSON again, by calls within calls."""
+    todo = [value]
+    for _ in range(DEPTH_MOST):
+        inner = [it.values() if has_type(it, dict) else it for it in todo if type(it) in (dict, list)]
+        todo = [below for found in inner for below in found]
+    return not todo
+
+
 def parsed(data, where):
     try:
         value = json.loads(data.decode("utf-8"))
     except (ValueError, RecursionError):
         raise Refused("%s: no JSON" % where) from None
+    if not is_shallow(value):
+        raise Refused("%s: JSON within JSON, more than %d deep" % (where, DEPTH_MOST))
     if not has_type(value, dict):
         raise Refused("%s: no JSON object" % where)
     return value
@@ -77,8 +92,8 @@ def descriptor_of(value, where):
     algorithm, _, digits = digest.partition(":")
     if len(digits) != DIGESTS.get(algorithm) or not re.fullmatch("[0-9a-f]+", digits):
         raise Refused("%s: the digest '%s', where sha256 or sha512 is wanted" % (where, shown(digest)))
-    if size < 0:
-        raise Refused("%s: a size of %d" % (where, size))
+    if not 0 <= size <= SIZE_MOST:
+        raise Refused("%s: a size of %s" % (where, shown(str(size))))
     notes = field(value, "annotations", dict, where, {})
     own = field(value, "platform", dict, where, {})
     words = [own.get(name, "") for name in ("os", "architecture", "variant")]
@@ -127,8 +142,9 @@ class Blob:
         return "blob %s: %d bytes, and its descriptor says %d" % (digest_of(it), size, it.size)
 
     def read(self, size):
+        """At most so many bytes; and no more than one behind those that there should be, if the file grows."""
         try:
-            data = self.file.read(size)
+            data = self.file.read(min(size, self.descriptor.size + 1 - self.count))
         except OSError as fault:
             raise Refused("blob %s: %s" % (digest_of(self.descriptor), os.strerror(fault.errno).lower())) from None
         self.count += len(data)
@@ -173,6 +189,12 @@ def platform_said(text):
     return tuple(parts[1:])
 
 
+def told(names):
+    """Names in one line, in order; the first of them where they are many."""
+    found = sorted(names)
+    return ", ".join(found[:TOLD_MOST]) + ", .." * (len(found) > TOLD_MOST)
+
+
 def chosen(found, where, asked=None):
     """The first manifest that this machine runs, or the only one; where a platform is asked for, the
     first one of it."""
@@ -183,14 +205,14 @@ def chosen(found, where, asked=None):
         return here[0]
     if len(images) == 1 and not (asked and any(images[0].platform)):
         return images[0]
-    there = ", ".join(sorted({platform_text(it) for it in images})) or "nothing"
+    there = told({platform_text(it) for it in images}) or "nothing"
     raise Refused("%s: nothing for linux/%s; there is %s" % (where, "/".join(own[:2]), there))
 
 
 def tagged(found, tag, where):
     """The manifests of a layout that a tag names; without a tag all, where they have one tag at most."""
-    tags = sorted({it.reference for it in found if has_type(it.reference, str)})
-    there = ", ".join(shown(name) for name in tags) or "none"
+    tags = {it.reference for it in found if has_type(it.reference, str)}
+    there = told(map(shown, tags)) or "none"
     if tag is None:
         if len(tags) > 1:
             raise Refused("%s: which tag? There is %s" % (where, there))
@@ -214,6 +236,8 @@ class Layout:
         try:
             number = os.open(os.path.join(self.folder, name), READING)
             with os.fdopen(number, "rb") as file:
+                if not stat.S_ISREG(os.fstat(number).st_mode):
+                    raise Refused("%s/%s: no file" % (self.name, name))
                 data = file.read(JSON_MOST + 1)
         except OSError as fault:
             raise Refused("%s/%s: %s" % (self.name, name, why_not(fault))) from None

@@ -1,7 +1,7 @@
 """What an image and its attribute trailer don't hold of the entries of layers."""
 import tars
 from layer_images import TIME_LEAST, TIME_MOST, is_owner
-from refused import shown
+from refused import SHOWN, shown
 
 LOST = {
     "attributes": "extended attributes are not kept",
@@ -21,11 +21,11 @@ class Lost:
     def __init__(self):
         self.found = {}
 
-    def note(self, kind, where, what=""):
-        """Notes an entry, as the words `where` name it, and what is lost of it."""
+    def note(self, kind, where, names=()):
+        """Notes an entry, as the words `where` name it, and the names of what is lost of it."""
         count, lines = self.found.get(kind, (0, []))
         if count < NAMED_MOST:
-            lines.append("  " + where + (": " + what) * bool(what))
+            lines.append("  " + where + (": " + shown(b",".join(names[:SHOWN]))) * bool(names))
         self.found[kind] = count + 1, lines
 
     def note_all(self, layer, entry):
@@ -34,7 +34,7 @@ class Lost:
             return
         where = "layer %d: %s" % (layer, shown(entry.name))
         if entry.attributes:
-            self.note("attributes", where, shown(b",".join(entry.attributes)))
+            self.note("attributes", where, entry.attributes)
         if not (is_owner(entry.uid) and is_owner(entry.gid)):
             self.note("owners", where)
         if not TIME_LEAST <= entry.time[0] <= TIME_MOST:

@@ -10,7 +10,8 @@ is ro, nosuid, nodev and default_permissions; the words of -o come after these. 
 (umount DIR, fusermount3 -u DIR), or returns once the mount answers (--background). SIGINT and SIGTERM take the mount away,
 and so does strata's end.
 
-Status: 0 where the mount was taken away, 1 where nothing can be mounted, 2 for the words; else strata's own, with its line.
+Status: 0 where the mount was taken away, 1 where nothing can be mounted, 2 for the words, 130 where --background was
+interrupted before the mount answered; else strata's own, with its line.
 """
 import argparse
 import ctypes
@@ -23,14 +24,17 @@ import subprocess
 import sys
 import threading
 
+import ends
 from mount_options import CLEARS, SETS, Options, Wrong
+from refused import one_line
 
 HERE = os.path.dirname(os.path.realpath(__file__))
 # installed, this stands in lib/strata, and else in tools/
 STRATA = os.path.join(os.path.dirname(HERE), *(["build"] if os.path.basename(HERE) == "tools" else ["..", "bin"]), "strata")
 DEVICE = "/dev/fuse"
 WORDS = "ro,nosuid,nodev,default_permissions"
-MNT_DETACH = 2
+MNT_DETACH, UMOUNT_NOFOLLOW = 2, 8
+INTERRUPTED = 130
 # the most that is read at once where a relay passes replies on in packets
 RELAYED_READ = "max_read=131072"
 # SIGHUP too, but not under nohup
@@ -51,7 +55,12 @@ class Plan(argparse.Namespace):
     marks = ()
 
     def say(self, line):
-        sys.stderr.write("%s: %s\n" % (self.name, line))
+        ends.write("%s: %s\n" % (self.name, line))
+
+    def say_fault(self, fault):
+        """Says what failed, and of which file where one is to blame."""
+        where = [] if fault.filename is None else [one_line(os.fsdecode(fault.filename))]
+        self.say(": ".join([*where, fault.strerror or str(fault)]))
 
     def is_relayed(self):
         return self.debug or self.stats is not None
@@ -95,13 +104,16 @@ def mounted_by_helper(plan):
                               env={**os.environ, "_FUSE_COMMFD": str(number)})
         if done.returncode != 0:
             sys.exit(1)  # it has said why
-        return socket.recv_fds(ours, 1, 1)[1][0]
+        found = socket.recv_fds(ours, 1, 1)[1]
+        if not found:
+            raise OSError(0, "fusermount3 has sent no open device", plan.folder)
+        return found[0]
 
 
 def take_away(folder):
     """Takes a mount away at once, even if it is in use."""
     try:
-        called(libc.umount2(os.fsencode(folder), MNT_DETACH))
+        called(libc.umount2(os.fsencode(folder), MNT_DETACH | UMOUNT_NOFOLLOW))
     except PermissionError:
         subprocess.run(["fusermount3", "-u", "-q", "-z", "--", folder], stdin=subprocess.DEVNULL)
     except OSError:
@@ -166,7 +178,7 @@ def status_of(server, errors, plan):
     status = server.wait()
     errors.seek(0)
     text = errors.read().decode(errors="replace")
-    sys.stderr.write(text)
+    ends.write(text)
     if status > 0:
         import mount_faults
         for line in mount_faults.explained(text, plan.images):
@@ -204,7 +216,8 @@ def run(plan):
         take_away(plan.folder)
         server.terminate()
         server.wait()
-        return 0
+        # who asked for a mount in the background has none
+        return INTERRUPTED if plan.background else 0
     finally:
         # what stands there by now may be another mount, which answers
         if not answers(plan.folder):
@@ -212,6 +225,15 @@ def run(plan):
 
 
 # --- before the mount ---
+
+def hold_here(names):
+    """Looks that this folder is there still, where a name begins at it."""
+    try:
+        if not all(name.startswith(("/", "image:")) for name in names):
+            os.getcwd()
+    except OSError as fault:
+        raise OSError(fault.errno, fault.strerror, "the working folder") from None
+
 
 def hold_folder(plan):
     """Looks whether a folder is there, and whether a mount stands there whose server has ended. It is statvfs that asks,
@@ -235,27 +257,55 @@ def find_images(plan):
     plan.images, plan.marks = store_images.mounted_words(plan.images, plan.store, plan.verify)
 
 
-def hold_images(plan):
-    """Looks that no image lies below the folder: strata would wait for itself to open it."""
+def hold_names(plan):
+    """Looks that strata, which takes text alone, can be told the images' names."""
     for image in plan.images:
-        if os.path.realpath(image).startswith(os.path.join(os.path.realpath(plan.folder), "")):
+        try:
+            os.fsencode(os.path.abspath(image)).decode("utf-8")
+        except UnicodeDecodeError:
+            raise OSError(0, "no name in UTF-8, and strata takes no other; a link with another name will do", image) from None
+
+
+def lies_in(path, folder):
+    return os.path.realpath(path).startswith(os.path.join(os.path.realpath(folder), ""))
+
+
+def libraries():
+    """The files of this process, among which are those that strata begins with."""
+    try:
+        with open("/proc/self/maps", "rb") as lines:
+            found = [line.split(None, 5) for line in lines]
+    except OSError:
+        return set()
+    return {os.fsdecode(it[5].strip()) for it in found if len(it) == 6 and it[5].startswith(b"/")}
+
+
+def hold_images(plan):
+    """Looks that no image lies below the folder, nor strata itself: it would wait for itself to open it."""
+    for image in plan.images:
+        if lies_in(image, plan.folder):
             raise OSError(0, "this image lies in the folder that it would be mounted on", image)
+    for path in (plan.program, __file__, *sorted(libraries())):
+        if lies_in(path, plan.folder):
+            raise OSError(0, "strata needs this file, which lies in the folder that it would mount on", path)
 
 
 def attempt(plan):
     """Mounts by a plan, or says why nothing can be mounted; the status to end with."""
     try:
+        hold_here([*plan.images, plan.folder])
         hold_folder(plan)
         find_images(plan)
-        hold_images(plan)
+        hold_names(plan)
         if not shutil.which(plan.program):
             raise OSError(0, "no such program", plan.program)
         plan.folder, plan.program = os.path.realpath(plan.folder), os.path.abspath(shutil.which(plan.program))
+        hold_images(plan)
         if plan.stats is not None:
             plan.stats = os.open(plan.stats, os.O_WRONLY | os.O_CREAT | os.O_CLOEXEC, 0o666)
         return run(plan)
     except OSError as fault:
-        plan.say("%s: %s" % (fault.filename, fault.strerror))
+        plan.say_fault(fault)
         for line in hints(fault, plan):
             plan.say(line)
         return 1
@@ -267,7 +317,7 @@ def hints(fault, plan):
         yield "the kernel's FUSE is not to be had here: `modprobe fuse`, or a container with `--device /dev/fuse`"
     unknown = Options(",".join(plan.words)).unknown
     if fault.errno == errno.EINVAL and unknown:
-        yield "-o: not known: %s" % ", ".join(unknown)
+        yield "-o: not known: %s" % one_line(", ".join(unknown))
 
 
 def settle(plan, options):
@@ -323,6 +373,7 @@ def plan_of(words, name):
 
 
 def main(words, name):
+    ends.begin()
     plan = plan_of(words, name)
     if plan.version:
         import version

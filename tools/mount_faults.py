@@ -5,14 +5,13 @@
 import os
 import re
 import shlex
-import stat
 import struct
-import tarfile
 import zlib
 
 import dead_mounts
-from mount_progress import size_of
-from refused import shown
+import image_files
+import tars
+from refused import Refused, shown
 
 UNREADABLE = re.compile(r"image (\d+): cannot be read")
 BROKEN = re.compile(r"layer (\d+) at [0-9a-f]{8,}: (.*)")
@@ -82,15 +81,17 @@ def explained_line(said, images):
             len(images), MAKE)]
     if said == "out of memory":
         return ["the images have %d MiB together: see `ulimit -v`, and the memory that this machine has left" % (
-            sum(map(size_of, images)) >> 20)]
+            sum(map(image_files.size_of, images)) >> 20)]
     return []
 
 
 def unreadable(path):
     """Why a file can't be read."""
     try:
-        with open(path, "rb") as it:
-            it.read(1)
+        kind = image_files.read_once(path)
+        if kind is not None:
+            return "it is %s, and no file" % kind
+        front_of(path, 1)
         return "it can be read now"
     except IsADirectoryError:
         return "it is a folder; " + MAKE
@@ -100,12 +101,28 @@ def unreadable(path):
         return fault.strerror.lower()
 
 
+def front_of(path, size):
+    """The first bytes of a file, and its size; none of what is not opened only to look at it. Of a file of /proc, which
+    says that it is empty, all that is read counts."""
+    file = image_files.opened(path)
+    if file is None:
+        return b"", 0
+    with file:
+        front = file.read(size) or b""
+        return front, max(len(front), os.fstat(file.fileno()).st_size, end_of(file))
+
+
+def end_of(file):
+    try:
+        return file.seek(0, os.SEEK_END)
+    except OSError:
+        return 0
+
+
 def broken(path, rule):
     """Why a file breaks a rule of images."""
     try:
-        with open(path, "rb") as it:
-            front = it.read(FRONT)
-            size = it.seek(0, os.SEEK_END) if it.seekable() else len(front)
+        front, size = front_of(path, FRONT)
     except OSError as fault:
         return fault.strerror.lower()
     if front.startswith(ROMFS) and len(front) >= 12:
@@ -120,7 +137,7 @@ def kind_of(path, front, size):
     """What a file is that is no image of romfs, and what to do; nothing where that isn't known."""
     name = shlex.quote(path if not path.startswith("-") else "./" + path) if path.isprintable() else "FILE"
     if size == 0:
-        return "the file is empty"
+        return None if image_files.read_once(path) else "the file is empty"
     if front.startswith(b"\x1f\x8b"):
         return "compressed by gzip: " + gzipped(front, name)
     if front[257:262] == b"ustar":
@@ -159,12 +176,16 @@ def unpacked(name):
 
 
 def names_in(path):
-    """The first names in an archive, as far as it can be read."""
+    """The first names in an archive, as far as it can be read. Headers alone are, whatever lies between them."""
     try:
-        if not stat.S_ISREG(os.stat(path).st_mode):
-            return
-        with tarfile.open(path, "r:") as members:
-            for _, member in zip(range(TAR_MOST), members):
-                yield member.name.removeprefix("./")
-    except (OSError, tarfile.TarError, ValueError, EOFError):
+        with image_files.opened(path) as file:
+            at = 0
+            for _ in range(TAR_MOST):
+                block = os.pread(file.fileno(), tars.BLOCK, at)
+                if len(block) < tars.BLOCK or not tars.is_sum_right(block):
+                    return
+                yield os.fsdecode(tars.full_name(block)).removeprefix("./")
+                size = max(tars.number(block[124:136], "size"), 0)
+                at += tars.BLOCK + size + -size % tars.BLOCK
+    except (OSError, OverflowError, AttributeError, Refused):
         return

@@ -13,8 +13,10 @@ import argparse
 import os
 import sys
 
+import ends
 import mount
 from mount_options import Options, Wrong
+from refused import one_line
 
 PATH = "/usr/sbin:/usr/bin:/sbin:/bin"
 SOURCE_MOST = 4095
@@ -25,7 +27,8 @@ class Parser(argparse.ArgumentParser):
     """Says what is wrong with the words, with mount(8)'s status."""
 
     def error(self, message):
-        self.exit(WRONG_WORDS, "%s: %s\n" % (self.prog, message))
+        ends.write("%s: %s\n" % (self.prog, one_line(message)))
+        sys.exit(WRONG_WORDS)
 
 
 def names_of(word):
@@ -49,6 +52,7 @@ def names_of(word):
 
 def word_of(names):
     """The word that says these paths, absolute."""
+    mount.hold_here(names)
     return ":".join(os.path.abspath(name).replace("\\", "\\\\").replace(":", "\\:") for name in names)
 
 
@@ -86,16 +90,19 @@ def plan_of(asked, name):
 
 def looked_at(plan):
     """Looks at all that a mount needs, and mounts nothing."""
+    import image_files
     try:
         mount.hold_folder(plan)
         mount.find_images(plan)
+        mount.hold_names(plan)
         mount.hold_images(plan)
         for image in plan.images:
-            with open(image, "rb"):
-                pass
+            file = image_files.opened(image)
+            if file is not None:
+                file.close()
         return 0
     except OSError as fault:
-        plan.say("%s: %s" % (fault.filename, fault.strerror))
+        plan.say_fault(fault)
         return NOT_MOUNTED
 
 
@@ -107,10 +114,11 @@ def mounted(plan):
         return INTERRUPTED
     except SystemExit:
         return NOT_MOUNTED
-    return NOT_MOUNTED if status else 0
+    return {0: 0, mount.INTERRUPTED: INTERRUPTED}.get(status, NOT_MOUNTED)
 
 
 def main(words, name="mount.strata"):
+    ends.begin()
     os.environ.clear()
     os.environ["PATH"] = PATH
     parser = parser_of(name)
@@ -125,11 +133,14 @@ def main(words, name="mount.strata"):
         plan = plan_of(asked, name)
     except Wrong as wrong:
         parser.error(str(wrong))
+    except OSError as fault:
+        mount.Plan(name=name).say_fault(fault)
+        return NOT_MOUNTED
     if asked.fake:
         return looked_at(plan)
     status = mounted(plan)
     if status == 0 and asked.verbose:
-        print("%s: %s on %s" % (name, plan.source, plan.folder))
+        ends.write("%s: %s on %s\n" % (name, one_line(plan.source), one_line(plan.folder)), sys.stdout)
     return status
 
 

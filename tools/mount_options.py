@@ -15,9 +15,9 @@ IGNORED = (
 IGNORED_FRONTS = ("x-", "X-")
 # what is no word of -o, since strata-mount says it itself, or it is fusermount3's own affair
 OWN = ("fd", "rootmode", "user_id", "group_id", "fsname", "subtype", "auto_unmount")
-# strata's own words, and whether a number stands behind them
-STRATA = {"strict": False, "whole": False, "workers": True, "readers": True, "uid": True, "gid": True}
-OWNER_MOST = 2 ** 32 - 1
+# strata's own words, each with the least and the most of the number behind it, or None where it stands alone
+SEVERAL, OWNERS = (1, 64), (0, 2 ** 32 - 1)
+STRATA = {"strict": None, "whole": None, "workers": SEVERAL, "readers": SEVERAL, "uid": OWNERS, "gid": OWNERS}
 
 # words stand between commas, but for those in quotation marks
 WORD = re.compile(r'(?:[^,"]|"[^"]*"?)+')
@@ -40,7 +40,7 @@ class Options:
         if name in OWN:
             raise Wrong("not allowed: %s" % ", ".join(OWN))
         if name in STRATA:
-            self.strata[name] = number_of(name, value) if STRATA[name] else bare(name, equals)
+            self.strata[name] = number_of(name, value, *STRATA[name]) if STRATA[name] else bare(name, equals)
         elif name not in IGNORED and not name.startswith(IGNORED_FRONTS):
             self.mount.append(word)
             if name not in (*SETS, *CLEARS, *KERNEL):
@@ -50,10 +50,7 @@ class Options:
         """`UID:GID` where one of them is said."""
         if not {"uid", "gid"} & set(self.strata):
             return None
-        numbers = self.strata.get("uid", 0), self.strata.get("gid", 0)
-        if max(numbers) > OWNER_MOST:
-            raise Wrong("uid=N, gid=N are numbers up to %d" % OWNER_MOST)
-        return "%d:%d" % numbers
+        return "%d:%d" % (self.strata.get("uid", 0), self.strata.get("gid", 0))
 
 
 def bare(name, equals):
@@ -63,8 +60,10 @@ def bare(name, equals):
     return True
 
 
-def number_of(name, value):
-    """The number behind a word."""
-    if not (value.isascii() and value.isdigit()):
-        raise Wrong("%s=N is a number" % name)
-    return int(value)
+def number_of(name, value, least, most):
+    """The number behind a word. Python reads no number of very many digits."""
+    digits = value.lstrip("0") or "0"
+    is_number = value.isascii() and value.isdigit() and len(digits) <= len(str(most))
+    if not is_number or not least <= int(digits) <= most:
+        raise Wrong("%s=N is a number from %d to %d" % (name, least, most))
+    return int(digits)

@@ -1,18 +1,8 @@
 """How far strata is with the images of a mount, as one line on a terminal, from a second on."""
-import os
-
+from image_files import size_of
 from progress import Progress
 
 STEP = 0.2
-
-
-def size_of(path):
-    """The bytes of an image, a block device's too; of what can't be told, 0."""
-    try:
-        with open(path, "rb") as it:
-            return it.seek(0, os.SEEK_END)
-    except OSError:
-        return 0
 
 
 def read_by(process):

@@ -2,6 +2,7 @@
 them."""
 import os
 
+from image_files import opened
 from layouts import Layout, split_name
 from refused import Refused, shown
 
@@ -12,8 +13,11 @@ PACKED_MAGIC = (b"\x1f\x8b", b"\x28\xb5\x2f\xfd")
 
 def first_bytes(path):
     try:
-        with open(path, "rb") as file:
-            return file.read(512)
+        file = opened(path)
+        if file is None:
+            return b""
+        with file:
+            return file.read(512) or b""
     except OSError:
         return b""
 

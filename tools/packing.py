@@ -17,6 +17,8 @@ from refused import Refused
 # so many bytes fit into a processor's own memory
 PIECE = 1 << 17
 GZIP_WINDOW = 31
+# four times what an image of romfs can have
+UNPACKED_MOST = 1 << 34
 # as Python's own module says it
 CUT_OFF = "Compressed file ended before the end-of-stream marker was reached"
 PACKINGS = ("gzip", "zstd")
@@ -162,11 +164,11 @@ def unpacker(source, packed):
 
 class Unpacked:
     """The bytes of a source as they were before they were packed; their digest, where it is asked
-    for."""
+    for. A few bytes may unpack to no end of them, so there is a most."""
 
-    def __init__(self, source, packed, is_hashed=False):
+    def __init__(self, source, packed, is_hashed=False, most=UNPACKED_MOST):
         self.unpacker = unpacker(source, packed)
-        self.data, self.at = b"", 0
+        self.data, self.at, self.left, self.most = b"", 0, most, most
         self.hash = hashlib.sha256() if is_hashed else None
 
     def read(self, size):
@@ -186,6 +188,9 @@ class Unpacked:
             if type(fault).__name__ != "ZstdError":
                 raise
             raise Refused("the packed data are broken: %s" % fault) from None
+        self.left -= len(data)
+        if self.left < 0:
+            raise Refused("unpacked it has more than %d bytes" % self.most)
         if self.hash is not None:
             self.hash.update(data)
         return data

@@ -25,7 +25,8 @@ class ReadImage:
         size = os.fstat(number).st_size
         self.data = mmap.mmap(number, 0, prot=mmap.PROT_READ) if size >= 16 else b""
         self.full = struct.unpack_from(">I", self.data, 8)[0] if self.data[:8] == MAGIC else 0
-        self.opened = {}
+        # so many headers fit; in a sound image none stands in two folders
+        self.opened, self.left = {}, self.full // 16
         name = self.name_at(16)
         if not 16 <= self.full <= size or name is None:
             raise Refused("no image of romfs")
@@ -68,6 +69,9 @@ class ReadImage:
             header = self.header(at)
             if header is None:
                 break
+            self.left -= 1
+            if self.left < 0:
+                raise Refused("no sound image of romfs: a header stands in many folders")
             name = self.name_at(at + 16)
             if at != self.root and name not in (None, b".", b".."):
                 found.setdefault(name, at)

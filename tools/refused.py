@@ -1,15 +1,30 @@
 """Why something is refused, as one line, and how what strangers wrote is shown in one."""
+import os
 
-SHOWN = 200
+SHOWN, LINE_MOST = 200, 4200
 
 
 class Refused(Exception):
     """Why something is refused, as one line."""
 
 
+def bytes_of(text):
+    """The bytes of a text: a path's own, or, of what no path says, those of UTF-8."""
+    try:
+        return os.fsencode(text)
+    except UnicodeEncodeError:
+        return text.encode(errors="surrogatepass")
+
+
 def shown(words):
     """Bytes or text of strangers: all but visible characters of ASCII, and the backslash, as a backslash and two digits,
     as `list` prints them. Where that is long, its beginning."""
-    data = words.encode(errors="surrogatepass") if isinstance(words, str) else words
+    data = bytes_of(words) if isinstance(words, str) else words
     text = "".join(chr(b) if 0x21 <= b <= 0x7e and b != 0x5c else "\\%02x" % b for b in data[:SHOWN])
     return text + ".." * (len(data) > SHOWN)
+
+
+def one_line(text):
+    """Text in one line: what can't be seen stands there as `shown` has it. Where it is very long, its beginning."""
+    found = "".join(it if it.isprintable() else shown(it) for it in text[:LINE_MOST])
+    return found + ".." * (len(text) > LINE_MOST)

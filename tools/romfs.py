@@ -257,6 +257,8 @@ class Image:
     def hard_link(self, path, target):
         """Another name of what stands at the path `target`, or, if nothing stands there yet, of what does at the end."""
         self.check(path)
+        if len(target) > NAMES_MOST:
+            raise Refused("%s: a hard link to nothing in its layer: %s" % (path_text(path), path_text(target)))
         found = self.found(target)
         if isinstance(found, Link) and not isinstance(found.target, tuple):
             found = found.target

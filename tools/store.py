@@ -84,6 +84,8 @@ class Store:
             self.root = open_folder(self.place)
         except (FileNotFoundError, NotADirectoryError):
             raise Refused("%s: no store of layers" % self.name) from None
+        if make:
+            self.hold_own()
         self.mark(make)
         # without the right to write, a store can be read
         opened = make_folder if make else open_folder
@@ -95,10 +97,19 @@ class Store:
             # the run that made it was killed before it brought anything
             raise Refused("%s: no store of layers" % self.name) from None
 
+    def hold_own(self):
+        """Sees that nobody else may write in the folder: who may could lead what is written, and
+        what is taken away, elsewhere."""
+        found = os.fstat(self.root)
+        is_shared = found.st_mode & 0o002 or found.st_mode & 0o020 and found.st_gid != os.getegid()
+        if is_shared or found.st_uid not in (0, os.geteuid()):
+            raise Refused("%s: a store must be its user's own, and others may write in this folder" % self.name)
+
     def mark(self, make):
         """Sees that the folder is a store, or, where it is empty, makes it one: the mark comes
         first."""
-        fcntl.flock(self.root, fcntl.LOCK_EX if make else fcntl.LOCK_SH)
+        if make:
+            fcntl.flock(self.root, fcntl.LOCK_EX)
         found = self.small_file(self.root, MARK)
         if found is None and make and not os.listdir(self.root):
             flags = os.O_WRONLY | os.O_CREAT | os.O_EXCL | os.O_CLOEXEC
@@ -106,7 +117,8 @@ class Store:
             os.write(number, MARK_TEXT)
             os.close(number)
             found = MARK_TEXT
-        fcntl.flock(self.root, fcntl.LOCK_UN)
+        if make:
+            fcntl.flock(self.root, fcntl.LOCK_UN)
         # a run that was killed may have left an empty mark
         if found not in (MARK_TEXT, b""):
             raise Refused("%s: no store of layers" % self.name)
@@ -129,9 +141,8 @@ class Store:
 
     def clear(self):
         for name in os.listdir(self.new):
-            path = os.path.join(self.place, "new", name)
             if stat.S_ISDIR(os.stat(name, dir_fd=self.new, follow_symlinks=False).st_mode):
-                shutil.rmtree(path, ignore_errors=True)
+                shutil.rmtree("/proc/self/fd/%d/%s" % (self.new, name), ignore_errors=True)
             else:
                 os.unlink(name, dir_fd=self.new)
 

@@ -26,7 +26,7 @@ def split_image(word):
     is_name = NAME.fullmatch(name) and ".." not in name and len(name) <= NAME_MOST
     if not is_name or colon and not (TAG.fullmatch(tag) and len(tag) <= TAG_MOST):
         raise Refused("%s: no name of an image; NAME[:TAG] is wanted, of letters, digits, `.`, `_`"
-                      " and `-`, and `/` within NAME" % shown(os.fsencode(word)))
+                      " and `-`, and `/` within NAME" % shown(word))
     return name, tag if colon else None
 
 

@@ -74,6 +74,8 @@ class Maker:
     def note(self, name, made):
         """Notes what is known of the blob that a record is named by. What is very long is not
         noted, and its layer made anew each time."""
+        if made.implied is None:
+            return
         value = {"maker": MAKER, "layer": "sha256:" + made.layer.digits, "size": made.layer.size,
                  "archive": made.archive,
                  "implied": [b"/".join(path).decode("latin-1") for path in made.implied]}
@@ -212,14 +214,12 @@ def unpack_layer(layout, number, it, file):
 def write_unpacked(blob, it, file):
     # what is not packed is hashed as the blob
     is_hashed = PACKED_ROMFS[it.media] != "" or it.algorithm != "sha256"
-    source, size = Unpacked(blob, PACKED_ROMFS[it.media], is_hashed), 0
+    source, size = Unpacked(blob, PACKED_ROMFS[it.media], is_hashed, UNPACKED_MOST), 0
     try:
         for data in iter(lambda: source.read(PIECE), b""):
             if size == 0 and not data.startswith(MAGIC):
                 raise Refused("no image of romfs")
             size += len(data)
-            if size > UNPACKED_MOST:
-                raise Refused("unpacked it has more than %d bytes" % UNPACKED_MOST)
             write_all(file, data)
     finally:
         source.close()

@@ -24,6 +24,9 @@ PAX, PAX_GLOBAL, LONG_NAME, LONG_LINK = (b"x", b"X"), b"g", b"L", b"K"
 ATTRIBUTES = re.compile(rb"(?:SCHILY\.xattr\.|LIBARCHIVE\.xattr\.|SCHILY\.(?=acl\.)|RHT\.(?=security\.))(.*)", re.S)
 # the names of all of them stand under this, which no keyword is
 NAMES = b""
+# what is heeded of all else that an extended header says
+KEYWORDS = (b"path", b"linkpath", b"size", b"uid", b"gid", b"mtime")
+SPARSE_FRONT = b"GNU.sparse."
 # the numbers of most headers
 NUMBERS = {b"%07o\0" % value: value for value in (0, 0o400, 0o444, 0o555, 0o600, 0o644, 0o700, 0o755, 0o777, 1000)}
 DECIMAL = re.compile(rb"(-?)([0-9]{1,18})(?:\.([0-9]*))?")
@@ -196,14 +199,17 @@ class Tar:
         return block
 
     def fields_of(self, data):
-        """What an extended header says. An empty value takes back what one before it said."""
+        """What an extended header says. An empty value takes back what one before it said. A stranger may say no end of
+        other things, in header after header."""
         found = {}
         for keyword, value in pax_records(data):
             attribute = ATTRIBUTES.fullmatch(keyword)
-            if not attribute:
-                found[keyword] = value
-            elif value:
+            if attribute and value:
                 found.setdefault(NAMES, []).append(attribute[1])
+            elif keyword.startswith(SPARSE_FRONT) and value:
+                found[SPARSE_FRONT] = value
+            elif keyword in KEYWORDS:
+                found[keyword] = value
         return found
 
     def entries(self):
@@ -229,7 +235,7 @@ class Tar:
             if kind in PAX:
                 fields.update(self.fields_of(self.special(size)))
             elif kind == PAX_GLOBAL:
-                self.add_everywhere(self.fields_of(self.special(size)))
+                self.everywhere.update(self.fields_of(self.special(size)))
                 continue
             elif kind in (LONG_NAME, LONG_LINK):
                 names[kind] = text(self.special(size))
@@ -237,11 +243,6 @@ class Tar:
                 said = {keyword: value for keyword, value in {**self.everywhere, **fields}.items() if value}
                 return self.made(block, kind, said, names)
             has_begun = True
-
-    def add_everywhere(self, fields):
-        """Takes in what holds for all entries that follow; a stranger may say no end of other things."""
-        known = (b"path", b"linkpath", b"size", b"uid", b"gid", b"mtime", NAMES)
-        self.everywhere.update({keyword: value for keyword, value in fields.items() if keyword in known})
 
     def made(self, block, kind, fields, names):
         """The entry of a header, with what extended headers and long names before it say."""
@@ -257,7 +258,7 @@ class Tar:
             entry.kind = DIRECTORY
         elif kind in (CHARACTER, BLOCK_DEVICE):
             entry.major, entry.minor = number(block[329:337], "device"), number(block[337:345], "device")
-        if kind == SPARSE or any(keyword.startswith(b"GNU.sparse.") for keyword in fields):
+        if kind == SPARSE or SPARSE_FRONT in fields:
             raise Refused("%s: a sparse file, which is not read" % shown(name))
         self.set_data(entry, block, fields)
         return entry

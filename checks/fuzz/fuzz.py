@@ -46,12 +46,13 @@ MOST_PACKET = 131072
 # --- images ---
 
 class Profile:
-    """By which rules images are looked at, whether their trailers are read, and whether they are read whole, which changes
-    nothing: at random, `--strict` so often as is said."""
+    """By which rules images are looked at, whether their trailers are read, and whether they are read whole or, where they
+    are served, left in their files, which changes nothing: at random, `--strict` so often as is said."""
 
     def __init__(self, rng, strictly):
         self.strict, self.attributes = rng.random() < strictly, rng.random() < 0.4
         self.words = ["--strict"] * self.strict + ["--attributes"] * self.attributes + ["--whole"] * (rng.random() < 0.3)
+        self.served = self.words + ["--in-files"] * (rng.random() < 0.5)
         self.rules = self.strict, self.attributes
 
     def images(self, rng, images):
@@ -132,7 +133,7 @@ class Inputs:
             self.stop = stop
             self.stack = plain.stack_of([data for data in images if plain.fault(data) is None] or [EMPTY])
         self.words = [running.write("image-%d" % number, data) for number, data in enumerate(images)]
-        self.words += profile.words + (["--owner", "%d:%d" % owner] if owner else [])
+        self.words += profile.served + (["--owner", "%d:%d" % owner] if owner else [])
         if rng.random() < 0.8:
             self.words += random_plan(rng, are_long)
 

@@ -9,7 +9,7 @@ import os
 import sys
 import tempfile
 
-from checks.installed import faults, mounts, packages, pages, programs, traces
+from checks.installed import faults, mounts, packages, pages, programs, strangers, traces
 from checks.installed.roots import apart
 
 CHECKS = (
@@ -18,7 +18,7 @@ CHECKS = (
 MOUNTING = (
     programs.alone, programs.links, mounts.typed, mounts.by_fstab, mounts.words, mounts.colons, mounts.stored, mounts.faked, mounts.by_user,
     mounts.dead, mounts.units, traces.debug, traces.stats, traces.progress, faults.images, faults.not_permitted, faults.kinds,
-    faults.rules, faults.dashes, packages.package, packages.archive)
+    faults.rules, faults.dashes, *strangers.CHECKS, packages.package, packages.archive)
 
 
 def main(program, wanted):

@@ -132,7 +132,7 @@ def owner(root):
     for said in ("uid=4294967296", "gid=4294967296"):
         done = root.run("mount", "-t", "strata", STACK, "/srv/made", "-o", said)
         hold("the status of -o %s" % said, WRONG_WORDS, done.status)
-        hold_in("-o " + said, "uid=N, gid=N are numbers up to 4294967295", done.err)
+        hold_in("-o " + said, "%s=N is a number from 0 to 4294967295" % said[:3], done.err)
 
 
 def colons(root):

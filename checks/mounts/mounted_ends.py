@@ -10,7 +10,7 @@ import sys
 
 from checks.mounts.mounted_trees import MIB, file, folder, wanted_of
 from checks.shared.build import seal
-from checks.shared.mounting import SCRIPT, Failed, LeftOut, children, fails, hold, hold_tree, places, rows, shown, wait_for
+from checks.shared.mounting import SCRIPT, Failed, LeftOut, children, fails, hold, hold_tree, name_of, places, rows, shown, wait_for
 from mount import DEVICE, MNT_DETACH, called, libc
 
 MS_BIND = 0x1000
@@ -40,9 +40,19 @@ def dead(mount, opened):
     """Holds what a mount says whose server has ended."""
     fails("statvfs", errno.ENOTCONN, os.statvfs, mount.at)
     fails("a name not asked for before", errno.ENOTCONN, os.lstat, mount.path(b"y"))
-    fails("a file opened anew", errno.ENOTCONN, read_anew, mount.path(b"x"))
-    fails("a read", errno.ENOTCONN, os.pread, opened, 4096, 4 * MIB)
+    unread("a file opened anew", read_anew, mount.path(b"x"))
+    unread("a read", os.pread, opened, 4096, 4 * MIB)
     close_dead(opened)
+
+
+def unread(what, function, *words):
+    """Holds a read whose data no server gives any more. Newer kernels (7.3) say EIO of all data that could not be read."""
+    try:
+        function(*words)
+        number = 0
+    except OSError as fault:
+        number = fault.errno
+    hold("%s: %s" % (what, name_of(number)), True, number in (errno.ENOTCONN, errno.EIO))
 
 
 def read_anew(path):
@@ -152,7 +162,7 @@ def waiting(room):
             process.send_signal(number)
         hold("mount.py", (b"", 0, False), (process.communicate()[1], process.returncode, at in places()))
         if opened is not None:
-            fails("a file that was open", errno.ENOTCONN, os.pread, opened, 10, 2 * MIB)
+            unread("a file that was open", os.pread, opened, 10, 2 * MIB)
             close_dead(opened)
     return "SIGINT, SIGTERM while a file is open, SIGHUP and umount: status 0 each"
 

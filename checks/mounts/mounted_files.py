@@ -7,9 +7,9 @@ import time
 
 from checks.mounts.mounted_readers import statuses
 from checks.mounts.mounted_trees import MIB, file, folder
-from checks.shared.images import laid_out
-from checks.shared.mounting import Failed, hold
-from checks.shared.watched_file import FAIL, SERVE, WAIT, WatchedFile
+from checks.shared.images import Item, laid_out, write_spread
+from checks.shared.mounting import SECONDS, Failed, hold
+from checks.shared.watched_file import CUT, FAIL, SERVE, TURN, WAIT, WatchedFile, turned
 
 PAGE = 4096
 READERS = 8
@@ -57,7 +57,7 @@ def reading(mount, wanted, told):
     if child == 0:
         status = 1
         try:
-            signal.alarm(50)
+            signal.alarm(SECONDS - 10)
             read_until_told(mount, wanted, told)
             status = 0
         finally:
@@ -157,6 +157,26 @@ def failing(room):
     return "EIO for what fails, for as long as it does; no header is read again"
 
 
+def lying(room):
+    """An image whose file gives few bytes a read, and then other ones: data are what it tells, all else what it told first."""
+    items = [*items_of(6), Item((b"l",), "symlink", False, data=b"d/00")]
+    disk = WatchedFile(room, laid_out(b"v", items))
+    disk.order(CUT)
+    mount = room.mount([disk.image])
+    first, second = mount.path(b"d", b"00"), mount.path(b"d", b"01")
+    hold("data of few bytes a read", items[1].data[:PAGE], part(first, 0, PAGE))
+    disk.order(TURN)
+    before = disk.reads()
+    hold("names", FILES, len(os.listdir(mount.path(b"d"))))
+    hold("target", b"d/00", os.readlink(mount.path(b"l")))
+    hold("size", len(items[2].data), os.lstat(second).st_size)
+    hold("reads of the image for these", before, disk.reads())
+    hold("other data", turned(items[2].data[PAGE:2 * PAGE]), part(second, PAGE, PAGE))
+    mount.end()
+    disk.end()
+    return "few bytes a read are all; other bytes change data, and no name, size or target"
+
+
 def stalled(room):
     """An image whose reads wait: one reader waits with them, and of four another one answers."""
     items = items_of(5)
@@ -188,7 +208,7 @@ def asking(function):
     if child == 0:
         status = 1
         try:
-            signal.alarm(50)
+            signal.alarm(SECONDS - 10)
             function()
             status = 0
         finally:
@@ -226,4 +246,18 @@ def fifty(room):
     return "50 mounts of an image of 64 MiB hold %.1f MiB together" % (held / MIB)
 
 
-CHECKS = (cut, overwritten, deleted, kept, failing, stalled, fifty)
+def spread(room):
+    """An image of 2^32 - 1 bytes with headers at both ends, in a sparse file, holds its names alone."""
+    image = room.write(b"")
+    size = write_spread(image)
+    mount = room.mount([image])
+    hold("names", [b"big", b"end"], sorted(os.listdir(mount.path())))
+    hold("size", size, os.lstat(mount.path(b"big")).st_size)
+    for path, offset, data in ((b"big", 0, bytes(PAGE)), (b"big", size - 3, bytes(3)), (b"end", 0, b"e" * 31)):
+        hold("data", data, part(mount.path(path), offset, PAGE))
+    hold("memory is below 6 MiB", True, anonymous(mount.server) < 6 * MIB)
+    mount.end()
+    return "an image of 2^32 - 1 bytes with headers at both ends holds names alone"
+
+
+CHECKS = (cut, overwritten, deleted, kept, failing, lying, stalled, fifty, spread)

@@ -32,6 +32,17 @@ def free_port():
         return it.getsockname()[1]
 
 
+def trust(room, host):
+    """Lets skopeo speak plain HTTP to a registry, as a machine's own settings would."""
+    place = os.path.join(room.home, ".config", "containers")
+    os.makedirs(place, exist_ok=True)
+    with open(os.path.join(place, "registries.conf"), "a", encoding="ascii") as out:
+        out.write('[[registry]]\nlocation = "%s"\ninsecure = true\n' % host)
+    with open(os.path.join(place, "containers.conf"), "w", encoding="ascii") as out:
+        out.write(CONTAINERS)
+    room.environment["CONTAINERS_CONF"] = os.path.join(place, "containers.conf")
+
+
 class Registry:
     """A registry of this check alone: it ends with it, and by itself after a while."""
 
@@ -43,7 +54,7 @@ class Registry:
         for _ in range(5):
             self.start(room.name())
             if self.answers():
-                self.trusted_in(room)
+                trust(room, self.host)
                 return
         raise Failed("docker-registry doesn't answer")
 
@@ -55,16 +66,6 @@ class Registry:
         with open(self.log, "ab") as log:
             self.process = subprocess.Popen(["timeout", "-k", "5", str(2 * SECONDS), "docker-registry", "serve", settings],
                                             stdin=subprocess.DEVNULL, stdout=log, stderr=log)
-
-    def trusted_in(self, room):
-        """Lets skopeo speak plain HTTP to it, as a machine's own settings would."""
-        place = os.path.join(room.home, ".config", "containers")
-        os.makedirs(place)
-        with open(os.path.join(place, "registries.conf"), "w", encoding="ascii") as out:
-            out.write('[[registry]]\nlocation = "%s"\ninsecure = true\n' % self.host)
-        with open(os.path.join(place, "containers.conf"), "w", encoding="ascii") as out:
-            out.write(CONTAINERS)
-        room.environment["CONTAINERS_CONF"] = os.path.join(place, "containers.conf")
 
     def answers(self):
         """Whether it answers before it ends."""

@@ -65,6 +65,31 @@ def flat(name, files):
     return laid_out(name, [Item((file,), "regular", executable, data=data) for file, executable, data in files])
 
 
+# the largest full size
+MOST_FULL = 2 ** 32 - 1
+
+
+def spread():
+    """An image of 2^32 - 1 bytes with headers at both ends: its first bytes, the place of its last ones and these. Between
+    them are zeros, the data of `big`, whose size comes with them; `end` has 31 bytes of data."""
+    last = MOST_FULL - 63
+    parts = [volume(b"v"), header(64, "directory", True, 32, 0, b"."), header(96, "hard", False, 32, 0, b"..")]
+    size = last - len(b"".join(parts)) - 32
+    front = b"".join([*parts, header(last, "regular", False, 0, size, b"big")])
+    front = seal(front[:8] + MOST_FULL.to_bytes(4, "big") + front[12:] + bytes(512 - len(front)))
+    return front, last, header(0, "regular", False, 0, 31, b"end") + b"e" * 31, size
+
+
+def write_spread(path):
+    """Writes it into a sparse file, and tells the size of `big`."""
+    front, last, end, size = spread()
+    with open(path, "wb") as out:
+        out.write(front)
+        out.seek(last)
+        out.write(end)
+    return size
+
+
 def path_of(words):
     """A path as `d/x` or, in quotation marks, as bytes: `"d/" then "q" * 255`."""
     if words.begins_text():

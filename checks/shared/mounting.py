@@ -13,8 +13,8 @@ from checks.shared.images import laid_out
 from mount import DEVICE, called, libc
 
 SCRIPT = TOOLS + "/mount.py"
-# a check that does not end is ended after so many seconds
-SECONDS = 60
+# a check that does not end is ended after so many seconds; STRATA_SLOWER says how many times as many
+SECONDS = 60 * int(os.environ.get("STRATA_SLOWER", "1"))
 CLONE_NEWNS, CLONE_NEWUSER = 0x20000, 0x10000000
 MS_REC, MS_PRIVATE = 0x4000, 0x40000
 PR_SET_CHILD_SUBREAPER = 36

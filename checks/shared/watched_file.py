@@ -1,5 +1,5 @@
-"""A FUSE file system (linux/fuse.h) of one file, `image`, whose reads wait or fail as a check says. It keeps nothing in the
-kernel's page cache, so each read comes here."""
+"""A FUSE file system (linux/fuse.h) of one file, `image`, whose reads wait, fail or tell other bytes as a check says. It keeps
+nothing in the kernel's page cache, so each read comes here."""
 import errno
 import mmap
 import os
@@ -11,9 +11,15 @@ from mount import DEVICE, MNT_DETACH, called, libc
 LOOKUP, FORGET, GETATTR, OPEN, READ, RELEASE, FLUSH, INIT, INTERRUPT = 1, 2, 3, 14, 15, 18, 25, 26, 36
 ROOT, FILE = 1, 2
 FOPEN_DIRECT_IO = 1
-# what is done with reads that touch some bytes: their reply is held back, or is EIO
-SERVE, WAIT, FAIL = 0, 1, 2
+# what is done with reads that touch some bytes: their reply is held back, is EIO, has a few bytes, or has other ones
+SERVE, WAIT, FAIL, CUT, TURN = 0, 1, 2, 3, 4
+FEW = 100
 ORDERS = struct.Struct("=QQQQQ")
+
+
+def turned(data):
+    """Other bytes, as many."""
+    return bytes(byte ^ 0xff for byte in data)
 
 
 class WatchedFile:
@@ -111,6 +117,8 @@ class WatchedFile:
         self.orders[:] = ORDERS.pack(what, first, last, held, reads + 1)
         if touched and what == FAIL:
             self.reply(unique, error=errno.EIO)
+        elif touched and what == TURN:
+            self.reply(unique, turned(self.data[offset:offset + size]))
         else:
-            self.reply(unique, self.data[offset:offset + size])
+            self.reply(unique, self.data[offset:offset + (min(size, FEW) if touched and what == CUT else size)])
         return True

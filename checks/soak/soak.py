@@ -6,7 +6,7 @@ The parts are `memory` (from too little address space to enough, by steps of 1 M
 attributes of), `largest` (an image of 2^32 - 1 bytes), `pipe`, `mount` and `socket` (random requests for so many minutes, held
 against the plain reading, while the memory of strata must not grow), and `kills` (2,000 clients of a socket that are killed).
 `--quick` takes fewer steps, and some seconds in place of minutes. Each part prints a line, or says what is missing for it
-here: `mount` needs /dev/fuse, `largest` 10,000 MiB of free memory. The status is 0 where no
+here: `mount` needs /dev/fuse, `largest` 10,000 MiB of free memory for what it reads whole. The status is 0 where no
 part fails.
 """
 import argparse
@@ -20,15 +20,14 @@ import tempfile
 from checks.plain import plain
 from checks.plain.plain_replies import with_data
 from checks.shared import runs
-from checks.shared.build import init, lookup, request, seal
-from checks.shared.images import Item, laid_out
+from checks.shared.build import init, lookup, request
+from checks.shared.images import MOST_FULL, Item, laid_out, write_spread
 from checks.shared.mounting import Failed, LeftOut, hold
 from checks.shared.random_inputs import read_body
 from checks.soak import soak_sockets, soak_streams
 
 MIB = 1 << 20
 READ, READDIRPLUS, BATCH_FORGET = 15, 44, 42
-MOST_FULL = 2 ** 32 - 1
 
 
 class Soak:
@@ -171,25 +170,25 @@ def available():
 
 
 def largest(soak):
-    """An image of 2^32 - 1 bytes, most of which is one file, with 105 MiB of memory more."""
-    if available() < 10000:
-        raise LeftOut("less than 10,000 MiB of memory")
-    front = laid_out(b"v", [Item((b"x",), "regular", False)])
-    size = MOST_FULL - len(front)
-    front = seal(front[:8] + MOST_FULL.to_bytes(4, "big") + front[12:0x68] + size.to_bytes(4, "big") + front[0x6c:])
-    with open(soak.write("image", front), "r+b") as out:
-        out.truncate(MOST_FULL)
-    reads = [(size - 2, b"\0\0"), (size - 1, b"\0"), (size, b""), (2 ** 31, bytes(4096)), (0, bytes(4096))]
-    stream = init(1, minor=22, flags=0) + b"".join(request(READ, 2, 2, read_body(offset, 4096)) for offset, _ in reads)
+    """An image of 2^32 - 1 bytes with headers at both ends, left in its file with 105 MiB in all; and read whole with 105
+    MiB more."""
+    size = write_spread(soak.folder + "/image")
+    reads = [(2, size - 2, b"\0\0"), (2, size - 1, b"\0"), (2, size, b""), (2, 2 ** 31, bytes(4096)), (2, 0, bytes(4096)),
+             (3, 0, b"e" * 31)]
+    stream = init(1, minor=22, flags=0) + b"".join(request(READ, 2, at, read_body(offset, 4096)) for at, offset, _ in reads)
     replies = plain.Served([laid_out(b"v", [])], init(1, minor=22, flags=0)).replies
-    replies += b"".join(with_data(2, data) for _, data in reads)
+    replies += b"".join(with_data(2, data) for _, _, data in reads)
     soak.write("requests", stream)
     wanted = {"check": b"layer 0: 4294967295 bytes\n", "serve": replies,
-              "list": b"1 040755 2 0 0 /\n2 100644 1 %d 0 /x\n" % size}
-    for command, output in wanted.items():
-        done = soak.run([command, "image"], MOST_FULL // MIB + 105, soak.folder + "/requests")
-        hold("strata %s" % command, (0, output, b""), (done.status, done.output, done.errors))
-    return "checked, listed and served in %d MiB of address space" % (MOST_FULL // MIB + 105)
+              "list": b"1 040755 2 0 0 /\n2 100644 1 %d 0 /big\n3 100644 1 31 0 /end\n" % size}
+    ways = [((), 105), (("--whole",), MOST_FULL // MIB + 105)]
+    if available() < 10000:
+        ways.pop()
+    for words, mebibytes in ways:
+        for command, output in wanted.items():
+            done = soak.run([command, *words, "image"], mebibytes, soak.folder + "/requests")
+            hold("strata %s" % " ".join([command, *words]), (0, output, b""), (done.status, done.output, done.errors))
+    return "checked, listed and served in %s MiB of address space" % " and ".join(str(most) for _, most in ways)
 
 
 # --- all parts ---

@@ -1,29 +1,36 @@
-"""Runs one stream over and over by many workers: python3 checks threads PROGRAM [--runs N] [--at-once N] [--watch TOOL]
+"""Runs one stream over and over by many workers, and by several readers: python3 checks threads PROGRAM [--runs N]
+[--at-once N] [--watch TOOL]
 
 The stream's rounds are long lists, for which workers are started: 64, a batch of one request each. Several runs go on at
 once, so that their threads wait for processors at odd moments. Each run must give the same bytes and the same balances as
-the plain reading. Twenty runs before them are looked at, and threads must be seen in one. With --watch the same stream goes
-once by 8 workers through a tool of valgrind (helgrind, drd), which must tell no error; without
-valgrind it is left out. The status is 0 where all runs give the same.
+the plain reading. Twenty runs before them are looked at, and threads must be seen in one. A hundredth as many times the same
+messages go to 4 readers of a stand-in for /dev/fuse, which gives each to one of them: the same replies must come, in any
+order. With --watch either goes once through a tool of valgrind (helgrind, drd), which must tell no error, with 8 workers;
+without valgrind it is left out. The status is 0 where all runs give the same.
 """
 import argparse
 import concurrent.futures
 import os
 import re
 import shutil
+import socket
 import struct
 import subprocess
 import sys
 import tempfile
+import threading
 
 from checks.plain import plain
+from checks.fuzz.fuzz_runs import send_packets
 from checks.shared import runs
 from checks.shared.build import init, lookup, request
+from checks.shared.clients import Hanging, received_packets, widen
 from checks.shared.images import Item, laid_out
 from checks.shared.random_inputs import read_body
+from checks.shared.replies import single
 
 READDIR, READDIRPLUS, BATCH_FORGET, FORGET = 28, 44, 42, 2
-WORKERS, ROWS, ROUNDS = 64, 720, 2
+WORKERS, READERS, ROWS, ROUNDS = 64, 4, 720, 2
 # helgrind takes the C library's reuse of an ended thread's stack for a race
 NO_CACHE = {"GLIBC_TUNABLES": "glibc.pthread.stack_cache_size=0"}
 # how much is pulled at once
@@ -68,6 +75,7 @@ class Runs:
         self.write("requests", stream())
         done = plain.Served([image()], stream())
         self.replies = done.replies
+        self.lasting = sorted(single(plain.Served([image()], stream(), is_lasting=True).replies))
         self.balances = "".join(line + "\n" for line in done.balance_lines()).encode()
 
     def write(self, name, data):
@@ -100,6 +108,28 @@ class Runs:
         if told:
             raise Unlike("run %d says %r" % (number, told))
 
+    def read(self, _=0, under=()):
+        """A run by readers of a stand-in for /dev/fuse; what it wrote to standard error."""
+        ours, theirs = socket.socketpair(socket.AF_UNIX, socket.SOCK_SEQPACKET)
+        with ours:
+            with theirs:
+                widen(ours, theirs)
+                words = [*under, self.program, "serve", "--device", "--readers", str(READERS), "image"]
+                child = subprocess.Popen(words, cwd=self.folder, stdin=theirs, stdout=theirs, stderr=subprocess.PIPE,
+                                         env={**os.environ, **(NO_CACHE if under else {})})
+            sending = threading.Thread(target=send_packets, args=(ours, plain.split(stream())[0], True), daemon=True)
+            sending.start()
+            try:
+                got = received_packets(ours)
+            except Hanging as hanging:
+                child.kill()
+                raise Unlike("by readers %s" % hanging) from None
+            done = runs.ended(child)
+        if (done.status, sorted(got)) != (0, self.lasting) or (done.errors and not under):
+            raise Unlike("by readers: status %r, %d of %d replies, %r" % (
+                done.status, len(got), len(self.lasting), done.errors[-500:]))
+        return done.errors
+
     def threads_seen(self):
         """The most threads that are seen in a run at one moment."""
         most = 0
@@ -116,13 +146,15 @@ class Runs:
 
 
 def watched(all_runs, tool):
-    """One run through a tool of valgrind: how many errors it tells, and the first."""
+    """Runs through a tool of valgrind: how many errors it tells, and the first."""
     runs.MINUTE = 600
-    told = all_runs.hold(0, all_runs.start(0, 8, ("valgrind", "--tool=" + tool))).decode(errors="replace")
-    found = re.search(r"ERROR SUMMARY: ([0-9]+) errors from ([0-9]+) contexts", told)
-    if not found or found[1] != "0":
-        raise Unlike("%s tells %s:\n%s" % (tool, found[0] if found else "no summary", told[:4000]))
-    return "%s: %s" % (tool, found[0].lower())
+    under = ("valgrind", "--tool=" + tool)
+    for told in (all_runs.hold(0, all_runs.start(0, 8, under)), all_runs.read(under=under)):
+        told = told.decode(errors="replace")
+        found = re.search(r"ERROR SUMMARY: ([0-9]+) errors from ([0-9]+) contexts", told)
+        if not found or found[1] != "0":
+            raise Unlike("%s tells %s:\n%s" % (tool, found[0] if found else "no summary", told[:4000]))
+    return "%s: no error, by workers and by readers" % tool
 
 
 def main(words):
@@ -144,8 +176,10 @@ def main(words):
         with concurrent.futures.ThreadPoolExecutor(asked.at_once) as pool:
             for _ in pool.map(all_runs.run, range(1, asked.runs + 1)):
                 pass
-        print("%d runs of %d workers, up to %d threads seen at once: each time the same %d bytes and balances" % (
-            asked.runs, WORKERS, most, len(all_runs.replies)))
+            for _ in pool.map(all_runs.read, range(asked.runs // 100)):
+                pass
+        print("%d runs of %d workers, up to %d threads seen at once: each time the same %d bytes and balances; %d by %d readers" % (
+            asked.runs, WORKERS, most, len(all_runs.replies), asked.runs // 100, READERS))
         return 0
     except Unlike as wrong:
         print("FAILED: %s" % wrong)

@@ -1,0 +1,176 @@
+"""mount.strata and strata-mount as a stranger would have them: odd ends, surroundings, names, words, and files that are none."""
+import os
+import signal
+import socket
+import subprocess
+import tarfile
+
+from checks.installed.mounts import NOT_MOUNTED, STACK, WRONG_WORDS, hold_stack, places, servers, settle
+from checks.installed.roots import hold, hold_in
+
+HELPER, PLACE = "/usr/local/sbin/mount.strata", "/mnt/strange"
+LOWER = "/srv/lower.romfs"
+SECONDS = 60
+# what a stranger may have planted, each of which leaves a word in this file
+PLANTED = "/tmp/planted"
+MODULES = ("os", "mount", "mount_helper", "struct", "argparse", "site", "sitecustomize", "ends", "encodings/__init__")
+PROGRAMS = ("strata", "fusermount3", "python3", "sh")
+
+
+def begin(root):
+    root.install()
+    os.mkdir(PLACE)
+
+
+def taken_away(root):
+    """Ends the one mount that there must be."""
+    hold("mounts", [PLACE], [place for place, _ in places()])
+    root.good("umount", PLACE)
+    settle("no server is left", [], servers)
+
+
+def held_refused(root, what, status, line, *words, **named):
+    """Holds a call that mounts nothing, with its status, and its last line."""
+    done = root.run(*words, timeout=SECONDS, **named)
+    hold(what, (status, []), (done.status, places()))
+    hold_in(what, line, done.err.splitlines()[-1] if done.err else "")
+    return done
+
+
+def ends(root):
+    """Standard ends that are closed or full, and SIGCHLD ignored, change no status."""
+    begin(root)
+    for closed in ((0,), (1,), (2,), (0, 1, 2)):
+        def close(numbers=closed):
+            for number in numbers:
+                os.close(number)
+        hold("closed %r" % (closed,), 0, root.run(HELPER, LOWER, PLACE, "-v", preexec_fn=close).status)
+        taken_away(root)
+        hold("closed %r, and no image" % (closed,), NOT_MOUNTED, root.run(HELPER, "/none", PLACE, preexec_fn=close).status)
+    with open("/dev/full", "wb") as full:
+        hold("full", 0, root.run(HELPER, LOWER, PLACE, "-v", stdout=full, stderr=full).status)
+        taken_away(root)
+        hold("full, and no image", NOT_MOUNTED, root.run(HELPER, "/none", PLACE, stdout=full, stderr=full).status)
+        done = root.run("strata-layers", "--version", stdout=full)
+        hold("full, of strata-layers", (1, "/dev/stdout: no space left on device\n"), (done.status, done.err))
+    held_refused(root, "SIGCHLD ignored", NOT_MOUNTED, "image 0 is /none: no such file", HELPER, "/none", PLACE,
+                 preexec_fn=lambda: signal.signal(signal.SIGCHLD, signal.SIG_IGN))
+    return "closed and full ends, and SIGCHLD ignored, change no status"
+
+
+def plant(folder):
+    """Plants modules and programs, which all tell that they were run."""
+    os.makedirs(folder + "/encodings")
+    os.makedirs(folder + "/lib/strata")
+    for name in MODULES:
+        for place in (folder, folder + "/lib/strata/" * ("/" not in name)):
+            with open(os.path.join(place or folder, name + ".py"), "w", encoding="ascii") as out:
+                out.write("open(%r, 'a').write(%r)\n" % (PLANTED, name))
+    for name in PROGRAMS:
+        with open(os.path.join(folder, name), "w", encoding="ascii") as out:
+            out.write("#!/bin/sh\necho %s >> %s\n" % (name, PLANTED))
+            os.fchmod(out.fileno(), 0o755)
+    for place in (folder, folder + "/sbin"):
+        os.makedirs(place, exist_ok=True)
+        os.symlink(HELPER, place + "/mount.strata")
+
+
+def surroundings(root):
+    """Nothing of the environment, of the working folder, or beside a link to the helper decides what it runs."""
+    begin(root)
+    folder = "/tmp/stranger"
+    plant(folder)
+    named = {name: folder for name in ("PYTHONPATH", "PYTHONHOME", "PYTHONUSERBASE", "HOME", "TMPDIR", "XDG_DATA_HOME")}
+    odd = {"PATH": folder + ":/usr/bin", "PYTHONSTARTUP": folder + "/os.py", "PYTHONINSPECT": "1", "PYTHONMALLOC": "odd", "IFS": "/",
+           "PYTHONIOENCODING": "rot13", "PYTHONUTF8": "x", "LANG": "xx", "LC_ALL": "xx_YY", "BASH_ENV": folder + "/sh",
+           "_FUSE_COMMFD": "3", **named}
+    for helper in (HELPER, "./mount.strata", "sbin/mount.strata"):
+        for mask in (0, 0o777):
+            done = root.run(helper, STACK, PLACE, cwd=folder, env=odd, umask=mask)
+            hold(helper, (0, ""), (done.status, done.err))
+            hold_stack(root, PLACE)
+            taken_away(root)
+        held_refused(root, helper, NOT_MOUNTED, "no such file", helper, "/none", PLACE, cwd=folder, env=odd)
+    hold("what was planted", False, os.path.exists(PLANTED))
+    return "environment, working folder, links and masks decide nothing"
+
+
+def odd_words(root):
+    """Numbers out of range, and very long or odd words, are refused before anything is mounted, in one line."""
+    begin(root)
+    for said in ("readers=0", "readers=65", "readers=" + "9" * 50000, "workers=0", "uid=" + "9" * 50000, "a\nb", "nonsense," * 9000):
+        done = held_refused(root, said[:20], WRONG_WORDS, "mount.strata: ", HELPER, LOWER, PLACE, "-o", said)
+        hold("lines of %s" % said[:20], (1, True), (done.err.count("\n"), len(done.err) < 5000))
+    hold("many words", 0, root.run(HELPER, LOWER, PLACE, "-o", "readers=00064," + "x-a,ro," * 15000).status)
+    taken_away(root)
+    return "numbers, a new line, very many words"
+
+
+def names(root):
+    """Names of all bytes, long ones, and a working folder that is gone."""
+    begin(root)
+    for name in ("new\nline", "\x1b[31m", "-x", "$(id)'\"", "..x"):
+        os.link(LOWER, "/srv/" + name)
+        hold("a name", 0, root.run(HELPER, "/srv/" + name, PLACE).status)
+        taken_away(root)
+        done = held_refused(root, "a missing one", NOT_MOUNTED, "", HELPER, "/srv/no/" + name, PLACE)
+        hold("lines", (2, True), (done.err.count("\n"), done.err.replace("\n", "").isprintable()))
+    os.link(LOWER, b"/srv/\xff")
+    held_refused(root, "no UTF-8", NOT_MOUNTED, "no name in UTF-8", HELPER, b"/srv/\xff", PLACE)
+    held_refused(root, "a long name", NOT_MOUNTED, "file name too long", HELPER, "/" + "a" * 4000, PLACE)
+    held_refused(root, "a longer one", WRONG_WORDS, "longer together", HELPER, "/" + "a" * 5000, PLACE)
+    os.mkdir("/tmp/gone")
+    gone = "cd /tmp/gone; rmdir /tmp/gone; exec "
+    held_refused(root, "a folder that is gone", NOT_MOUNTED, "mount.strata: the working folder: No such file or directory",
+                 "sh", "-c", gone + HELPER + " x.romfs " + PLACE)
+    return "names of all bytes are shown in one line"
+
+
+def no_files(root):
+    """Pipes, sockets and devices are not waited for to say what they are; of a sparse archive headers alone are read."""
+    begin(root)
+    os.mkfifo("/srv/pipe")
+    writer = subprocess.Popen(["sh", "-c", "echo hallo > /srv/pipe"])
+    held_refused(root, "a pipe", NOT_MOUNTED, "layer 0 is /srv/pipe: an image has 16 bytes at least", HELPER, "/srv/pipe", PLACE)
+    writer.wait()
+    hold("-f of a pipe", 0, root.run(HELPER, "/srv/pipe", PLACE, "-f", timeout=SECONDS).status)
+    socket.socket(socket.AF_UNIX).bind("/srv/socket")
+    held_refused(root, "a socket", NOT_MOUNTED, "it is a socket", HELPER, "/srv/socket", PLACE)
+    held_refused(root, "a device", NOT_MOUNTED, "an image has 16 bytes at least", HELPER, "/dev/null", PLACE)
+    held_refused(root, "a file of /proc", NOT_MOUNTED, "begins with `-rom1fs-`", HELPER, "/proc/version", PLACE)
+    os.symlink("loop", "/srv/loop")
+    held_refused(root, "a loop", NOT_MOUNTED, "too many levels of symbolic links", HELPER, "/srv/loop", PLACE)
+    info = tarfile.TarInfo("p")
+    info.type, info.size = b"x", 8 << 30
+    with open("/srv/sparse", "wb") as out:
+        out.write(info.tobuf(tarfile.GNU_FORMAT))
+        out.truncate(9 << 30)
+    held_refused(root, "a sparse archive", NOT_MOUNTED, "an archive of tar", "prlimit", "--as=%d" % (1 << 30), HELPER, "/srv/sparse", PLACE)
+    return "a pipe, a socket, devices, a file of /proc, a loop, an archive that says 8 GiB"
+
+
+def interrupted(root):
+    """Who waits for a file that doesn't answer is ended by SIGTERM and SIGINT, and doesn't say that it is mounted."""
+    begin(root)
+    os.mkfifo("/srv/silent")
+    for words, wanted in (((HELPER, "/srv/silent", PLACE), 8), (("strata-mount", "--background", "/srv/silent", PLACE), 130)):
+        for number in (signal.SIGTERM, signal.SIGINT):
+            run = subprocess.Popen(words, stdin=subprocess.DEVNULL)
+            settle("a server", 1, lambda: len(servers()))
+            run.send_signal(number)
+            hold("%s, by signal %d" % (words[0], number), (wanted, []), (run.wait(SECONDS), places()))
+            settle("no server is left", [], servers)
+    return "an image that never comes: 8 by mount.strata, 130 by strata-mount"
+
+
+def over_itself(root):
+    """strata is not mounted over what it needs: it would wait for itself."""
+    begin(root)
+    for place, needed in (("/usr/local", "/usr/local/bin/strata"), ("/usr/local/bin", "/usr/local/bin/strata"),
+                          ("/usr/local/lib/strata", "/usr/local/lib/strata/mount.py"), ("/usr", "/usr/")):
+        held_refused(root, place, NOT_MOUNTED, "%s" % needed, HELPER, LOWER, place)
+        held_refused(root, place, NOT_MOUNTED, "strata needs this file, which lies in the folder", HELPER, LOWER, place)
+    return "a mount over strata's own program, modules or libraries is refused"
+
+
+CHECKS = (ends, surroundings, odd_words, names, no_files, interrupted, over_itself)

@@ -1,0 +1,44 @@
+"""What a program finds when it begins, whoever started it, and what it writes to whoever is there to read it."""
+import os
+import signal
+import sys
+
+
+def begin():
+    """Opens the standard ends that are closed, so that no other file takes their numbers. Children are waited for, also
+    where SIGCHLD was ignored, since then the system tells nobody how they ended."""
+    signal.signal(signal.SIGCHLD, signal.SIG_DFL)
+    number = os.open(os.devnull, os.O_RDWR)
+    while number <= 2:
+        os.set_inheritable(number, True)
+        number = os.open(os.devnull, os.O_RDWR)
+    os.close(number)
+    sys.stdout = sys.stdout or open(1, "w", encoding="utf-8", closefd=False)
+    sys.stderr = sys.stderr or open(2, "w", encoding="utf-8", errors="backslashreplace", closefd=False)
+
+
+def write(text, end=None):
+    """Writes text on standard error, or another end, if that takes it: what was done stays done."""
+    end = end or sys.stderr
+    try:
+        end.write(text)
+        end.flush()
+    except OSError:
+        lose(end)
+
+
+def put(data):
+    """Writes bytes on standard output, which are what was asked for; OSError where it doesn't take them."""
+    try:
+        sys.stdout.buffer.write(data)
+        sys.stdout.flush()
+    except OSError as fault:
+        lose(sys.stdout)
+        raise OSError(fault.errno, fault.strerror, "/dev/stdout") from None
+
+
+def lose(end):
+    """Lets what an end doesn't take go nowhere. Else python tries again at its own end, and changes the status."""
+    number = os.open(os.devnull, os.O_WRONLY)
+    os.dup2(number, end.fileno())
+    os.close(number)
