@@ -8,7 +8,7 @@ import time
 from checks.mounts.mounted_readers import statuses
 from checks.mounts.mounted_trees import MIB, file, folder
 from checks.shared.images import Item, laid_out, write_spread
-from checks.shared.mounting import SECONDS, Failed, hold
+from checks.shared.mounting import SECONDS, hold, wait_until
 from checks.shared.watched_file import CUT, FAIL, SERVE, TURN, WAIT, WatchedFile, turned
 
 PAGE = 4096
@@ -214,14 +214,6 @@ def asking(function):
         finally:
             os._exit(status)
     return child
-
-
-def wait_until(what, test):
-    for _ in range(5000):
-        if test():
-            return
-        time.sleep(0.005)
-    raise Failed("never: %s" % what)
 
 
 def anonymous(process):

@@ -8,7 +8,7 @@ import time
 
 from checks.mounts.mounted_ends import abort, connections
 from checks.mounts.mounted_trees import MIB, file, folder
-from checks.shared.mounting import Failed, hold
+from checks.shared.mounting import Failed, hold, wait_until
 from mount import MNT_DETACH
 
 # so many processes look at a mount at the same time
@@ -76,6 +76,7 @@ def readers(room):
     image, data = image_of(room)
     for count in (1, 2, 4, 64):
         mount = room.mount([image], "-o", "readers=%d,workers=1" % count)
+        wait_until("%d threads" % count, lambda: threads_of(mount.server) >= count)
         hold("threads", count, threads_of(mount.server))
         hold("processes that look", {0}, statuses([started(look, mount, data, number) for number in range(CLIENTS)]))
         mount.end()

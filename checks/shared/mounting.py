@@ -141,6 +141,15 @@ def wait_for(process, at):
         time.sleep(0.005)
 
 
+def wait_until(what, test):
+    """Waits for what comes at last; half of the time that a check has at most."""
+    until = time.monotonic() + SECONDS / 2
+    while not test():
+        if time.monotonic() > until:
+            raise Failed("never: %s" % what)
+        time.sleep(0.005)
+
+
 def try_mount(folder):
     """Whether mounts can be had here: `yes`, or why not."""
     try:
