@@ -17,7 +17,7 @@ use std::marker::Model;
 /// The rows of attributes of each layer, the lowest first, and the stamps of the nodes by number. A
 /// clause sees both.
 ///
-/// A stamp takes 20 bytes, and a row 12 beside it. The stamps of nodes stand first, so that a
+/// A stamp takes 20 bytes, and beside it a row takes 12. The stamps of nodes stand first, so that a
 /// node's is found by its number at once, and a row of a node has the node's. Behind them stand
 /// those of rows that belong to no node. Where no layer has a row there are no stamps.
 #[derive(Drop)]

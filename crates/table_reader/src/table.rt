@@ -25,9 +25,9 @@ use std::marker::Model;
 /// A clause sees the layers, their listing, the layers' rows of attributes, whom nodes without a
 /// row belong to, and whether the images are held whole. Each node and row takes at most 113 bytes
 /// beside a name of more than 22 (16 of them for guesses of where names stand), and a directory 32
-/// more. Where any layer has a row of attributes, each node takes 20 more, and each such row 12, or
-/// 32 where it belongs to no node. No reader takes memory, and each answers for every number: 1 is
-/// the root, and a number that is not in use has nothing.
+/// more. Where any layer has a row of attributes, each node takes 20 more, and such a row takes 12,
+/// or 32 where it belongs to no node. No reader takes memory, and each answers for every number: 1
+/// is the root, and a number that is not in use has nothing.
 ///
 /// ```text
 /// if let Some(number) = table.child(1, b"etc") {
