@@ -5,6 +5,7 @@
 #![tactic(auto)]
 
 mod attr;
+pub mod examples;
 mod owner;
 
 pub use attr::Attr;

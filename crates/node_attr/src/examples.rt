@@ -1,0 +1,10 @@
+//! Whom a node belongs to, whose image tells nothing of it.
+
+ghost use Rattle.std.specs.Prelude.{◌≡◌};
+ghost use Rattle.node_attr.specs.declared.owner.TheConstants.Owner.{ROOT};
+
+/// The superuser is user 0, and its group is group 0.
+pub fn superuser_example()
+    ensures user { ROOT.uid ≡ 0 }
+    ensures group { ROOT.gid ≡ 0 }
+{}
