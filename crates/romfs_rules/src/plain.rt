@@ -8,6 +8,7 @@
 ghost use Rattle.std.specs.Prelude.{◌≡◌, ℕ, [], ◌+◌, ◌/◌, ◌<◌, ◌≤◌, ◌^◌, IfOk, IsTrue, length, get_or};
 ghost use Rattle.romfs_format.specs.declared.limits.TheConstants.{HEAD_SIZE};
 ghost use Rattle.romfs_format.specs.Fields.{IsInside};
+ghost use Rattle.romfs_rules.specs.Marks.{IsFresh};
 ghost use Rattle.romfs_rules.specs.Names.{kept_names, AreNameHashes, HaveNamesApart};
 ghost use Rattle.romfs_rules.specs.Plain.{AddsFolder, PassesChain, PassesFolder, KeepsPlainly};
 
@@ -15,9 +16,9 @@ use crate::lead::{first_of, next_of};
 use crate::member::opens;
 use crate::names::{have_hashes_apart, name_classes_by};
 use crate::plain_header::plain_hash;
-use crate::slot::{is_fresh, no_marks};
+use crate::slot::is_inside;
 use crate::volume::Volume;
-use slot_sets::SlotSet;
+use slot_sets::SparseSlots;
 use std::alloc::{AllocError, Allocator};
 use std::marker::Model;
 
@@ -39,7 +40,7 @@ pub(crate) fn is_plain_image<A: Allocator + Copy>(
     ensures { IfOk result (λ plain. IsTrue plain → KeepsPlainly volume.now.bytes.now) }
 {
     let mut walk = Walk {
-        marks: no_marks(alloc, volume)?,
+        marks: SparseSlots::new(alloc, volume.bytes.len() / 16)?,
         todo: Vec::new(alloc),
         heads: Vec::new(alloc),
         hashes: Vec::new(alloc),
@@ -60,7 +61,7 @@ pub(crate) fn is_plain_image<A: Allocator + Copy>(
 #[derive(Drop)]
 struct Walk<A: Allocator> {
     /// The headers that it has come to.
-    marks: SlotSet<A>,
+    marks: SparseSlots<A>,
     /// The directories that are still to come.
     todo: Vec<Folder, A>,
     /// The headers of the chain that it goes along.
@@ -114,7 +115,7 @@ impl<A: Allocator + Copy> Walk<A> {
         let mut next = first_of(volume, folder.header as usize);
         while let Some(head) = next {
             let at = head as usize;
-            if !is_fresh(volume, at, &self.marks) {
+            if !is_new(volume, at, &self.marks) {
                 return Ok(false);
             }
             let Some(hash) = plain_hash(volume, folder, at) else {
@@ -128,6 +129,15 @@ impl<A: Allocator + Copy> Walk<A> {
         }
         Ok(true)
     }
+}
+
+// Whether a header lies in the image, and has no mark.
+fn is_new<A: Allocator>(volume: &Volume, at: usize, marks: &SparseSlots<A>) -> bool
+    requires at { at < 2 ^ 32 }
+    requires sized { length marks.now ≡ length volume.now.bytes.now / 16 }
+    ensures { IsTrue result → IsFresh volume.now.bytes.now marks.now at }
+{
+    is_inside(volume, at) && !marks.contains(at / 16)
 }
 
 // Whether no two of these headers have one name.

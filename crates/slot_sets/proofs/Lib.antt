@@ -1,4 +1,5 @@
 pub mod Bits
+pub mod Paged
 pub mod Ranks
 pub mod Spreading
 pub mod Unions

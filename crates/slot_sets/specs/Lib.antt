@@ -1,3 +1,4 @@
 pub mod Sets
+pub mod Pages
 pub mod Words
 pub mod Listed

@@ -1,10 +1,12 @@
--- The images of a line. `are_sources` says of images that were taken apart what their data are read from, `whole_held`
--- that nothing is where a line asks for all bytes; `seen_as` lends their files. `one_held` is the step of the loop that
--- holds images whole.
-use Rattle.std.proofs.Common.{◌≡◌, ◌∙◌, sym, ap, subst, refl, ℕ, inl, inr, true, false, true≢false, List, [], ◌∷◌, ◌++◌, append_assoc, map, All, Bool, Some, Vec}
+-- The images of a line. `are_sources` says of images that were taken apart what their data are read from,
+-- `stacked_sources` that their stack has the same; `whole_held` that nothing is where a line asks for all bytes, and
+-- `held_whole` that a stack without sources is held. `seen_as` lends their files. `one_held` is the step of the loop
+-- that holds images whole.
+use Rattle.std.proofs.Common.{◌≡◌, ◌≤◌, ◌⊎◌, ◌∙◌, sym, ap, subst, refl, ℕ, inl, inr, true, false, true≢false, List, [], ◌∷◌, ◌++◌, append_assoc, length, map, All, Bool, Some, Vec, arith}
 use Rattle.std.specs.List.{AllByRecursion}
 use Rattle.std.proofs.lemmas.List.{map-append}
 use Rattle.std.proofs.lemmas.List.Elements.{recursion_from_All}
+use Rattle.image_bytes.specs.Sources.{Source}
 use Rattle.image_files.specs.declared.image_data.ImageData.{ImageData}
 use Rattle.image_files.specs.declared.image_data.ImageData.TheVariants.{File, Memory}
 use Rattle.image_files.specs.declared.whole.Trailers.{Trailers}
@@ -13,7 +15,7 @@ use Rattle.image_files.specs.Opened.{Opened, AreApart, IsFaithful, WasGathered}
 use Rattle.command_line.specs.declared.options.Line.{Line}
 use Rattle.stack_model.specs.Listing.{Stacked}
 use Rattle.reply_model.specs.Readings.{Sourced, in_memory, sourced}
-use Rattle.strata.specs.Images.{AreDataOf, ArePrepared, HaveSources, IsDataOf, sources_of, trailers_of}
+use Rattle.strata.specs.Images.{AreDataOf, AreHeldWhole, ArePrepared, HaveSources, IsDataOf, sources_of, trailers_of}
 
 -- the data of an image that is open, of which these bytes are known
 is_data : {F A : Type 0} (trailers : Trailers) (image : Opened) (file : ImageData F A) → known_bytes file ≡ image.known
@@ -42,22 +44,50 @@ are_data trailers (image ∷ images) (d ∷ files) known read faithful =
 pub are_sources : {F A B C : Type 0} (line : Line) (images : List Opened) (kept : Vec (List ℕ) B) (files : Vec (ImageData F A) C)
     → (whole : Bool) → whole ≡ false → (line.whole ≡ true → whole ≡ true)
     → All (λ (image : Opened). image.trailers ≡ trailers_of line) images → AreApart images kept.items files.items
-    → HaveSources line kept.items (sources_of files)
+    → HaveSources line false kept.items (sources_of files)
 are_sources line images kept files whole left asked read apart =
     let are = subst (λ held. AreDataOf (trailers_of line) held (sources_of files)) (sym apart.kept_are)
     (are_data (trailers_of line) images files.items apart.known_are
     (recursion_from_All (λ (image : Opened). image.trailers ≡ trailers_of line) images read)
     (recursion_from_All IsFaithful images apart.gathered)) in
     record {
-      whole = λ all. absurd (true≢false (sym (asked all) ∙ left));
+      asked = λ all. absurd (true≢false (sym (asked all) ∙ left));
       opened = λ _ _. are;
       either = inr are;
     }
 
+-- what images have their data from where they are held whole, a stack that is whole has too
+pub stacked_sources : (line : Line) (whole stacked : Bool) (images : List (List ℕ)) (sources : List Source)
+    → (whole ≡ true → stacked ≡ true) → HaveSources line whole images sources → HaveSources line stacked images sources
+stacked_sources line whole stacked images sources same have =
+    let held : AreHeldWhole whole sources → AreHeldWhole stacked sources = λ all. (same all.0, all.1) in
+    record {
+      asked = λ all. held (have.asked all);
+      opened = have.opened;
+      either = by_either have.either held;
+    }
+  where
+    by_either : AreHeldWhole whole sources ⊎ AreDataOf (trailers_of line) images sources
+        → (AreHeldWhole whole sources → AreHeldWhole stacked sources)
+        → AreHeldWhole stacked sources ⊎ AreDataOf (trailers_of line) images sources
+    by_either (inl all) held = inl (held all)
+    by_either (inr are) held = inr are
+
 -- the stack of a line that asks for all bytes is held
 pub whole_held : (line : Line) (images : List (List ℕ)) (by : Sourced) → line.whole ≡ true → ArePrepared line images by
     → by ≡ in_memory by.stack
-whole_held line images by whole p = ap (λ sources. sourced by.stack sources) (p.sources.whole whole)
+whole_held line images by whole p = ap (λ sources. sourced by.stack sources) (p.sources.asked whole).1
+
+-- a stack whose data are read from nothing is held whole
+pub held_whole : (line : Line) (images : List (List ℕ)) (by : Sourced) → by.sources ≡ [] → ArePrepared line images by
+    → by.stack.whole ≡ true
+held_whole line images by none p = by_either images p.stacked.layers.few.0 p.sources.either
+  where
+    by_either : (images : List (List ℕ)) → 1 ≤ length images
+        → AreHeldWhole by.stack.whole by.sources ⊎ AreDataOf (trailers_of line) images by.sources → by.stack.whole ≡ true
+    by_either images few (inl all) = all.0
+    by_either [] few (inr are) = absurd (omega arith)
+    by_either (image ∷ images) few (inr are) = absurd (subst (λ s. AreDataOf (trailers_of line) (image ∷ images) s) none are)
 
 -- the next image goes from those that are left to those that are held
 pub one_held : {X Y : Type 0} (v : X → List ℕ) (w : Y → List ℕ) (all : List (List ℕ)) (done : List X) (left rest : List Y) (x : X) (y : Y)

@@ -34,6 +34,11 @@ abbrev pub bytes_of : {A : Type 0} → HeldImages A → List (List ℕ)
 bytes_of (Whole images) = contents_of images
 bytes_of (Kept images) = images.items
 
+-- whether all bytes of images are held
+abbrev pub are_whole : {A : Type 0} → HeldImages A → Bool
+are_whole (Whole images) = true
+are_whole (Kept images) = false
+
 -- what reads of the data of images may give
 abbrev pub sources_of : {F A B : Type 0} → Vec (ImageData F A) B → List Source
 sources_of files = map source_of files.items
@@ -57,16 +62,20 @@ AreDataOf trailers (image ∷ images) [] = ⊥
 abbrev pub stay_in_files : Line → Bool
 stay_in_files line = line.in_files || line.device
 
--- what the data of the images of a line are read from: each from a source of its own; or nothing,
--- since all is held, as where it says `--whole`
-pub record HaveSources (line : Line) (images : List (List ℕ)) (sources : List Source)
-    : Type 0 where
-  pub whole : line.whole ≡ true → sources ≡ []
+-- the data of images are read from nothing, since all bytes are held
+abbrev pub AreHeldWhole : Bool → List Source → Type 0
+AreHeldWhole whole sources = (whole ≡ true) × (sources ≡ [])
+
+-- what the data of the images of a line are read from: from nothing, where all bytes are held, as
+-- where it says `--whole`; or each from a source of its own
+pub record HaveSources (line : Line) (whole : Bool) (images : List (List ℕ))
+    (sources : List Source) : Type 0 where
+  pub asked : line.whole ≡ true → AreHeldWhole whole sources
   pub opened : line.whole ≡ false → stay_in_files line ≡ true
       → AreDataOf (trailers_of line) images sources
-  pub either : (sources ≡ []) ⊎ AreDataOf (trailers_of line) images sources
+  pub either : AreHeldWhole whole sources ⊎ AreDataOf (trailers_of line) images sources
 
 -- the images of a line are good, and this is their stack with the sources of their data
 pub record ArePrepared (line : Line) (images : List (List ℕ)) (by : Sourced) : Type 0 where
   pub stacked : AreStacked (profile_of line) line.owner images by.stack
-  pub sources : HaveSources line images by.sources
+  pub sources : HaveSources line by.stack.whole images by.sources

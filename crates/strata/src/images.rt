@@ -4,7 +4,7 @@ ghost use Rattle.std.specs.Prelude.{◌≡◌, false, true, vec_len, IfOk, IfErr
 ghost use Rattle.image_files.specs.Opening.{held_contents};
 ghost use Rattle.stack_prepare.specs.Layers.{contents_of};
 ghost use Rattle.strata.specs.Faults.{AreUnread};
-ghost use Rattle.strata.specs.Images.{NamesAsMany, HaveSources, bytes_of, sources_of, stay_in_files, trailers_of};
+ghost use Rattle.strata.specs.Images.{NamesAsMany, HaveSources, are_whole, bytes_of, sources_of, stay_in_files, trailers_of};
 
 use crate::faults::Fault;
 use command_line::Line;
@@ -49,7 +49,8 @@ where
     R::Dir: Send,
     ensures named { IfOk result (λ images. NamesAsMany line.now (bytes_of images.held)) }
     ensures sources { IfOk result (λ images.
-        HaveSources line.now (bytes_of images.held) (sources_of images.files)) }
+        HaveSources line.now (are_whole images.held) (bytes_of images.held)
+            (sources_of images.files)) }
     ensures err { IfErr result (AreUnread (vec_len line.now.images)) }
 {
     let paths = line.images.as_slice();

@@ -1,6 +1,6 @@
 //! What the exit statuses mean, by what [`crate::command`] and [`crate::sessions_from`] promise.
 
-ghost use Rattle.std.specs.Prelude.{◌≡◌, ◌≢◌, ◌≤◌, ◌⊎◌, ℕ, List, Bool, true, false, is_some, Option, Ok, Err};
+ghost use Rattle.std.specs.Prelude.{◌≡◌, ◌≢◌, ◌≤◌, ◌⊎◌, ℕ, List, [], Bool, true, false, is_some, Option, Ok, Err};
 ghost use Rattle.command_line.specs.CommandLine.{IsRefused, IsMisnumbered, IsCrossed};
 ghost use Rattle.command_line.specs.declared.options.Line.{Line};
 ghost use Rattle.command_line.specs.declared.options.Verb.TheVariants as verbs;
@@ -84,11 +84,14 @@ pub fn devices_are_served_lastingly()
 {}
 
 /// Of a line that asks for all bytes of its images the data are read from nothing: what is promised
-/// over its stack is what is promised over a stack that is held.
-#[tactic(auto, using(crate::proofs::Opened::whole_held))]
+/// over its stack is what is promised over a stack that is held. And only of a stack whose bytes are
+/// all held are they read from nothing.
+#[tactic(auto, using(crate::proofs::Opened::whole_held, crate::proofs::Opened::held_whole))]
 pub fn whole_images_are_held()
-    ensures { (line : Line) (images : List (List ℕ)) (by : Sourced) → line.whole ≡ true →
+    ensures asked { (line : Line) (images : List (List ℕ)) (by : Sourced) → line.whole ≡ true →
         ArePrepared line images by → by ≡ in_memory by.stack }
+    ensures held { (line : Line) (images : List (List ℕ)) (by : Sourced) → by.sources ≡ [] →
+        ArePrepared line images by → by.stack.whole ≡ true }
 {}
 
 /// A failed write tells that the mount was taken away where either side knows, and a failed read

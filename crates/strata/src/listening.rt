@@ -3,7 +3,7 @@
 ghost use Rattle.std.specs.Prelude.{◌≡◌, ◌⊎◌, is_some, true, IfOk, IfErr};
 ghost use Rattle.command_line.specs.CommandLine.{IsInLimits};
 ghost use Rattle.strata.specs.Ending.{AreNotStacked, EndsAtSocket, IsNotBound};
-ghost use Rattle.strata.specs.Images.{HaveSources, bytes_of, profile_of, sources_of};
+ghost use Rattle.strata.specs.Images.{HaveSources, are_whole, bytes_of, profile_of, sources_of};
 
 use crate::clients::sessions_from;
 use crate::faults::Fault;
@@ -35,7 +35,8 @@ where
     R::File: FileExt + Sync,
     requires limits { IsInLimits line.now }
     requires socket { is_some line.now.listen ≡ true }
-    requires images { HaveSources line.now (bytes_of images.held) (sources_of images.files) }
+    requires images { HaveSources line.now (are_whole images.held) (bytes_of images.held)
+        (sources_of images.files) }
     ensures ended { IfOk result (λ status. EndsAtSocket A line.now (bytes_of images.held) status) }
     ensures stopped { IfErr result (λ fault.
         AreNotStacked (profile_of line.now) (bytes_of images.held) fault

@@ -1,10 +1,10 @@
 //! The images of a line, checked and stacked.
 
-ghost use Rattle.std.specs.Prelude.{IfOk, IfErr};
+ghost use Rattle.std.specs.Prelude.{◌≡◌, true, IfOk, IfErr};
 ghost use Rattle.reply_model.specs.Readings.{sourced};
 ghost use Rattle.stack_prepare.specs.Layers.{AreRefused};
 ghost use Rattle.stack_prepare.specs.Preparing.{AreStacked};
-ghost use Rattle.strata.specs.Images.{ArePrepared, HaveSources, bytes_of, profile_of, sources_of};
+ghost use Rattle.strata.specs.Images.{ArePrepared, HaveSources, are_whole, bytes_of, profile_of, sources_of};
 
 use crate::images::{HeldImages, LineImages};
 use crate::settings::profile_of;
@@ -22,7 +22,8 @@ pub fn prepare<R: Threads + Sync, F: Drop, A: Allocator + Copy + Send + Sync>(
     line: &Line<'_>,
     images: LineImages<F, A>,
 ) -> Result<(Table<A>, Vec<ImageData<F, A>, A>), Refusal>
-    requires { HaveSources line.now (bytes_of images.held) (sources_of images.files) }
+    requires { HaveSources line.now (are_whole images.held) (bytes_of images.held)
+        (sources_of images.files) }
     ensures ok { IfOk result (λ ready. ArePrepared line.now (bytes_of images.held)
         (sourced ready.0 (sources_of ready.1))) }
     ensures err { IfErr result (AreRefused (profile_of line.now) (bytes_of images.held)) }
@@ -41,6 +42,7 @@ pub fn stack_held<R: Threads + Sync, A: Allocator + Copy + Send + Sync>(
     owner: Owner,
 ) -> Result<Table<A>, Refusal>
     ensures ok { IfOk result (AreStacked profile owner (bytes_of images)) }
+    ensures whole { IfOk result (λ table. are_whole images ≡ true → table.whole ≡ true) }
     ensures err { IfErr result (AreRefused profile (bytes_of images)) }
 {
     match images {

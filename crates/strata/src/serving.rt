@@ -7,7 +7,7 @@ ghost use Rattle.command_line.specs.CommandLine.{IsInLimits};
 ghost use Rattle.fuse_answer.specs.Puts.{sourced_by};
 ghost use Rattle.serve_loop.specs.Serving.{Trace, Does};
 ghost use Rattle.strata.specs.Ending.{first_of, AreNew, Gave, GetsReplies, IsServing, IsServedWhole, IsNotServed};
-ghost use Rattle.strata.specs.Images.{HaveSources, bytes_of, sources_of};
+ghost use Rattle.strata.specs.Images.{HaveSources, are_whole, bytes_of, sources_of};
 ghost use Rattle.strata.specs.Sessions.{IsSession};
 
 use crate::balances::tell_balances;
@@ -42,7 +42,8 @@ where
     R::File: FileExt + Sync,
     requires limits { IsInLimits line.now }
     requires new { AreNew (devices (S.state input.old) (K.state output.old)) }
-    requires images { HaveSources line.now (bytes_of images.held) (sources_of images.files) }
+    requires images { HaveSources line.now (are_whole images.held) (bytes_of images.held)
+        (sources_of images.files) }
     ensures done { OnOk result (IsServedWhole A line.now (bytes_of images.held)
         (devices (S.state input.old) (K.state output.old))
         (devices (S.state input.new) (K.state output.new))) }

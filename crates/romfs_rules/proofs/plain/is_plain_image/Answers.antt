@@ -8,8 +8,8 @@ use Rattle.romfs_rules.proofs.plain.is_plain_image.Goals as goal
 
 pub loop-folder-init : goal.loop-folder-init
 loop-folder-init g c =
-    begun c.args.volume.now.bytes.now _ _ (rw (c.in_ok-push.ensures.items, c.new.ensures.items, c.args.volume.now.rooted) refl)
-    (inside_root c.args.volume.now.bytes.now c.args.volume.now.keeps) c.in_ok-no_marks.ensures
+    begun c.args.volume.now.bytes.now _ _ (rw (c.in_ok-push.ensures.items, c.new-2.ensures.items, c.args.volume.now.rooted) refl)
+    (inside_root c.args.volume.now.bytes.now c.args.volume.now.keeps) (rw c.len.ensures at c.in_ok-new.ensures)
 
 pub is_plain_folder-requires-clause-sized : goal.is_plain_folder-requires-clause-sized
 is_plain_folder-requires-clause-sized g c = let d = rw (← c.walk.view_is) at c.loop-folder.invariant in d.sized

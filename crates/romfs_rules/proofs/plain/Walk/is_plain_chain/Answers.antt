@@ -15,13 +15,13 @@ loop-next-init g c = record {
 
 pub loop-next-smaller : goal.loop-next-smaller
 loop-next-smaller g c =
-    let f = c.if-not-is_fresh.ensures.fresh refl in
+    let f = c.if-not-is_new.ensures refl in
     let less = marks_fall c.loop-next.self-inside.marks (c.in-Some.head / 16) f.1 f.2 in
     rw c.insert.ensures (omega arith)
 
 pub loop-next-preserved : goal.loop-next-preserved
 loop-next-preserved g c =
-    let f = c.if-not-is_fresh.ensures.fresh refl in
+    let f = c.if-not-is_new.ensures refl in
     let x = c.in-Some-plain_hash.ensures in
     let now : WalkState = record {
       marks = c.loop-next.self-inside.marks;
