@@ -50,7 +50,7 @@ where
     ensures named { IfOk result (λ images. NamesAsMany line.now (bytes_of images.held)) }
     ensures sources { IfOk result (λ images.
         HaveSources line.now (are_whole images.held) (bytes_of images.held)
-            (sources_of images.files)) }
+        (sources_of images.files)) }
     ensures err { IfErr result (AreUnread (vec_len line.now.images)) }
 {
     let paths = line.images.as_slice();
