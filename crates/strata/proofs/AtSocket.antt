@@ -1,6 +1,6 @@
 -- How the command `socket` ends, by how its sessions ended. `over_there` is of a command that did
 -- all its steps, whatever its sessions stopped for, and `stopped_there` of one that could not serve
--- any.
+-- any; `unbound` says why none was bound.
 use Rattle.std.proofs.Common.{◌≡◌, refl, ℕ, ◌⊎◌, inl, inr, List, Option, Some, None, Result, Ok, Err, IfOk, IfErr}
 use Rattle.command_line.specs.declared.options.Line.{Line}
 use Rattle.command_line.specs.declared.options.Verb.TheVariants.{Socket}
@@ -12,6 +12,12 @@ use Rattle.strata.specs.Images.{NamesAsMany, profile_of}
 use Rattle.strata.specs.Ending.{AreNotStacked, EndsAtSocket, EndsInFault, IsNotBound, IsOfSessions, IsOverWith, IsServedAtSocket}
 use Rattle.strata.proofs.Ended.{begun, whole}
 use Rattle.strata.proofs.InTurn.{of_sessions}
+
+-- why no socket was bound is one of the reasons for which none serves
+pub unbound : (P : Fault → Type 0) (line : Line) (images : List (List ℕ)) (r : Result ℕ Fault) → IfErr r (IsNotBound line images)
+    → IfErr r (λ fault. P fault ⊎ IsNotBound line images fault)
+unbound P line images (Ok status) e = e
+unbound P line images (Err fault) e = inr e
 
 told_by : {A : Type 0} (line : Line) (images : List (List ℕ)) (fault : Fault) → IsServedAtSocket A line images (Some fault)
     → IsOfSessions fault

@@ -15,7 +15,7 @@ use Rattle.strata.specs.declared.faults.Fault.{Fault}
 use Rattle.strata.specs.declared.faults.Fault.TheVariants.{Stopped}
 use Rattle.strata.specs.Faults.{out_of_memory, write_failed}
 use Rattle.strata.specs.Images.{ArePrepared, profile_of}
-use Rattle.strata.specs.Ending.{Gave, Took, Asks, GetsReplies, IsServing, IsServedWhole, IsNotServed}
+use Rattle.strata.specs.Ending.{Gave, Took, Asks, GetsReplies, IsServing, IsServedWhole, IsNotServed, IsFileFault}
 
 none_where : {X : Type 0} (o : Option X) → is_some o ≡ false → o ≡ None
 none_where None e = refl
@@ -53,6 +53,12 @@ pub from_file : {F G X E : Type 0} (named : Option F) (file : Option G) (x : G) 
 from_file named file x t result old same some = record { gave = λ none. absurd (no_file named file x same some none); kept = λ _. refl }
 
 module _ (A : Type 0) (line : Line) (images : List (List ℕ)) (old new : Devices) where
+  -- a file could not be opened or created, and no device was touched
+  pub unopened : (fault : Fault) (told : Result (Unit {0}) Fault) → IsFileFault line fault old new → IsErrAnd told (λ f. f ≡ fault)
+      → IfErr told (λ f. IsNotServed A line images f old new)
+  unopened fault (Ok u) w f = absurd f
+  unopened fault (Err told) w f = inl (subst (λ x. IsFileFault line x old new) (sym f) w)
+
   -- the images were refused
   pub refused : (refusal : Refusal) (told : Result (Unit {0}) Fault) → AreRefused (profile_of line) images refusal → new ≡ old
       → IsErrAnd told (λ fault. fault ≡ Stopped (stop_of_refusal refusal)) → IfErr told (λ fault. IsNotServed A line images fault old new)

@@ -162,6 +162,12 @@ pub record IsServedWhole (A : Type 0) (line : Line) (images : List (List ℕ))
   pub done : Done A
   pub serving : IsServing line by trace (Ok done) old new
 
+-- files are open where the line names them: of requests, of replies and of balances
+abbrev pub AreNamed : {F : Type 0} → Line → Option F → Option F → Option F → Type 0
+AreNamed line requests replies balances =
+    (is_some requests ≡ is_some line.requests) × (is_some replies ≡ is_some line.replies)
+    × (is_some balances ≡ is_some line.balances)
+
 -- a file that the line names could not be opened or created, and no device was touched
 pub record IsFileFault (line : Line) (fault : Fault) (old new : Devices) : Type 0 where
   pub kept : new ≡ old

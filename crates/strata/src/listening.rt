@@ -1,9 +1,10 @@
 //! The command `socket`.
 
-ghost use Rattle.std.specs.Prelude.{◌≡◌, ◌⊎◌, is_some, true, IfOk, IfErr};
+ghost use Rattle.std.specs.Prelude.{◌≡◌, ◌⊎◌, ℕ, List, is_some, true, IfOk, IfErr};
 ghost use Rattle.command_line.specs.CommandLine.{IsInLimits};
+ghost use Rattle.fuse_answer.specs.Puts.{sourced_by};
 ghost use Rattle.strata.specs.Ending.{AreNotStacked, EndsAtSocket, IsNotBound};
-ghost use Rattle.strata.specs.Images.{HaveSources, are_whole, bytes_of, profile_of, sources_of};
+ghost use Rattle.strata.specs.Images.{ArePrepared, HaveSources, are_whole, bytes_of, profile_of, sources_of};
 
 use crate::clients::sessions_from;
 use crate::faults::Fault;
@@ -12,6 +13,7 @@ use crate::preparing::prepare;
 use crate::settings::{first_of, plan_of};
 use command_line::Line;
 use devices::Listening;
+use image_bytes::Contents;
 use serve_core::Served;
 use std::alloc::Allocator;
 use std::fs::{self, Files};
@@ -44,15 +46,42 @@ where
 {
     let path = line.listen.unwrap();
     let (table, files) = prepare(rt, alloc, line, images)?;
+    let served = Served {
+        table: &table,
+        files: files.as_slice(),
+    };
+    listen_at(rt, alloc, line, served, path, faults)
+}
+
+// Binds a socket at a path, serves its sessions, and gives their status; at last the socket's file
+// is removed.
+fn listen_at<
+    R: Files + Net + Threads + Sync,
+    A: Allocator + Copy + Send + Sync,
+    D: Contents + Sync,
+    E: Write,
+>(
+    rt: &R,
+    alloc: A,
+    line: &Line<'_>,
+    served: Served<'_, A, D>,
+    path: &str,
+    faults: &mut E,
+) -> Result<u8, Fault>
+    requires limits { IsInLimits line.now }
+    ensures ended { (images : List (List ℕ)) →
+        ArePrepared line.now images (sourced_by D.source served.entry) →
+        IfOk result (λ status. EndsAtSocket A line.now images status) }
+    ensures stopped { (images : List (List ℕ)) →
+        ArePrepared line.now images (sourced_by D.source served.entry) →
+        IfErr result (λ fault. IsNotBound line.now images fault) }
+{
     let listener = bind(rt, path)?;
     let mut clients = Listening::new(&listener);
     let status = sessions_from(
         rt,
         alloc,
-        Served {
-            table: &table,
-            files: files.as_slice(),
-        },
+        served,
         first_of(line),
         &mut clients,
         line.sessions,

@@ -1,6 +1,10 @@
 //! The command `list`.
 
-ghost use Rattle.std.specs.Prelude.{◌<◌, ◌^◌, OnOk, IfErr};
+ghost use Rattle.std.specs.Prelude.{◌<◌, ◌^◌, ℕ, List, OnOk, IfErr};
+ghost use Rattle.node_attr.specs.declared.owner.TheConstants.Owner.{ROOT};
+ghost use Rattle.romfs_format.specs.declared.rule.Profile.{Profile};
+ghost use Rattle.path_list.specs.Faults.{Lists};
+ghost use Rattle.stack_prepare.specs.Preparing.{AreStacked};
 ghost use Rattle.strata.specs.Ending.{IsStackListed, IsNotListed};
 ghost use Rattle.strata.specs.Images.{bytes_of, profile_of};
 
@@ -11,7 +15,7 @@ use crate::settings::profile_of;
 use command_line::Line;
 use devices::Sink;
 use path_list::write_list;
-use stack_prepare::Owner;
+use stack_prepare::{Owner, Table};
 use std::alloc::Allocator;
 use std::thread::Threads;
 
@@ -32,6 +36,21 @@ pub fn list<R: Threads + Sync, A: Allocator + Copy + Send + Sync, K: Sink>(
         (K.state output.old) (K.state output.new)) }
 {
     let table = stack_held(rt, alloc, images, profile_of(line), Owner::ROOT)?;
-    write_list(alloc, &table, output)?;
+    put_list(alloc, &table, output)
+}
+
+// Puts a line for each path that a stack shows.
+fn put_list<A: Allocator + Copy, K: Sink>(
+    alloc: A,
+    table: &Table<A>,
+    output: &mut K,
+) -> Result<(), Fault>
+    requires { (K.state output.old).counts.failures < 2 ^ 63 }
+    ensures done { OnOk result (Lists table.now (K.state output.old) (K.state output.new)) }
+    ensures stopped { (profile : Profile) (images : List (List ℕ)) →
+        AreStacked profile ROOT images table.now → IfErr result (λ fault.
+        IsNotListed profile images fault (K.state output.old) (K.state output.new)) }
+{
+    write_list(alloc, table, output)?;
     Ok(())
 }

@@ -1,13 +1,13 @@
 //! The command `serve`.
 
-ghost use Rattle.std.specs.Prelude.{◌≡◌, is_some, OnOk, IfErr};
+ghost use Rattle.std.specs.Prelude.{◌≡◌, ℕ, List, is_some, IfOk, OnOk, IfErr};
 ghost use Rattle.std.specs.Io.KnownBytes.{IsAtEnd};
-ghost use Rattle.devices.specs.States.{devices};
+ghost use Rattle.devices.specs.States.{Devices, devices};
 ghost use Rattle.command_line.specs.CommandLine.{IsInLimits};
 ghost use Rattle.fuse_answer.specs.Puts.{sourced_by};
 ghost use Rattle.serve_loop.specs.Serving.{Trace, Does};
-ghost use Rattle.strata.specs.Ending.{first_of, AreNew, Gave, GetsReplies, IsServing, IsServedWhole, IsNotServed};
-ghost use Rattle.strata.specs.Images.{HaveSources, are_whole, bytes_of, sources_of};
+ghost use Rattle.strata.specs.Ending.{first_of, AreNamed, AreNew, Gave, GetsReplies, IsFileFault, IsServing, IsServedWhole, IsNotServed};
+ghost use Rattle.strata.specs.Images.{ArePrepared, HaveSources, are_whole, bytes_of, sources_of};
 ghost use Rattle.strata.specs.Sessions.{IsSession};
 
 use crate::balances::tell_balances;
@@ -51,14 +51,75 @@ where
         (devices (S.state input.old) (K.state output.old))
         (devices (S.state input.new) (K.state output.new))) }
 {
-    let requests = open_requests(rt, line.requests)?;
-    let replies = create_named(rt, line.replies, Fault::RepliesFile)?;
-    let balances = create_named(rt, line.balances, Fault::BalancesFile)?;
+    let streams = open_streams(rt, line)?;
     let (table, files) = prepare(rt, alloc, line, images)?;
     let served = Served {
         table: &table,
         files: files.as_slice(),
     };
+    serve_streams(rt, alloc, line, served, streams, input, output)
+}
+
+/// The files of a stream that a line names.
+#[derive(Drop)]
+struct Streams<F> {
+    requests: Option<F>,
+    replies: Option<F>,
+    balances: Option<F>,
+}
+
+// Opens the file of requests that a line names, and creates those of replies and balances.
+fn open_streams<R: Files>(rt: &R, line: &Line<'_>) -> Result<Streams<R::File>, Fault>
+    ensures named { IfOk result (λ streams. AreNamed line.now
+        streams.requests streams.replies streams.balances) }
+    ensures err { (old : Devices) → IfErr result (λ fault. IsFileFault line.now fault old old) }
+{
+    let requests = open_requests(rt, line.requests)?;
+    let replies = create_named(rt, line.replies, Fault::RepliesFile)?;
+    let balances = create_named(rt, line.balances, Fault::BalancesFile)?;
+    Ok(Streams {
+        requests,
+        replies,
+        balances,
+    })
+}
+
+// Answers the requests of a stream, and writes the balances at its end.
+fn serve_streams<
+    R: Threads + Sync,
+    A: Allocator + Copy + Send + Sync,
+    D: Contents + Sync,
+    F: Read + Write + Drop,
+    S: Source,
+    K: Sink,
+>(
+    rt: &R,
+    alloc: A,
+    line: &Line<'_>,
+    served: Served<'_, A, D>,
+    streams: Streams<F>,
+    input: &mut S,
+    output: &mut K,
+) -> Result<(), Fault>
+    requires limits { IsInLimits line.now }
+    requires named { AreNamed line.now streams.requests streams.replies streams.balances }
+    requires new { AreNew (devices (S.state input.old) (K.state output.old)) }
+    ensures done { (images : List (List ℕ)) →
+        ArePrepared line.now images (sourced_by D.source served.entry) →
+        OnOk result (IsServedWhole A line.now images
+        (devices (S.state input.old) (K.state output.old))
+        (devices (S.state input.new) (K.state output.new))) }
+    ensures stopped { (images : List (List ℕ)) →
+        ArePrepared line.now images (sourced_by D.source served.entry) →
+        IfErr result (λ fault. IsNotServed A line.now images fault
+        (devices (S.state input.old) (K.state output.old))
+        (devices (S.state input.new) (K.state output.new))) }
+{
+    let Streams {
+        requests,
+        replies,
+        balances,
+    } = streams;
     let done = serve_stream(rt, alloc, line, served, requests, replies, input, output)?;
     tell_balances(alloc, balances, done.balances.as_slice())
 }
