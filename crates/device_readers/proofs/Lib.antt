@@ -2,4 +2,5 @@ pub mod Told
 pub mod Opened
 pub mod Reading
 pub mod Order
+pub mod Begun
 pub mod Sums

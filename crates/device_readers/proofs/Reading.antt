@@ -23,7 +23,7 @@ use Rattle.serve_core.specs.Headline.{IsRunFrom}
 use Rattle.device_readers.specs.declared.ends.Ended.{Ended}
 use Rattle.device_readers.specs.Crews.{IsOfEach, IsOfLed, alone, by_itself, halves, with_others}
 use Rattle.device_readers.specs.Ends.{IsBehind, IsOfBoth, done_of, end_of}
-use Rattle.device_readers.specs.Readers.{AreReaders, AreServed, AreServedNew, Counts, IsAlone, IsOpenedOver, IsServedBy, Reader, counts_of, unused}
+use Rattle.device_readers.specs.Readers.{AreReaders, AreServed, AreServedNew, Counts, IsAlone, IsAloneWith, IsOpenedOver, IsServedBy, Reader, counts_of, unused}
 use Rattle.device_readers.proofs.Told.{behind_told, both_told, one_told}
 
 all_both : {X : Type 0} (P : X → Type 0) (xs ys : List X) → AllByRecursion P xs → AllByRecursion P ys → AllByRecursion P (xs ++ ys)
@@ -57,6 +57,33 @@ module _ {A : Type 0} (first : Session) (by : Sourced) (turns : ℕ) where
         is = record { run = run; first_pull = refl; first_push = refl; input = i; output = o };
         told = one_told r ended end done;
       }
+
+  -- the same, with what its devices say at last
+  pub by_devices_with : (result : Result (Done A) Stop) (old new : Devices) (input output in_said out_said : Bool) (ended : Ended A)
+      → input ≡ in_said → output ≡ out_said
+      → Does (λ t. IsRunFrom first by turns t result) old new → (IsTrue input → 0 < new.source.counts.failures)
+      → (IsTrue output → 0 < new.sink.counts.failures) → ended.end ≡ end_of result input output
+      → IfOk ended.done (λ v. v.items ≡ done_of result)
+      → IsAloneWith first by turns (counts_of old) in_said out_said ended
+  by_devices_with result old new input output in_said out_said ended e f (got, put, took, held, run) i o end done =
+      let r : Reader A = record {
+        trace = trace got put old.source.counts new.source.counts old.sink.counts new.sink.counts;
+        result = result;
+        input_gone = input;
+        output_gone = output;
+      } in
+      record {
+        reader = r;
+        is = record { run = run; first_pull = refl; first_push = refl; input = i; output = o };
+        input_is = e;
+        output_is = f;
+        told = one_told r ended end done;
+      }
+
+  -- whatever they say, it was alone
+  pub alone_with : (from : Counts) (input output : Bool) (ended : Ended A) → IsAloneWith first by turns from input output ended
+      → IsAlone first by turns from ended
+  alone_with from input output ended a = record { reader = a.reader; is = a.is; told = a.told }
 
   -- a reader whose devices were new
   pub by_new_devices : (result : Result (Done A) Stop) (old new : Devices) (input output : Bool) (ended : Ended A)

@@ -2,3 +2,4 @@ pub mod Ends
 pub mod Crews
 pub mod Readers
 pub mod Laws
+pub mod Examples

@@ -91,6 +91,15 @@ pub record IsAlone {A : Type 0} (first : Session) (by : Sourced) (turns : ℕ) (
   pub is : IsReader first by turns from reader
   pub told : TellsOf [] (reader ∷ []) ended
 
+-- the same of one of which either side says at last that it is gone, or that it is not
+pub record IsAloneWith {A : Type 0} (first : Session) (by : Sourced) (turns : ℕ) (from : Counts)
+    (input output : Bool) (ended : Ended A) : Type 0 where
+  pub reader : Reader A
+  pub is : IsReader first by turns from reader
+  pub input_is : reader.input_gone ≡ input
+  pub output_is : reader.output_gone ≡ output
+  pub told : TellsOf [] (reader ∷ []) ended
+
 -- so many readers with devices of their own, each in a stream that begins in this session
 pub record AreNew {A : Type 0} (first : Session) (by : Sourced) (turns count : ℕ)
     (readers : List (Reader A)) : Type 0 where

@@ -1,10 +1,12 @@
 //! What readers come to, by what [`crate::serve_by_readers`] promises.
 
-ghost use Rattle.std.specs.Prelude.{◌≡◌, ◌<◌, ◌+◌, ◌⊎◌, ℕ, List, length, IsPermutation};
-ghost use Rattle.std.specs.List.{flat_map};
+ghost use Rattle.std.specs.Prelude.{◌≡◌, ◌<◌, ◌+◌, ◌⊎◌, ℕ, List, false, length, IsPermutation};
+ghost use Rattle.std.specs.List.{AllByRecursion, flat_map};
 ghost use Rattle.reply_model.specs.declared.session.Session.{Session};
 ghost use Rattle.reply_model.specs.Moves.{balance};
 ghost use Rattle.reply_model.specs.Readings.{Sourced};
+ghost use Rattle.reply_model.specs.Sessions.{is_fresh};
+ghost use Rattle.serve_core.specs.Headline.{IsRunFrom};
 ghost use Rattle.reply_pool.specs.Answers.{answering_from};
 ghost use Rattle.serve_loop.specs.declared.done.Done.{Done};
 ghost use Rattle.serve_loop.specs.Rounds.{Answering};
@@ -12,7 +14,7 @@ ghost use Rattle.serve_loop.specs.Serving.{moves_of};
 ghost use Rattle.stack_model.specs.Numbers.{nodes};
 ghost use Rattle.device_readers.specs.declared.ends.End.TheVariants.{AtEnd};
 ghost use Rattle.device_readers.specs.declared.ends.Ended.{Ended};
-ghost use Rattle.device_readers.specs.Readers.{AreReaders, Counts, Reader, TellsOf, done_of_all};
+ghost use Rattle.device_readers.specs.Readers.{AreReaders, Counts, IsServedByAll, Reader, TellsOf, done_of_all, end_of_all};
 ghost use Rattle.device_readers.specs.Laws.{CameOf, HasReader, IsToldFirst, KeepsSession, sum_at};
 
 use std::alloc::Allocator;
@@ -25,6 +27,16 @@ pub fn first_fault_is_told<A: Allocator>()
         TellsOf before readers ended → IsToldFirst ended.end readers }
     ensures one { (before : List (Done A)) (readers : List (Reader A)) (ended : Ended A) →
         TellsOf before readers ended → (ended.end ≡ AtEnd) ⊎ HasReader ended.end readers }
+{}
+
+/// Where readers served, their session had begun, and they are as many as were asked for: each
+/// one's messages were served in that session.
+pub fn readers_go_on_in_the_session<A: Allocator>()
+    ensures { (first : Session) (over : Sourced) (turns count : ℕ) (ended : Ended A) →
+        IsServedByAll first over turns count ended → (session : Session)
+        × (is_fresh session ≡ false) × (readers : List (Reader A)) × (length readers ≡ count)
+        × AllByRecursion (λ r. IsRunFrom session over turns r.trace r.result) readers
+        × (ended.end ≡ end_of_all readers) }
 {}
 
 /// The streams of readers leave what their own messages moved. In a session that none of these

@@ -11,6 +11,7 @@
 
 mod crew;
 pub mod ends;
+pub mod examples;
 pub mod laws;
 mod opening;
 mod reader;

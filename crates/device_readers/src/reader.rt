@@ -4,8 +4,10 @@ ghost use Rattle.std.specs.Prelude.{◌≤◌};
 ghost use Rattle.devices.specs.declared.limits.TheConstants.{MAX_TURNS};
 ghost use Rattle.fuse_answer.specs.Puts.{sourced_by};
 ghost use Rattle.fuse_device.specs.Ends.{ends};
+ghost use Rattle.fuse_device.specs.Spouts.{spout_gone};
+ghost use Rattle.fuse_device.specs.Taps.{tap_gone};
 ghost use Rattle.serve_loop.specs.Serving.{AreReady};
-ghost use Rattle.device_readers.specs.Readers.{IsAlone, counts_of, unused};
+ghost use Rattle.device_readers.specs.Readers.{IsAlone, IsAloneWith, counts_of, unused};
 
 use crate::ends::{Ended, ended_alone};
 use fuse_device::{MessageTap, ReplySpout};
@@ -31,8 +33,9 @@ pub(crate) fn serve_on<
     output: &mut ReplySpout<O>,
 ) -> Ended<A>
     requires { AreReady terms.now.turns (ends I.remaining input.old output.old).devices }
-    ensures { IsAlone terms.now.first (sourced_by D.source served.entry) terms.now.turns
-        (counts_of (ends I.remaining input.old output.old).devices) result }
+    ensures { IsAloneWith terms.now.first (sourced_by D.source served.entry) terms.now.turns
+        (counts_of (ends I.remaining input.old output.old).devices) (tap_gone input.new)
+        (spout_gone output.new) result }
 {
     let ended = run_from(rt, alloc, served, input, output, terms);
     let input_gone = input.is_gone();
@@ -41,6 +44,7 @@ pub(crate) fn serve_on<
 }
 
 /// The same over a new room for messages, which memory may be refused for.
+#[tactic(auto, using(crate::proofs::Reading::alone_with))]
 pub(crate) fn serve_alone<
     R: Threads + Sync,
     A: SharedAllocator,

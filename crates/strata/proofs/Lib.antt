@@ -3,6 +3,7 @@ pub mod Printed
 pub mod Served
 pub mod Ended
 pub mod Opened
+pub mod Rules
 pub mod InTurn
 pub mod AtSocket
 pub mod Listed

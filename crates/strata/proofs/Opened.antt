@@ -2,7 +2,7 @@
 -- `stacked_sources` that their stack has the same; `whole_held` that nothing is where a line asks for all bytes, and
 -- `held_whole` that a stack without sources is held. `seen_as` lends their files. `one_held` is the step of the loop
 -- that holds images whole.
-use Rattle.std.proofs.Common.{◌≡◌, ◌≤◌, ◌⊎◌, ◌∙◌, sym, ap, subst, refl, ℕ, inl, inr, true, false, true≢false, List, [], ◌∷◌, ◌++◌, append_assoc, length, map, All, Bool, Some, Vec, arith}
+use Rattle.std.proofs.Common.{◌≡◌, ◌≤◌, ◌⊎◌, ◌||◌, ◌∙◌, sym, ap, subst, refl, ℕ, suc, inl, inr, true, false, true≢false, List, [], ◌∷◌, ◌++◌, append_assoc, length, map, All, Bool, Some, Vec, arith}
 use Rattle.std.specs.List.{AllByRecursion}
 use Rattle.std.proofs.lemmas.List.{map-append}
 use Rattle.std.proofs.lemmas.List.Elements.{recursion_from_All}
@@ -88,6 +88,25 @@ held_whole line images by none p = by_either images p.stacked.layers.few.0 p.sou
     by_either images few (inl all) = all.0
     by_either [] few (inr are) = absurd (omega arith)
     by_either (image ∷ images) few (inr are) = absurd (subst (λ s. AreDataOf (trailers_of line) (image ∷ images) s) none are)
+
+-- each image has a source
+as_many : (trailers : Trailers) (images : List (List ℕ)) (sources : List Source) → AreDataOf trailers images sources
+    → length sources ≡ length images
+as_many trailers [] [] a = refl
+as_many trailers [] (s ∷ sources) a = absurd a
+as_many trailers (image ∷ images) [] a = absurd a
+as_many trailers (image ∷ images) (s ∷ sources) a = ap suc (as_many trailers images sources a.1)
+
+stays : (in_files device : Bool) → (in_files ≡ true) ⊎ (device ≡ true) → (in_files || device) ≡ true
+stays true device said = refl
+stays false device (inl said) = absurd (true≢false (sym said))
+stays false device (inr said) = said
+
+-- and so it is over a device, and where a line says `--in-files`
+pub in_their_files : (line : Line) (images : List (List ℕ)) (by : Sourced) → line.whole ≡ false
+    → (line.in_files ≡ true) ⊎ (line.device ≡ true) → ArePrepared line images by → length by.sources ≡ length images
+in_their_files line images by left said p =
+    as_many (trailers_of line) images by.sources (p.sources.opened left (stays line.in_files line.device said))
 
 -- the next image goes from those that are left to those that are held
 pub one_held : {X Y : Type 0} (v : X → List ℕ) (w : Y → List ℕ) (all : List (List ℕ)) (done : List X) (left rest : List Y) (x : X) (y : Y)

@@ -1,6 +1,6 @@
 //! What the exit statuses mean, by what [`crate::command`] and [`crate::sessions_from`] promise.
 
-ghost use Rattle.std.specs.Prelude.{◌≡◌, ◌≢◌, ◌≤◌, ◌⊎◌, ℕ, List, [], Bool, true, false, is_some, Option, Ok, Err};
+ghost use Rattle.std.specs.Prelude.{◌≡◌, ◌≢◌, ◌≤◌, ◌⊎◌, ◌↔◌, ℕ, List, [], Bool, true, false, length, is_some, Option, Some, Ok, Err};
 ghost use Rattle.command_line.specs.CommandLine.{IsRefused, IsMisnumbered, IsCrossed};
 ghost use Rattle.command_line.specs.declared.options.Line.{Line};
 ghost use Rattle.command_line.specs.declared.options.Verb.TheVariants as verbs;
@@ -13,12 +13,20 @@ ghost use Rattle.reply_model.specs.Readings.{Sourced, in_memory};
 ghost use Rattle.serve_loop.specs.declared.done.Done.{Done};
 ghost use Rattle.serve_loop.specs.Serving.{Trace};
 ghost use Rattle.fuse_device.specs.Ends.{MountEnds};
-ghost use Rattle.strata.specs.Images.{ArePrepared};
+ghost use Rattle.strata.specs.Images.{ArePrepared, profile_of, trailers_of};
+ghost use Rattle.strata.specs.Readers.{status_of_end};
+ghost use Rattle.serve_core.specs.declared.stop.Stop.{Stop};
+ghost use Rattle.device_readers.specs.Ends.{end_of_stop};
+ghost use Rattle.image_files.specs.Opened.{WasGathered};
+ghost use Rattle.romfs_check.specs.declared.refusal.CheckFault.{CheckFault};
+ghost use Rattle.romfs_check.specs.Refusals.{IsRefusal};
+ghost use Rattle.romfs_format.specs.Profiles.{asks_sums, reads_attributes};
+ghost use Rattle.romfs_format.specs.Rules.{IsSound};
 ghost use Rattle.strata.specs.Sessions.{status_at, Accepting, AreServed, EndWith, IsSession};
 ghost use Rattle.strata.specs.declared.faults.Fault.{Fault};
 ghost use Rattle.strata.specs.declared.faults.Fault.TheVariants.{Stopped};
 ghost use Rattle.strata.specs.Laws.{AreToBlame, HasMetItsEnd, HasStatusOf, TellsOfSessions};
-ghost use Rattle.strata.specs.Mounts.{is_taken_away, IsRunOnDevice, IsTakenAway, StopsWhere};
+ghost use Rattle.strata.specs.Mounts.{is_taken_away, status_on_device, IsRunOnDevice, IsTakenAway, StopsWhere};
 
 use std::alloc::Allocator;
 
@@ -92,6 +100,43 @@ pub fn whole_images_are_held()
         ArePrepared line images by → by ≡ in_memory by.stack }
     ensures held { (line : Line) (images : List (List ℕ)) (by : Sourced) → by.sources ≡ [] →
         ArePrepared line images by → by.stack.whole ≡ true }
+{}
+
+/// Over a device, and where a line says `--in-files`, the data of each image are read from a source
+/// of its own, if the line does not ask for all bytes.
+#[tactic(auto, using(crate::proofs::Opened::in_their_files))]
+pub fn images_stay_in_their_files()
+    ensures { (line : Line) (images : List (List ℕ)) (by : Sourced) → line.whole ≡ false →
+        (line.in_files ≡ true) ⊎ (line.device ≡ true) → ArePrepared line images by →
+        length by.sources ≡ length images }
+{}
+
+/// What is kept of an image beside its data is judged by the rules of a line as these are, whether
+/// it asks for attributes or not.
+#[tactic(auto, using(crate::proofs::Rules::judged))]
+pub fn opened_images_are_judged_as_their_data()
+    ensures { (line : Line) (bytes image : List ℕ) →
+        WasGathered (trailers_of line) (Some bytes) image →
+        (IsSound (profile_of line) image ↔ IsSound (profile_of line) bytes)
+        × ((fault : CheckFault) → IsRefusal (profile_of line) image fault
+        ↔ IsRefusal (profile_of line) bytes fault) }
+{}
+
+/// A line asks for sums and for attributes by the word for each, and its stack has its owner.
+#[tactic(auto, using(crate::proofs::Rules::asks, crate::proofs::Rules::reads))]
+pub fn lines_say_their_rules()
+    ensures sums { (line : Line) → asks_sums (profile_of line) ≡ line.strict }
+    ensures attributes { (line : Line) → reads_attributes (profile_of line) ≡ line.attributes }
+    ensures owner { (line : Line) (images : List (List ℕ)) (by : Sourced) →
+        ArePrepared line images by → by.stack.owner ≡ line.owner }
+{}
+
+/// A reader of several ends with the status with which one alone would.
+#[tactic(auto, using(crate::proofs::Rules::ends_alike))]
+pub fn readers_end_as_one_does()
+    ensures { (stop : Stop) (input output : Bool) →
+        status_of_end (end_of_stop stop input output)
+        ≡ status_on_device (Stopped stop) input output }
 {}
 
 /// A failed write tells that the mount was taken away where either side knows, and a failed read

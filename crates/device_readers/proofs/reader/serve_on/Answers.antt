@@ -1,6 +1,6 @@
 use Rattle.fuse_device.specs.Ends.{ends}
 use Rattle.fuse_answer.specs.Puts.{sourced_by}
-use Rattle.device_readers.proofs.Reading.{by_devices}
+use Rattle.device_readers.proofs.Reading.{by_devices_with}
 use Rattle.device_readers.proofs.reader.serve_on.Goals as goal
 
 pub returns : goal.returns
@@ -8,6 +8,7 @@ returns g c =
     let old = (ends g.I.Read.remaining c.args.input.now c.args.output.now).devices in
     let new = (ends g.I.Read.remaining c.run_from-ended.new.source c.run_from-ended.new.sink).devices in
     let by = sourced_by g.D.Contents.source c.args.served in
-    by_devices {A = g.row.A.Denot} c.args.terms.now.first by c.args.terms.now.turns c.run_from-ended.result old new
-    c.is_gone-input_gone.result c.is_gone-output_gone.result c.ended_alone.result c.run_from-ended.ensures.run
+    by_devices_with {A = g.row.A.Denot} c.args.terms.now.first by c.args.terms.now.turns c.run_from-ended.result old new
+    c.is_gone-input_gone.result c.is_gone-output_gone.result _ _ c.ended_alone.result c.is_gone-input_gone.ensures.gone
+    c.is_gone-output_gone.ensures.gone c.run_from-ended.ensures.run
     c.is_gone-input_gone.ensures.failed c.is_gone-output_gone.ensures.failed c.ended_alone.ensures.end c.ended_alone.ensures.done

@@ -1,0 +1,68 @@
+-- What a line asks for, and what follows from it: its profile (`asks`, `reads`), how its images are judged (`judged`), and
+-- with which status its readers end (`ends_alike`).
+use Rattle.std.proofs.Common.{◌≡◌, ◌∙◌, sym, refl, ℕ, ◌↔◌, List, Bool, true, false, true≢false, Some, if◌then◌else◌}
+use Rattle.romfs_format.specs.declared.rule.Profile.{Profile}
+use Rattle.romfs_format.specs.Profiles.{asks_sums, profile_with, reads_attributes}
+use Rattle.romfs_format.specs.Rules.{IsSound}
+use Rattle.romfs_check.specs.declared.refusal.CheckFault.{CheckFault}
+use Rattle.romfs_check.specs.Refusals.{IsRefusal}
+use Rattle.romfs_check.proofs.Gathered.{judged_alike, judged_with_trailer}
+use Rattle.image_files.specs.declared.whole.Trailers.TheVariants.{Read, Left}
+use Rattle.image_files.specs.Opened.{WasGathered}
+use Rattle.command_line.specs.declared.options.Line.{Line}
+use Rattle.serve_core.specs.declared.stop.Stop.{Stop}
+use Rattle.serve_core.specs.declared.stop.Stop.TheVariants as stops
+use Rattle.device_readers.specs.Ends.{end_of_stop}
+use Rattle.strata.specs.declared.faults.Fault.TheVariants.{Stopped}
+use Rattle.strata.specs.Images.{profile_of, trailers_of}
+use Rattle.strata.specs.Mounts.{status_on_device}
+use Rattle.strata.specs.Readers.{status_of_end}
+
+sums_of : (sums attributes : Bool) → asks_sums (profile_with sums attributes) ≡ sums
+sums_of true true = refl
+sums_of true false = refl
+sums_of false true = refl
+sums_of false false = refl
+
+attributes_of : (sums attributes : Bool) → reads_attributes (profile_with sums attributes) ≡ attributes
+attributes_of true true = refl
+attributes_of true false = refl
+attributes_of false true = refl
+attributes_of false false = refl
+
+pub asks : (line : Line) → asks_sums (profile_of line) ≡ line.strict
+asks line = sums_of line.strict line.attributes
+
+pub reads : (line : Line) → reads_attributes (profile_of line) ≡ line.attributes
+reads line = attributes_of line.strict line.attributes
+
+abbrev IsJudged : Profile → List ℕ → List ℕ → Type 0
+IsJudged profile bytes image =
+    (IsSound profile image ↔ IsSound profile bytes)
+    × ((fault : CheckFault) → IsRefusal profile image fault ↔ IsRefusal profile bytes fault)
+
+judged_by : (sums attributes : Bool) (bytes image : List ℕ) → WasGathered (if attributes then Read else Left) (Some bytes) image
+    → IsJudged (profile_with sums attributes) bytes image
+judged_by sums true bytes image g = (let j = judged_with_trailer (profile_with sums true) bytes image g in (j.0, j.1))
+judged_by sums false bytes image g =
+    judged_alike (profile_with sums false) (λ yes. true≢false (sym (yes) ∙ attributes_of sums false)) bytes image g
+
+-- what is kept of an image is judged as its data are
+pub judged : (line : Line) (bytes image : List ℕ) → WasGathered (trailers_of line) (Some bytes) image
+    → IsJudged (profile_of line) bytes image
+judged line bytes image g = judged_by line.strict line.attributes bytes image g
+
+-- readers end with the status of one alone
+pub ends_alike : (stop : Stop) (input output : Bool)
+    → status_of_end (end_of_stop stop input output) ≡ status_on_device (Stopped stop) input output
+ends_alike (stops.Layer layer fault) input output = refl
+ends_alike (stops.Layers count) input output = refl
+ends_alike (stops.BadLength at len) input output = refl
+ends_alike (stops.CutOff at) input output = refl
+ends_alike stops.Turns input output = refl
+ends_alike stops.Memory input output = refl
+ends_alike stops.Read true output = refl
+ends_alike stops.Read false output = refl
+ends_alike stops.Write true output = refl
+ends_alike stops.Write false true = refl
+ends_alike stops.Write false false = refl
