@@ -4,9 +4,10 @@ python3 checks soak PROGRAM [--minutes N] [--quick] [PART..]
 
 The parts are `memory` (from too little address space to enough, by steps of 1 MiB), `nodes` (more than one thread fills
 attributes of), `largest` (an image of 2^32 - 1 bytes), `pipe`, `mount` and `socket` (random requests for so many minutes, held
-against the plain reading, while the memory of strata must not grow), and `kills` (2,000 clients of a socket that are killed).
+against the plain reading, while the memory of strata must not grow), `kills` (2,000 clients of a socket that are killed),
+`crowd` (100 mounts of the same images at once, eight processes in each) and `again` (1,000 mounts one after another).
 `--quick` takes fewer steps, and some seconds in place of minutes. Each part prints a line, or says what is missing for it
-here: `mount` needs /dev/fuse, `largest` 10,000 MiB of free memory for what it reads whole. The status is 0 where no
+here: mounts need /dev/fuse, `largest` 10,000 MiB of free memory for what it reads whole. The status is 0 where no
 part fails.
 """
 import argparse
@@ -24,7 +25,7 @@ from checks.shared.build import init, lookup, request
 from checks.shared.images import MOST_FULL, Item, laid_out, write_spread
 from checks.shared.mounting import Failed, LeftOut, hold
 from checks.shared.random_inputs import read_body
-from checks.soak import soak_sockets, soak_streams
+from checks.soak import soak_mounts, soak_sockets, soak_streams
 
 MIB = 1 << 20
 READ, READDIRPLUS, BATCH_FORGET = 15, 44, 42
@@ -213,7 +214,17 @@ def kills(soak):
     return soak_sockets.kills(soak.program, soak.folder, 100 if soak.is_quick else 2000)
 
 
-PARTS = {it.__name__: it for it in (memory, nodes, largest, pipe, mount, socket, kills)}
+def crowd(soak):
+    """Many mounts of the same images at once."""
+    return soak_mounts.crowd(soak.program, soak.folder, 5 if soak.is_quick else 100)
+
+
+def again(soak):
+    """Many mounts one after another."""
+    return soak_mounts.again(soak.program, soak.folder, 20 if soak.is_quick else 1000)
+
+
+PARTS = {it.__name__: it for it in (memory, nodes, largest, pipe, mount, socket, kills, crowd, again)}
 
 
 def told_of(part, program, seconds, is_quick):
