@@ -7,14 +7,17 @@ use Rattle.device_readers.specs.Ends.{end_of_stop, first_told}
 -- of each two neighbours of the table the upper one; and of two that stand alike the former
 pub record OrderExamples : Type 0 where
   pub read : first_told (Stopped stops.Write) (Stopped stops.Read) ≡ Stopped stops.Read
-  pub write : first_told (Stopped (stops.BadLength 0 39)) (Stopped stops.Write) ≡ Stopped stops.Write
+  pub write : first_told (Stopped (stops.BadLength 0 39)) (Stopped stops.Write)
+      ≡ Stopped stops.Write
   pub bad_length : first_told (Stopped (stops.CutOff 0)) (Stopped (stops.BadLength 0 39))
       ≡ Stopped (stops.BadLength 0 39)
-  pub cut_off : first_told (Stopped stops.Turns) (Stopped (stops.CutOff 0)) ≡ Stopped (stops.CutOff 0)
+  pub cut_off : first_told (Stopped stops.Turns) (Stopped (stops.CutOff 0))
+      ≡ Stopped (stops.CutOff 0)
   pub turns : first_told (Stopped stops.Memory) (Stopped stops.Turns) ≡ Stopped stops.Turns
   pub memory : first_told TakenAway (Stopped stops.Memory) ≡ Stopped stops.Memory
   pub taken_away : first_told AtEnd TakenAway ≡ TakenAway
-  pub alike : first_told (Stopped (stops.CutOff 1)) (Stopped (stops.CutOff 2)) ≡ Stopped (stops.CutOff 1)
+  pub alike : first_told (Stopped (stops.CutOff 1)) (Stopped (stops.CutOff 2))
+      ≡ Stopped (stops.CutOff 1)
 
 -- a failed read says that the mount was taken away where its own side is gone, a failed write where
 -- either is; nothing else says so

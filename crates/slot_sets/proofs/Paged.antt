@@ -117,7 +117,8 @@ module _ (pages held : List ℕ) (are : ArePages pages held) where
 
     pub held_more : ArePages (set pages page k) (held ++ replicate 8 0)
     held_more = record {
-      sized = let s = are.sized in let n = more in let a = length-append held (replicate 8 0) in let r = length-replicate {A = ℕ} 8 0 in omega arith;
+      sized = let s = are.sized in let n = more in
+          let a = length-append held (replicate 8 0) in let r = length-replicate {A = ℕ} 8 0 in omega arith;
       none = λ w m. let s = are.sized in get_or_append_left held (replicate 8 0) 0 w (omega arith) ∙ are.none w m;
       there = λ p m. elim (cases_eq p page) [
         | inl same ↦ rw (same, number_new, more) (let i = k_is in omega arith)

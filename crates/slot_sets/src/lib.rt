@@ -1,8 +1,8 @@
 //! Sets of slots: of places that are multiples of 16.
 //!
 //! Where things may stand at multiples of 16 bytes alone, each such place is a slot. A [`SlotSet`]
-//! says of each slot whether it is in the set; a clause sees a list of truth values. [`SparseSlots`]
-//! does so where few are in it. The slots of a set have numbers of their own, from 0 upward
+//! says of each slot whether it is in the set, and a clause sees a list of truth values; where few
+//! are in it [`SparseSlots`] does so. The slots of a set have numbers of their own, from 0 upward
 //! ([`SlotNumbers`]), by which a word is kept for each ([`SlotWords`]). [`places_of`] lists the
 //! places of a set, rising, and [`is_listed`] looks one up in such a list, by halves.
 //!

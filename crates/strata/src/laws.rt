@@ -92,8 +92,8 @@ pub fn devices_are_served_lastingly()
 {}
 
 /// Of a line that asks for all bytes of its images the data are read from nothing: what is promised
-/// over its stack is what is promised over a stack that is held. And only of a stack whose bytes are
-/// all held are they read from nothing.
+/// over its stack is what is promised over a stack that is held. And only of a stack whose bytes
+/// are all held are they read from nothing.
 #[tactic(auto, using(crate::proofs::Opened::whole_held, crate::proofs::Opened::held_whole))]
 pub fn whole_images_are_held()
     ensures asked { (line : Line) (images : List (List ℕ)) (by : Sourced) → line.whole ≡ true →
