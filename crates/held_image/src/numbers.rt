@@ -2,12 +2,14 @@
 //!
 //! All numbers up to the last are cut into stretches of one length, a power of two, some four of
 //! which have as many numbers that are kept. For each it is noted how many are kept before it. So a
-//! block is sought by halves among those of its stretch alone, which are few where they lie evenly,
-//! and no more steps than by halves among all where they do not. What is noted is a guess: it is
+//! block is sought by halves among those of its stretch alone, which are few where they lie evenly.
+//! Where small files lie beside huge ones most stretches have none and a few have very many: one
+//! that has many is cut once more, into parts that have some eight. What is noted is a guess: it is
 //! held against the numbers at its ends, and where it is wrong, or there is none, all are searched.
-//! It takes some 4 bytes for every four blocks, and is made in one step for each.
+//! It takes some 4 bytes for every four blocks, at most 8 where they do not lie evenly, and is made
+//! in one step for each of them and one for each stretch.
 
-ghost use Rattle.std.specs.Prelude.{◌≡◌, ◌<◌, ◌≤◌, length, IsTrue};
+ghost use Rattle.std.specs.Prelude.{◌≡◌, ◌<◌, ◌≤◌, ◌^◌, length, IsTrue, IfSome};
 ghost use Rattle.held_image.specs.Blocks.{Rises, IsRank, HoldsRank};
 
 use std::alloc::{AllocError, Allocator};
@@ -15,12 +17,18 @@ use std::alloc::{AllocError, Allocator};
 /// How many numbers a stretch is to have.
 const FEW: usize = 4;
 
+/// How many numbers a stretch has at least that is cut into parts.
+const MANY: usize = 32;
+
 /// The numbers of blocks, rising, with what is noted of them.
 #[derive(Clone, Copy)]
 pub(crate) struct Numbers<'a> {
     pub(crate) all: &'a [u32],
-    /// By stretch, how many numbers stand before it; and at last, how many there are.
+    /// By stretch, how many numbers stand before it; then how many there are; then the same by part,
+    /// of stretches that have many numbers.
     starts: &'a [u32],
+    /// Where that of the parts begins.
+    parts: usize,
     /// How many binary digits a number has within its stretch.
     shift: u32,
 }
@@ -40,10 +48,7 @@ impl<'a> Numbers<'a> {
         requires { Rises self.now.all.now }
         ensures { HoldsRank self.now.all.now block result.low result.high }
     {
-        match guessed(
-            self.starts,
-            block.checked_shr(self.shift).unwrap_or(0) as usize,
-        ) {
+        match self.noted(block) {
             Some(guess) if holds(self.all, guess, block) => guess,
             _ => Within {
                 low: 0,
@@ -51,12 +56,25 @@ impl<'a> Numbers<'a> {
             },
         }
     }
+
+    // The same, as it is noted.
+    fn noted(&self, block: u32) -> Option<Within> {
+        let found = guessed(self.starts, without(block, self.shift))?;
+        if found.count() < MANY {
+            return Some(found);
+        }
+        guessed(
+            self.starts,
+            Parts::of(self.parts, found, self.shift).of_number(block),
+        )
+    }
 }
 
 /// What is noted of numbers, as it is lent beside them.
 #[derive(Drop)]
 pub(crate) struct Stretches<A: Allocator> {
     starts: Vec<u32, A>,
+    parts: usize,
     shift: u32,
 }
 
@@ -65,6 +83,7 @@ impl<A: Allocator> Stretches<A> {
     pub(crate) fn new(alloc: A) -> Stretches<A> {
         Stretches {
             starts: Vec::new(alloc),
+            parts: 0,
             shift: 0,
         }
     }
@@ -73,7 +92,9 @@ impl<A: Allocator> Stretches<A> {
     pub(crate) fn note(&mut self, numbers: &[u32]) -> Result<(), AllocError> {
         self.shift = shift_for(numbers);
         self.starts.clear();
-        note_starts(&mut self.starts, numbers, self.shift)
+        note_starts(&mut self.starts, numbers, self.shift)?;
+        self.parts = self.starts.len();
+        note_parts(&mut self.starts, numbers, self.shift)
     }
 
     /// Numbers, with what is noted.
@@ -83,6 +104,7 @@ impl<A: Allocator> Stretches<A> {
         Numbers {
             all: numbers,
             starts: &self.starts,
+            parts: self.parts,
             shift: self.shift,
         }
     }
@@ -93,6 +115,51 @@ impl<A: Allocator> Stretches<A> {
 pub(crate) struct Within {
     low: usize,
     high: usize,
+}
+
+impl Within {
+    fn count(&self) -> usize
+        ensures { 0 < result → self.now.low ≤ self.now.high }
+    {
+        self.high.saturating_sub(self.low)
+    }
+}
+
+/// How a stretch that has many numbers is cut into parts of one length, a power of two.
+#[derive(Clone, Copy)]
+struct Parts {
+    /// Where it is noted of the first.
+    first: usize,
+    /// How many there are, less one.
+    last: usize,
+    /// How many binary digits a number has within its part.
+    shift: u32,
+}
+
+impl Parts {
+    // The parts of a stretch whose numbers have these positions. What is noted of them begins at a
+    // fourth of how many numbers stand before, so there is room for as many.
+    fn of(parts: usize, found: Within, shift: u32) -> Parts {
+        let digits = 63u32.saturating_sub((found.count() / (2 * FEW)).leading_zeros());
+        Parts {
+            first: parts.saturating_add(found.low / FEW),
+            last: 1usize.checked_shl(digits).unwrap_or(1).saturating_sub(1),
+            shift: shift.saturating_sub(digits),
+        }
+    }
+
+    // Where it is noted of the part in which a number lies.
+    fn of_number(&self, number: u32) -> usize {
+        self.first
+            .saturating_add(without(number, self.shift) & self.last)
+    }
+}
+
+// A number without so many of its last binary digits.
+fn without(number: u32, digits: u32) -> usize
+    ensures { result < 2 ^ 32 }
+{
+    number.checked_shr(digits).unwrap_or(0) as usize
 }
 
 // The binary digits of stretches that have few of these numbers each.
@@ -115,7 +182,7 @@ fn note_starts<A: Allocator>(
 ) -> Result<(), AllocError> {
     let mut before = 0u32;
     for number in numbers {
-        let stretch = number.checked_shr(shift).unwrap_or(0) as usize;
+        let stretch = without(*number, shift);
         if starts.len() <= stretch {
             starts.resize(stretch + 1, before)?;
         }
@@ -125,8 +192,51 @@ fn note_starts<A: Allocator>(
     Ok(())
 }
 
-// The positions of a stretch, as they are noted.
-fn guessed(starts: &[u32], stretch: usize) -> Option<Within> {
+// Notes where parts begin, of each stretch that has many numbers, behind what is noted of stretches.
+fn note_parts<A: Allocator>(
+    starts: &mut Vec<u32, A>,
+    numbers: &[u32],
+    shift: u32,
+) -> Result<(), AllocError> {
+    let parts = starts.len();
+    for stretch in 1..parts {
+        let found = match guessed(starts, stretch - 1) {
+            Some(found) if found.count() >= MANY && found.high <= numbers.len() => found,
+            _ => continue,
+        };
+        note_stretch(
+            starts,
+            &numbers[found.low..found.high],
+            found.low as u32,
+            Parts::of(parts, found, shift),
+        )?;
+    }
+    Ok(())
+}
+
+// Notes where the parts of one stretch begin that has these numbers, and so many stand before it.
+fn note_stretch<A: Allocator>(
+    starts: &mut Vec<u32, A>,
+    numbers: &[u32],
+    before: u32,
+    parts: Parts,
+) -> Result<(), AllocError> {
+    let mut before = before;
+    for number in numbers {
+        let part = parts.of_number(*number);
+        if starts.len() <= part {
+            starts.resize(part.saturating_add(1), before)?;
+        }
+        before = before.wrapping_add(1);
+    }
+    starts.push(before)?;
+    Ok(())
+}
+
+// The positions of a stretch or a part, as they are noted.
+fn guessed(starts: &[u32], stretch: usize) -> Option<Within>
+    ensures { IfSome result (λ found. found.low < 2 ^ 32) }
+{
     let low = *starts.get(stretch)? as usize;
     let high = *starts.get(stretch + 1)? as usize;
     Some(Within { low, high })
