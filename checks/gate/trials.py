@@ -1,7 +1,7 @@
 """Tries the wrong bodies of trials/CRATE.edits: python3 checks trials [--all] [--only NAME].. [--jobs N] [CRATE..]
 
-The prover must refuse each. --all tries those of the crate's own must-fail/ too, --only those of these names alone. The
-last line says how many were refused; the status is 0 where these are all. What a crate's run showed is written into
+The prover must refuse each. --all tries those of the gate too, --only those of these names alone. The last line says
+how many were refused; the status is 0 where these are all. What a crate's run showed is written into
 trials/outcomes.txt: a run of all takes the place of the crate's earlier lines, one of some is a line below them.
 
 Each crate is laid into a scratch copy of the repository, with what `make kept` kept of it and of the crates below.
@@ -28,34 +28,11 @@ import time
 
 from checks import ROOT
 from checks.gate.crates import copied, crates_below
+from checks.gate.judged import Said, place_of, refusals, rest_of
 from checks.gate.trial_edits import Edit, Misfit, batches_of, bodies_of, together, written_in
 
 OUTCOMES = ROOT + "/trials/outcomes.txt"
 MOST = 12
-GOAL = re.compile(r"note: (?:\./)?(src/\S+):(\d+):\d+: (it is not proved that .*)")
-ERROR = re.compile(r"(?:\./)?((?:src|specs|proofs)/\S+):(\d+):\d+: error\S* (.*)")
-AT_NAME = "only at a name"
-# a proof that names what is not there, and what cites that proof
-NAMES = re.compile(r"has no field|is not in scope|has no `|was not admitted")
-
-
-def verdict(goals, errors):
-    """At what the prover refused, by the texts of these goals and errors; None where there are none."""
-    for text in goals:
-        goal = re.search(r"\(`([^`]*)`\)", text)
-        kinds = {"ensures holds when it returns": "clause", "invariant": "invariant", "measure": "measure"}
-        kind = next((kinds[word] for word in kinds if word in text), "requires of a call or an operation")
-        return "%s, %s" % (kind, goal[1] if goal else text[:90])
-    for text in errors:
-        if not NAMES.search(text):
-            return "written answer, %s" % text[:90]
-    return "%s, %s" % (AT_NAME, errors[0][:90]) if errors else None
-
-
-def place_of(file):
-    """The module of a file of src/, as the parts of its path in the crate."""
-    parts = re.sub(r"^src/|(/mod)?\.rt$", "", file).split("/")
-    return [] if parts in (["lib"], ["main"]) else parts
 
 
 class Trials:
@@ -84,10 +61,6 @@ class Trials:
             with open("%s/%s" % (self.folder, file), "w", encoding="utf-8") as out:
                 out.write(text)
 
-    def told(self, kind):
-        """What a check said of this kind, each as file, line and text."""
-        return [(it[1], int(it[2]), it[3]) for it in map(kind.match, self.said.split("\n")) if it]
-
     def named(self, edit):
         """The names that a check gives to the functions that an edit changes: all that end alike in their module."""
         found = set()
@@ -103,42 +76,22 @@ class Trials:
     def batch(self, edits):
         """At what each of these edits was refused, by its name; None where this does not tell."""
         texts = together(edits, self.kept)
-        bodies = {file: bodies_of(text) for file, text in texts.items()}
-
-        def own(edit, told):
-            """What was said of a body that the edit changes, and of the written answers of its function."""
-            for file, line, text in told:
-                answers = file.startswith("proofs/") and file.split("/")[1:-1]
-                if answers and any(answers[-1] == name and answers[:len(place_of(it))] == place_of(it)
-                                   for it, name in edit.keys):
-                    yield text
-                if any(it == file and bodies[file][at].first < line <= bodies[file][at].ends + 1
-                       for it, at in edit.changes):
-                    yield text
-
         self.lay(texts)
         names = sorted(set().union(*map(self.named, edits)))
         self.check([word for name in names for word in ("--only", name)])
-        goals, errors = self.told(GOAL), self.told(ERROR)
-        outcomes = {it.name: None for it in edits}
-        if not re.search(r"(?m)^only=\d+ proved=", self.said):
-            left = [it for it in edits if not any(own(it, errors))]
-            return {**outcomes, **(self.batch(left) if 0 < len(left) < len(edits) else {})}
-        # a lemma that fails may be what another function's goal wants
-        if any(re.match(r"proofs/.*/", it[0]) is None for it in errors):
-            return outcomes
-        for it in edits:
-            found = verdict(list(own(it, goals)), list(own(it, errors)))
-            outcomes[it.name] = found if found and not found.startswith(AT_NAME) else None
-        return outcomes
+        said = Said(self.said)
+        if not said.is_ended:
+            left = rest_of(edits, said, texts)
+            return {**{it.name: None for it in edits}, **(self.batch(left) if 0 < len(left) < len(edits) else {})}
+        return refusals(edits, said, texts)
 
     def alone(self, edit):
         """Whether an edit is refused by a check of the whole crate, and at what."""
         self.lay(edit.texts)
         self.check([])
-        goals, errors = self.told(GOAL), self.told(ERROR)
-        if "\nlogic=not-proved" in self.said and all(it[0].startswith("proofs/") for it in errors):
-            found = verdict([it[2] for it in goals], [it[2] for it in errors])
+        said = Said(self.said)
+        if "\nlogic=not-proved" in self.said and all(it[0].startswith("proofs/") for it in said.errors):
+            found = said.verdict()
             if found:
                 return True, found
         self.lay({})
@@ -217,6 +170,7 @@ def edits_of(crate, with_gate, only):
     """The edits of a crate as they are written, by their names: those of these names alone, where there are any."""
     paths = glob.glob("%s/trials/%s.edits" % (ROOT, crate))
     if with_gate:
+        paths += glob.glob("%s/trials/gate/%s.edits" % (ROOT, crate))
         paths += sorted(glob.glob("%s/crates/%s/must-fail/*.edit" % (ROOT, crate)))
     try:
         edits = {name: text for path in paths for name, text in written_in(path).items()}
@@ -243,7 +197,7 @@ def tried(crate, others, edits, with_gate, is_whole, jobs):
 def main(words):
     wanted = argparse.ArgumentParser(prog="trials.py", description="Tries the wrong bodies of trials/CRATE.edits.")
     wanted.add_argument("crates", nargs="*", metavar="CRATE")
-    wanted.add_argument("--all", action="store_true", help="those of the crate's must-fail/ too")
+    wanted.add_argument("--all", action="store_true", help="those of the gate too")
     wanted.add_argument("--only", action="append", default=[], metavar="NAME", help="the edit of this name")
     wanted.add_argument("--jobs", default="2", help="the processors that a check may use")
     given = wanted.parse_args(words)

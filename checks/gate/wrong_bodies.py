@@ -1,0 +1,158 @@
+"""Tries the wrong bodies of trials/gate/CRATE.edits: python3 checks wrong_bodies [--jobs N] [CRATE..]
+
+The prover must refuse each. `rt ci` tries those of must-fail/ by a check of the whole crate, which is what the crate's
+proof costs. Here only the function is checked that an edit makes wrong: what its proof takes from others is their
+contracts, which stand. That is a sixth of the time, so there can be more of them.
+
+Each crate is laid into a scratch folder, with the edits of different functions in it together, and one `rattle check
+--only` of these functions tries them, over what `rt ci` or `make build` has proved of the crates below. An edit counts
+as refused where a goal of its own function is not proved, or its own written answers are refused at more than a name.
+What no batch shows refused is tried alone. An edit of anything else than a body, as a constant, has a line `by: NAME`
+of the function that is then wrong.
+
+A line tells of each edit at what it was refused. The status is 0 where all were.
+"""
+import argparse
+import concurrent.futures
+import glob
+import os
+import re
+import shutil
+import subprocess
+import sys
+import tempfile
+
+from checks import ROOT
+from checks.gate.crates import crates_below, crates_used
+from checks.gate.judged import AT_NAME, Said, place_of, refusals
+from checks.gate.kit import Kit
+from checks.gate.trial_edits import Edit, Misfit, batches_of, bodies_of, together, written_in
+
+MOST = 6
+BY = re.compile(r"(?m)^by: *(\S+)\n")
+IMPL = re.compile(r"impl(?:<.*?>)? (?:(\w+)(?:<.*>)? for )?&?(?:'\w+ )?(\w+)")
+
+
+def edits_at(crate):
+    """The edits of a crate as they are written, by their names."""
+    path = "%s/trials/gate/%s.edits" % (ROOT, crate)
+    return written_in(path) if os.path.exists(path) else {}
+
+
+def proved_at(crate):
+    """Where the statements of a proved crate stand."""
+    for place in ("crates/%s/out/rlib/%s.rlib" % (crate, crate), "build/proved/%s.rlib" % crate):
+        if os.path.isdir("%s/%s" % (ROOT, place)):
+            return "%s/%s" % (ROOT, place)
+    sys.exit("%s is not proved: rt ci or make build proves it" % crate)
+
+
+def name_of(file, text, body):
+    """The name that a check gives to a function, by its path in the crate."""
+    lines, owner = text.split("\n"), []
+    if lines[body.opens].startswith(" ") or lines[body.first].startswith(" "):
+        heads = [line for line in lines[:body.first] if line.startswith("impl")]
+        trait, kind = IMPL.match(heads[-1]).groups()
+        owner = [kind + (trait or "")]
+    return "::".join([*place_of(file), *owner, body.name])
+
+
+class Tried:
+    """Edits of one crate that are tried together."""
+
+    def __init__(self, crate, edits, room):
+        self.crate, self.edits, self.room = crate, edits, room
+
+    def names(self):
+        """The functions that they make wrong."""
+        names = set()
+        for edit in self.edits:
+            names.update(BY.findall(edit.written))
+            names.update(name_of(file, edit.texts[file], bodies_of(edit.texts[file])[place]) for file, place in edit.changes)
+        return sorted(names)
+
+    def check(self, texts):
+        """What the prover says of these functions in a crate of these texts."""
+        with tempfile.TemporaryDirectory(prefix="wrong-") as folder:
+            at = "%s/%s" % (folder, self.crate)
+            shutil.copytree("%s/crates/%s" % (ROOT, self.crate), at, ignore=shutil.ignore_patterns("out", "must-fail"))
+            for file, text in texts.items():
+                with open("%s/%s" % (at, file), "w", encoding="utf-8") as out:
+                    out.write(text)
+            words = Kit().check(self.crate, at, crates_used()[self.crate], self.room, self.names())
+            done = subprocess.run(words, cwd=at, stdin=subprocess.DEVNULL, stdout=subprocess.PIPE,
+                                  stderr=subprocess.STDOUT, text=True, errors="replace", check=False)
+        return done.stdout
+
+    def outcomes(self):
+        """At what each edit was refused, by its name; where it was not, None and what the prover said."""
+        if len(self.edits) == 1 and not self.edits[0].changes:
+            texts, (edit,) = self.edits[0].texts, self.edits
+            printed = self.check(texts)
+            said = Said(printed)
+            found = said.verdict() if said.is_ended else None
+            return {edit.name: (None if found and found.startswith(AT_NAME) else found, printed)}
+        texts = together(self.edits, "%s/crates/%s" % (ROOT, self.crate))
+        printed = self.check(texts)
+        said = Said(printed)
+        found = refusals(self.edits, said, texts) if said.is_ended else {}
+        outcomes = {it.name: (found.get(it.name), printed) for it in self.edits}
+        for edit in self.edits if len(self.edits) > 1 else ():
+            if not outcomes[edit.name][0]:
+                outcomes.update(Tried(self.crate, [edit], self.room).outcomes())
+        return outcomes
+
+
+def batches(crate, room):
+    """The edits of a crate in batches, those of something else than bodies alone."""
+    folder = "%s/crates/%s" % (ROOT, crate)
+    try:
+        edits = [Edit(name, text, folder) for name, text in edits_at(crate).items()]
+    except Misfit as why:
+        sys.exit("trials/gate/%s.edits: %s" % (crate, why))
+    lost = [it.name for it in edits if not it.changes and not BY.search(it.written)]
+    if lost:
+        sys.exit("trials/gate/%s.edits: %s changes no body and has no line by:" % (crate, lost[0]))
+    groups = batches_of([it for it in edits if it.changes], MOST) + [[it] for it in edits if not it.changes]
+    return [Tried(crate, group, room) for group in groups]
+
+
+def lines_of(crate):
+    return sum(os.path.getsize(path) for path in glob.glob("%s/crates/%s/*/**" % (ROOT, crate), recursive=True))
+
+
+def say(tried, outcomes):
+    """Tells what came of each edit; how many were refused."""
+    for name, (found, printed) in outcomes.items():
+        print("wrong body %s/%s: %s" % (tried.crate, name, "refused: %s" % found if found else "NOT REFUSED"), flush=True)
+        if not found:
+            print(printed[-3000:], flush=True)
+    return sum(bool(found) for found, _ in outcomes.values())
+
+
+def main(words):
+    there = sorted(os.path.basename(it)[:-len(".edits")] for it in glob.glob(ROOT + "/trials/gate/*.edits"))
+    wanted = argparse.ArgumentParser(prog="wrong_bodies", description="Tries the wrong bodies of trials/gate.")
+    wanted.add_argument("crates", nargs="*", metavar="CRATE")
+    wanted.add_argument("--jobs", type=int, default=len(os.sched_getaffinity(0)), help="the checks at a time")
+    given = wanted.parse_args(words)
+    unknown = [name for name in given.crates if name not in there] + [name for name in there if name not in crates_used()]
+    if unknown:
+        sys.exit("no wrong bodies of %s" % ", ".join(unknown))
+    crates, below = given.crates or there, crates_below()
+    with tempfile.TemporaryDirectory(prefix="proved-") as room:
+        for name in sorted({other for crate in crates for other in below[crate]}):
+            os.symlink(proved_at(name), "%s/%s.rlib" % (room, name))
+        tries = [it for crate in sorted(crates, key=lines_of, reverse=True) for it in batches(crate, room)]
+        refused = 0
+        with concurrent.futures.ThreadPoolExecutor(given.jobs) as pool:
+            begun = {pool.submit(it.outcomes): it for it in tries}
+            for done in concurrent.futures.as_completed(begun):
+                refused += say(begun[done], done.result())
+    of = sum(len(it.edits) for it in tries)
+    print("wrong bodies: %d refused, %d not" % (refused, of - refused))
+    return 0 if refused == of else 1
+
+
+if __name__ == "__main__":
+    sys.exit(main(sys.argv[1:]))
