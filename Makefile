@@ -8,6 +8,7 @@
 # make mounted [STRATA=PROGRAM]: real mounts, looked at through the kernel.
 # make layers: tools/layers.py on layouts made on the spot, and, where umoci stands, on images that umoci makes.
 # make registry: layers on many machines: a store, and, where the programs are, a registry on the loopback and sandboxes.
+# make wrong_bodies: tries the wrong bodies of trials/gate, over what is proved. The gate tries them, too.
 # make trials [CRATES=..] [ONLY=EDIT]: tries the wrong bodies of trials/CRATE.edits, over what make kept has kept; trials/outcomes.txt tells
 # the last runs.
 # make bench: figures. make growth: how time and memory grow with nodes and layers, drawn in docs/growth.svg.
@@ -19,7 +20,7 @@
 # make install [PREFIX=/usr/local] [DESTDIR=], make uninstall: what make build has made, with man pages and the mount helper.
 # make deb, make dist [PACKAGES=build]: a Debian package, a tar of the same files. make installed: all of these in fresh roots.
 # Each of these starts a file of checks/ by `python3 checks NAME WORDS..`; `python3 checks` lists them.
-.PHONY: test build kept demo doors links crate_order logic cases layers registry mounted plant trials bench growth fuzz threads soak demo_files needed
+.PHONY: test build kept demo doors links crate_order logic cases layers registry mounted plant trials wrong_bodies bench growth fuzz threads soak demo_files needed
 .PHONY: install uninstall deb dist installed
 
 PYTHON = python3 -B
@@ -31,6 +32,7 @@ test: needed
 	$(CHECKS) crate_order
 	$(CHECKS) logic
 	rt ci
+	$(CHECKS) wrong_bodies
 	@mkdir -p build
 	@cp crates/strata_main/out/strata_main build/strata
 	$(CHECKS) cases build/strata
@@ -71,6 +73,9 @@ mounted: $(STRATA)
 
 plant: build/strata
 	$(CHECKS) plant build/strata
+
+wrong_bodies: build/strata
+	$(CHECKS) wrong_bodies $(CRATES)
 
 trials: needed
 	$(CHECKS) trials $(addprefix --only ,$(ONLY)) $(CRATES)
