@@ -20,7 +20,7 @@ from checks import ROOT
 from checks.gate.crates import crates_used
 from checks.gate.kit import Kit
 
-PARTS = {"Lts": "steps", "Proof": "proof", "Tie": "tie"}
+PARTS = {"Lts": "steps", "Proof": "proof", "Answers": "proof", "Goals": "proof", "Tie": "tie"}
 
 
 def command(crate, proved, kept):
@@ -46,9 +46,10 @@ def by_function(crate, parts):
     """The seconds of each function, by its parts."""
     spent = collections.defaultdict(collections.Counter)
     for name, seconds in parts:
-        words = name.removesuffix(".oantt").removeprefix("Rattle-%s-" % crate).split(".")
-        if words[0] == "proofs" and words[-1] in PARTS:
-            spent[".".join(words[1:-1])][PARTS[words[-1]]] += seconds
+        words = name.removesuffix(".oantt").removesuffix(".decls").removeprefix("Rattle-%s-" % crate).split(".")
+        part = PARTS.get(words[-1].partition("-")[0])
+        if words[0] == "proofs" and part:
+            spent[".".join(words[1:-1])][part] += seconds
         else:
             spent["all else"]["all else"] += seconds
     return spent

@@ -22,12 +22,10 @@ mod image_data;
 mod images;
 mod open_image;
 mod opening;
-#[cfg(test)]
-mod tests;
 mod whole;
 
 pub use image_data::ImageData;
 pub use images::{FilesFault, gather_images, open_images, read_images};
 pub use open_image::{OpenImage, apart};
-pub use opening::HeldImage;
-pub use whole::Trailers;
+pub use opening::{FileKind, HeldImage, open_as};
+pub use whole::{ReadFault, Trailers};

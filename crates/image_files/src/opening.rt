@@ -72,7 +72,7 @@ impl<F: Read + Seek + OpenFile + FileExt + Drop, A: Allocator + Copy> OfFile<F, 
 
 /// What a file is, as far as it matters for how it is read.
 #[derive(Clone, Copy)]
-pub(crate) enum FileKind {
+pub enum FileKind {
     /// A regular file of so many bytes, one at least.
     Regular { size: u64 },
     /// A block device. Its size is not told with its kind.
@@ -112,7 +112,7 @@ fn is_block_device(metadata: &Metadata) -> bool
 
 /// The image of a file of a kind, which is at its beginning. `Failed` comes where a read fails,
 /// where a device tells no end, or where the file ends before the size that it told.
-pub(crate) fn open_as<F: Read + Seek + OpenFile + FileExt + Drop, A: Allocator + Copy>(
+pub fn open_as<F: Read + Seek + OpenFile + FileExt + Drop, A: Allocator + Copy>(
     alloc: A,
     file: F,
     kind: FileKind,

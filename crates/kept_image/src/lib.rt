@@ -21,8 +21,6 @@ mod gathering;
 pub mod laws;
 mod packing;
 mod pieces;
-#[cfg(test)]
-mod tests;
 mod trailer;
 mod visit;
 mod window;

@@ -15,8 +15,6 @@ mod check;
 mod kept;
 pub mod laws;
 pub mod refusal;
-#[cfg(test)]
-mod tests;
 
 pub use attribute_rows::Rows;
 pub use check::Check;

@@ -5,9 +5,9 @@
 //! target of 20 bytes, and a regular file has data that look like headers. 832 of 900 bytes belong
 //! to it.
 
-use crate::{GatherFault, gather, gather_with_trailer};
 use held_image::read::word;
 use image_bytes::{Contents, Unread};
+use kept_image::{GatherFault, gather, gather_with_trailer};
 use std::alloc::Allocator;
 use std::cell::Cell;
 

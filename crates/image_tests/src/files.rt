@@ -3,12 +3,12 @@
 //! Each image has a regular file in its root, of 32 bytes of data. Its header stands at 528, its
 //! name at 544, its data at 560; 592 bytes belong to the image.
 
-use crate::opening::{FileKind, open_as};
-use crate::whole::ReadFault;
-use crate::{FilesFault, ImageData, Trailers, apart, open_images};
 use held_image::Held;
 use held_image::read::word;
 use image_bytes::{Contents, fill};
+use image_files::{
+    FileKind, FilesFault, ImageData, ReadFault, Trailers, apart, open_as, open_images,
+};
 use kept_image::Kept;
 use std::alloc::{AllocError, Allocator};
 use std::fs::{self, File, Files};

@@ -4,9 +4,9 @@
 //! bytes of data at 96; a symbolic link `l` at 112, with its target at 144; and a hard link `h` at
 //! 160 to the file. It ends at 192, and a file's bytes stand behind it.
 
-use crate::{CheckFault, ImageFault, Profile, Rule, check_kept};
 use image_bytes::InMemory;
 use kept_image::gather;
+use romfs_check::{CheckFault, ImageFault, Profile, Rule, check_kept};
 use romfs_reader::{KeptImage, Part};
 use std::alloc::Allocator;
 
