@@ -1,3 +1,4 @@
+pub mod Joined
 pub mod Names
 pub mod Nodes
 pub mod Noting

@@ -76,12 +76,11 @@ impl<A: Allocator> Layers<A> {
         ensures { MatchOption result (slice_get self.now.all layer ≡ None)
             (λ view. slice_get self.now.all layer ≡ Some view) }
     {
-        match self.whole.get(layer) {
-            Some(image) => Some(image.view()),
-            None => {
-                let image = self.kept.get(layer - self.whole.len())?;
-                Some(image.view())
-            }
+        let whole = self.whole.len();
+        if layer < whole {
+            view_of_whole(&self.whole, layer)
+        } else {
+            view_of_kept(&self.kept, layer - whole)
         }
     }
 
@@ -93,6 +92,22 @@ impl<A: Allocator> Layers<A> {
     {
         &self.whole[layer]
     }
+}
+
+// One of images that are held whole, lent.
+fn view_of_whole<A: Allocator>(images: &[Image<A>], at: usize) -> Option<ImageView<'_>>
+    ensures { MatchOption result (slice_get images.now at ≡ None)
+        (λ view. slice_get images.now at ≡ Some view) }
+{
+    Some(images.get(at)?.view())
+}
+
+// One of those that are kept, lent.
+fn view_of_kept<A: Allocator>(images: &[KeptImage<A>], at: usize) -> Option<ImageView<'_>>
+    ensures { MatchOption result (slice_get images.now at ≡ None)
+        (λ view. slice_get images.now at ≡ Some view) }
+{
+    Some(images.get(at)?.view())
 }
 
 // Adds images that are held whole, lent.
