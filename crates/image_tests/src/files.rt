@@ -116,6 +116,19 @@ fn gathered(name: u8, data: u8) -> Seen {
     }
 }
 
+/// The same of several images, in their order.
+fn look_at_all<F: FileExt, A: Allocator + Copy>(
+    alloc: A,
+    kept: &[Kept<A>],
+    sources: &[ImageData<F, A>],
+) -> Result<Vec<Seen, A>, AllocError> {
+    let mut all = Vec::with_capacity(alloc, kept.len())?;
+    for (kept, source) in kept.iter().zip(sources.iter()) {
+        all.push(look_at(kept, source))?;
+    }
+    Ok(all)
+}
+
 /// What is seen of nine images, of which those with the numbers 3 and 6 have the same other path.
 fn seen_at<'a, R: Files + Threads + Sync, A: Allocator + Copy + Send + Sync>(
     rt: &R,
@@ -131,11 +144,7 @@ where
     let paths = [low, high, high, other, low, high, other, low, high];
     let images = open_images(rt, alloc, &paths, Trailers::Left)?;
     let (kept, sources) = apart(alloc, images)?;
-    let mut all = Vec::with_capacity(alloc, kept.len())?;
-    for (kept, source) in kept.iter().zip(sources.iter()) {
-        all.push(look_at(kept, source))?;
-    }
-    Ok(all)
+    Ok(look_at_all(alloc, &kept, &sources)?)
 }
 
 /// What is seen of a file that is opened as one of this kind; none where it cannot be.
