@@ -38,8 +38,8 @@ pub record HasBegun {A : Type 0} (by : Answering) (nodes turns : ℕ) (t : Trace
   pub done : IsDoneBy by nodes t.put messages begun.done
   pub counted : IsCounted {A = A} turns t (Err Turns)
 
--- the session had not begun where serving ended: at the end of the stream, at a failed read, or
--- with the last turn; and before the last pull, where another fault came behind it
+-- the session had not begun where more was awaited last: at the end of the stream, at a failed read
+-- or once the turns were used up; or else before the last pull, behind which another fault came
 abbrev pub WasNotBegun : {A : Type 0} → Answering → Trace → Result (Done A) StreamFault → Type 0
 WasNotBegun by t (Ok done) = HasNotBegun by t.got
 WasNotBegun by t (Err Read) = HasNotBegun by t.got

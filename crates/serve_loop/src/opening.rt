@@ -39,9 +39,9 @@ pub enum Opening<A: Allocator> {
 /// until its session has begun and no part of a message is left: after the pull that brought INIT,
 /// where each pull brings one message.
 ///
-/// `Ended`, and each fault, is what `run_by` says of it, and says that the session had not begun: no
-/// more is pulled once it has. Where it has begun, it had not before the last pull, all that was got
-/// is answered, the replies are flushed, and neither device failed or met its end.
+/// `Ended`, and each fault, is what `run_by` says of it, and the session had not begun where more
+/// was awaited last. Where it has begun, it had not before the last pull, all that was got is
+/// answered, the replies are flushed, and neither device failed or met its end.
 pub fn open_by<T: AnswersRounds, S: Source, K: Sink, A: Allocator + Copy>(
     alloc: A,
     answers: &T,
