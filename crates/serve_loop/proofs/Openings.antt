@@ -2,7 +2,7 @@
 -- run, and that the session had not begun before the last pull nor has now, where more is awaited
 -- (`IsAwaiting`); after a pull that gave bytes it had not before (`IsFollowed`). Each other lemma is
 -- an end; `over_begun` is the one that a run has not.
-use Rattle.std.proofs.Common.{◌≡◌, ◌==◌, ◌∙◌, ap, sym, subst, refl, ℕ, ◌+◌, ◌^◌, ◌<◌, ◌≤◌, ◌⊎◌, inl, inr, ℤ, Bool, true, false, List, [], ◌++◌, length, map, append-nil, Option, Result, Ok, Err, IsErrAnd, arith}
+use Rattle.std.proofs.Common.{◌≡◌, ◌==◌, ◌∙◌, ap, sym, subst, refl, ℕ, ◌+◌, ◌^◌, ◌<◌, ◌≤◌, ◌⊎◌, inl, inr, ℤ, Bool, true, false, true≢false, List, [], ◌∷◌, ◌++◌, length, map, append-nil, Option, Result, Ok, Err, IsErrAnd, arith}
 use Rattle.std.proofs.KnownBytes.{Appends-nil, Appends-trans, Consumes-nil, Consumes-trans}
 use Rattle.devices.specs.declared.counts.LastPull.{LastPull}
 use Rattle.devices.specs.declared.failed.Failed.{Failed}
@@ -71,6 +71,15 @@ module _ (by : Answering) where
   not_at_halt A t Turns h earlier = absurd h
   not_at_halt A t (BadLength at len) h earlier = absurd h
   not_at_halt A t (CutOff at) h earlier = absurd h
+
+  -- where the session of a stream that began in a fresh one has begun, what was got says so
+  pub begun_or_not : {A : Type 0} (nodes turns : ℕ) (t : Trace) (begun : Begun A) → is_fresh by.first ≡ true
+      → HasBegun by nodes turns t begun → ¬ HasNotBegun by t.got
+  begun_or_not nodes turns t begun new b not = cases b.messages b.answered.split (ap is_fresh (sym b.session_is) ∙ b.ready)
+    where
+      cases : (messages : List (List ℕ)) → IsSplit t.got messages [] → is_fresh (session_at by.first (map asked messages)) ≡ false → ⊥
+      cases [] whole old = true≢false (sym new ∙ old)
+      cases (m ∷ ms) whole old = true≢false (sym (not.fresh (m ∷ ms) whole (omega arith)) ∙ old)
 
 module _ (by : Answering) (nodes : ℕ) (old : Devices) where
   -- before a turn
