@@ -39,12 +39,20 @@ module _ {A : Type 0} (turns : ℕ) (old new : Devices) where
       → IsErrAnd result (λ said. said ≡ stop_of_fault fault)
       → Opened {A = A} turns (Err fault) old new first by → Does (λ t. IsOpenedOver first by turns t result) old new
   open_stopped first by fault (Ok opening) e o = absurd e
-  open_stopped first by fault (Err said) e (got, put, took, held, run) =
-      (got, put, took, held, record { ended = Err fault; result_is = ap Err e; run = run })
+  open_stopped first by fault (Err said) e (got, put, took, held, run) = (
+    got,
+    put,
+    took,
+    held,
+    record {
+      run = record { ended = Err fault; result_is = ap Err e; run = run.run };
+      not_begun = run.not_begun;
+    },
+  )
 
   -- the session has begun, or the stream came to its end before
   pub opened_well : (first : Session) (by : Sourced) (opening : Opening A) → Opened turns (Ok opening) old new first by
       → Does (λ t. IsOpenedOver first by turns t (Ok opening)) old new
   opened_well first by (openings.Begun begun) o = o
   opened_well first by (openings.Ended done) (got, put, took, held, run) =
-      (got, put, took, held, record { ended = Ok done; result_is = refl; run = run })
+      (got, put, took, held, record { run = record { ended = Ok done; result_is = refl; run = run.run }; not_begun = run.not_begun })

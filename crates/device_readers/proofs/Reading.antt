@@ -1,6 +1,6 @@
 -- What readers come to: one by itself, that had served before or had not, several at the same time,
 -- and all of them behind the opening of their session.
-use Rattle.std.proofs.Common.{◌≡◌, sym, ap, ap₂, subst, refl, ℕ, ◌+◌, ◌<◌, ◌≤◌, inl, Bool, false, IsTrue, List, [], ◌∷◌, ◌++◌, length, length-append, Result, Ok, Err, IfOk, arith}
+use Rattle.std.proofs.Common.{◌≡◌, sym, ap, subst, refl, ℕ, ◌+◌, ◌<◌, ◌≤◌, inl, Bool, false, IsTrue, List, [], ◌∷◌, ◌++◌, length, length-append, Result, Ok, Err, IfOk, arith}
 use Rattle.std.specs.List.{AllByRecursion}
 use Rattle.devices.specs.Counting.{no_pulls, no_pushes}
 use Rattle.devices.specs.States.{Devices}
@@ -15,7 +15,9 @@ use Rattle.serve_loop.specs.declared.done.Done.{Done}
 use Rattle.serve_loop.specs.declared.opening.Begun.{Begun}
 use Rattle.serve_loop.specs.declared.opening.Opening.TheVariants as openings
 use Rattle.serve_loop.specs.Serving.{AreReady, Does, trace}
+use Rattle.serve_loop.proofs.Openings.{nothing_begun}
 use Rattle.serve_loop.proofs.Runs.{no_memory}
+use Rattle.serve_loop.proofs.Traces.{take_none}
 use Rattle.serve_core.specs.declared.stop.Stop.{Stop}
 use Rattle.serve_core.specs.declared.stop.Stop.TheVariants.{Memory}
 use Rattle.serve_loop.specs.declared.stream_fault.StreamFault.TheVariants as faults
@@ -23,7 +25,7 @@ use Rattle.serve_core.specs.Headline.{IsRunFrom}
 use Rattle.device_readers.specs.declared.ends.Ended.{Ended}
 use Rattle.device_readers.specs.Crews.{IsOfEach, IsOfLed, alone, by_itself, halves, with_others}
 use Rattle.device_readers.specs.Ends.{IsBehind, IsOfBoth, done_of, end_of}
-use Rattle.device_readers.specs.Readers.{AreReaders, AreServed, AreServedNew, Counts, IsAlone, IsAloneWith, IsOpenedOver, IsServedBy, Reader, counts_of, unused}
+use Rattle.device_readers.specs.Readers.{AreReaders, AreServed, AreServedNew, Counts, IsAlone, IsAloneWith, IsNotOpenedOver, IsOpenedOver, IsServedBy, IsServedByOne, Reader, counts_of, unused}
 use Rattle.device_readers.proofs.Told.{behind_told, both_told, one_told}
 
 all_both : {X : Type 0} (P : X → Type 0) (xs ys : List X) → AllByRecursion P xs → AllByRecursion P ys → AllByRecursion P (xs ++ ys)
@@ -34,31 +36,8 @@ all_both P (x ∷ xs) ys a b = (a.0, all_both P xs ys a.1 b)
 abbrev pub Both : {A : Type 0} → Ended A → Ended A → Ended A → Type 0
 Both = λ low high all. IsOfBoth low high all
 
--- the counts of devices that were new
-new_counts : (old : Devices) → old.source.counts ≡ no_pulls → old.sink.counts ≡ no_pushes → counts_of old ≡ unused
-new_counts old p q = ap₂ (λ (x : Pulls) (y : Pushes). (let c : Counts = record { pulls = x; pushes = y } in c)) p q
-
 module _ {A : Type 0} (first : Session) (by : Sourced) (turns : ℕ) where
-  -- a reader by what its devices were before and are
-  pub by_devices : (result : Result (Done A) Stop) (old new : Devices) (input output : Bool) (ended : Ended A)
-      → Does (λ t. IsRunFrom first by turns t result) old new → (IsTrue input → 0 < new.source.counts.failures)
-      → (IsTrue output → 0 < new.sink.counts.failures) → ended.end ≡ end_of result input output
-      → IfOk ended.done (λ v. v.items ≡ done_of result)
-      → IsAlone first by turns (counts_of old) ended
-  by_devices result old new input output ended (got, put, took, held, run) i o end done =
-      let r : Reader A = record {
-        trace = trace got put old.source.counts new.source.counts old.sink.counts new.sink.counts;
-        result = result;
-        input_gone = input;
-        output_gone = output;
-      } in
-      record {
-        reader = r;
-        is = record { run = run; first_pull = refl; first_push = refl; input = i; output = o };
-        told = one_told r ended end done;
-      }
-
-  -- the same, with what its devices say at last
+  -- a reader by what its devices were before and are, and what they say at last
   pub by_devices_with : (result : Result (Done A) Stop) (old new : Devices) (input output in_said out_said : Bool) (ended : Ended A)
       → input ≡ in_said → output ≡ out_said
       → Does (λ t. IsRunFrom first by turns t result) old new → (IsTrue input → 0 < new.source.counts.failures)
@@ -85,20 +64,30 @@ module _ {A : Type 0} (first : Session) (by : Sourced) (turns : ℕ) where
       → IsAlone first by turns from ended
   alone_with from input output ended a = record { reader = a.reader; is = a.is; told = a.told }
 
-  -- a reader whose devices were new
+  -- a reader whose devices were new, and whose session had not begun
   pub by_new_devices : (result : Result (Done A) Stop) (old new : Devices) (input output : Bool) (ended : Ended A)
       → old.source.counts ≡ no_pulls → old.sink.counts ≡ no_pushes
-      → Does (λ t. IsRunFrom first by turns t result) old new → (IsTrue input → 0 < new.source.counts.failures)
+      → Does (λ t. IsNotOpenedOver first by turns t result) old new → (IsTrue input → 0 < new.source.counts.failures)
       → (IsTrue output → 0 < new.sink.counts.failures) → ended.end ≡ end_of result input output
       → IfOk ended.done (λ v. v.items ≡ done_of result)
-      → IsAlone first by turns unused ended
-  by_new_devices result old new input output ended p q does i o end done =
-      subst (λ from. IsAlone first by turns from ended) (new_counts old p q) (by_devices result old new input output ended does i o end
-      done)
+      → IsServedByOne first by turns ended
+  by_new_devices result old new input output ended p q (got, put, took, held, opened) i o end done =
+      let r : Reader A = record {
+        trace = trace got put old.source.counts new.source.counts old.sink.counts new.sink.counts;
+        result = result;
+        input_gone = input;
+        output_gone = output;
+      } in
+      record {
+        reader = r;
+        is = record { run = opened.run; first_pull = p; first_push = q; input = i; output = o };
+        not_begun = opened.not_begun;
+        told = one_told r ended end done;
+      }
 
   -- a reader that had no memory for its room
   pub roomless : (ended : Ended A) → ended.end ≡ end_of {A = A} (Err Memory) false false → IfOk ended.done (λ v. v.items ≡ [])
-      → IsAlone first by turns unused ended
+      → IsServedByOne first by turns ended
   roomless ended end done =
       let r : Reader A = record {
         trace = trace [] [] no_pulls no_pulls no_pushes no_pushes;
@@ -119,8 +108,13 @@ module _ {A : Type 0} (first : Session) (by : Sourced) (turns : ℕ) where
           input = λ no. absurd (cc);
           output = λ no. absurd (cc);
         };
+        not_begun = nothing_begun (answering_from first by) _ (take_none _ [] refl);
         told = one_told r ended end done;
       }
+
+  -- whether or not the session had begun, it was alone
+  pub one_alone : (ended : Ended A) → IsServedByOne first by turns ended → IsAlone first by turns unused ended
+  one_alone ended s = record { reader = s.reader; is = s.is; told = s.told }
 
   -- one new reader
   one_new : (ended : Ended A) (count : ℕ) → count ≡ 1 → IsAlone first by turns unused ended → AreServedNew first by turns count ended

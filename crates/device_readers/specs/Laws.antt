@@ -1,13 +1,19 @@
--- What readers come to, for a caller: which end is told, and what they moved together.
-use Rattle.std.specs.Prelude.{◌≡◌, ◌≤◌, ◌⊎◌, ⊤, ℕ, ℤ, pos, ◌+ℤ◌, List, [], ◌∷◌}
+-- What readers come to, for a caller: which end is told, when one alone serves, and what they moved
+-- together.
+use Rattle.std.specs.Prelude.{◌≡◌, ◌≤◌, ◌⊎◌, ⊤, ℕ, ℤ, pos, ◌+ℤ◌, List, [], ◌∷◌, Ok, Err}
 use Rattle.std.specs.List.{AllByRecursion}
 use Rattle.fuse_wire.specs.Requests.{asked}
 use Rattle.lookup_balances.specs.Balances.{balance_at}
 use Rattle.reply_model.specs.declared.session.Session.{Session}
 use Rattle.reply_model.specs.Sessions.{session_after}
+use Rattle.reply_model.specs.Readings.{Sourced}
+use Rattle.reply_pool.specs.Answers.{answering_from}
 use Rattle.serve_loop.specs.declared.done.Done.{Done}
+use Rattle.serve_loop.specs.Opening.{HasNotBegun}
 use Rattle.serve_loop.specs.Rounds.{Answering}
 use Rattle.serve_loop.specs.Serving.{AreBalances, moves_of}
+use Rattle.serve_core.specs.declared.stop.Stop.TheVariants.{Read}
+use Rattle.serve_core.specs.Headline.{IsRunFrom}
 use Rattle.device_readers.specs.declared.ends.End.{End}
 use Rattle.device_readers.specs.Ends.{end_of, place_of_end}
 use Rattle.device_readers.specs.Readers.{Reader}
@@ -24,6 +30,15 @@ IsToldFirst end readers = AllByRecursion (λ r. place_of_end end ≤ place_of_en
 abbrev pub HasReader : {A : Type 0} → End → List (Reader A) → Type 0
 HasReader end [] = ⊥
 HasReader end (r ∷ readers) = (end ≡ own_end r) ⊎ HasReader end readers
+
+-- a reader's messages were served over a stack as a stream that begins in this session; where they
+-- ended, or a read failed, they are no whole messages after which it has begun
+pub record HasServedBefore {A : Type 0} (first : Session) (by : Sourced) (turns : ℕ)
+    (r : Reader A) : Type 0 where
+  pub run : IsRunFrom first by turns r.trace r.result
+  pub ended : (done : Done A) → r.result ≡ Ok done
+      → HasNotBegun (answering_from first by) r.trace.got
+  pub failed : r.result ≡ Err Read → HasNotBegun (answering_from first by) r.trace.got
 
 -- how many lookups these streams leave with the client together, of the node at a place
 abbrev pub sum_at : {A : Type 0} → ℕ → List (Done A) → ℤ

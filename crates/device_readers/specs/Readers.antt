@@ -15,7 +15,7 @@ use Rattle.serve_loop.specs.declared.opening.Begun.{Begun}
 use Rattle.serve_loop.specs.declared.opening.Opening.{Opening}
 use Rattle.serve_loop.specs.declared.opening.Opening.TheVariants as openings
 use Rattle.serve_loop.specs.Serving.{Trace}
-use Rattle.serve_loop.specs.Opening.{HasBegun}
+use Rattle.serve_loop.specs.Opening.{HasBegun, WasNotBegun}
 use Rattle.serve_core.specs.declared.stop.Stop.{Stop}
 use Rattle.serve_core.specs.Headline.{IsRunFrom}
 use Rattle.device_readers.specs.declared.ends.End.{End}
@@ -68,6 +68,12 @@ abbrev pub done_of_all : {A : Type 0} → List (Reader A) → List (Done A)
 done_of_all [] = []
 done_of_all (r ∷ readers) = done_of r.result ++ done_of_all readers
 
+-- a stream was served over a stack to its end, or until it stopped, and its session had not begun
+pub record IsNotOpenedOver {A : Type 0} (first : Session) (by : Sourced) (turns : ℕ) (t : Trace)
+    (result : Result (Done A) Stop) : Type 0 where
+  pub run : IsRunFrom first by turns t result
+  pub not_begun : WasNotBegun (answering_from first by) t run.ended
+
 -- a stream was served over a stack until its session had begun, or before that to its end, or until
 -- it stopped
 abbrev pub IsOpenedOver : {A : Type 0} → Session → Sourced → ℕ → Trace → Result (Opening A) Stop
@@ -75,8 +81,8 @@ abbrev pub IsOpenedOver : {A : Type 0} → Session → Sourced → ℕ → Trace
 IsOpenedOver first by turns t (Ok (openings.Begun begun)) =
     HasBegun (answering_from first by) (length (nodes by.stack.entries)) turns t begun
 IsOpenedOver first by turns t (Ok (openings.Ended done)) =
-    IsRunFrom first by turns t (Ok done)
-IsOpenedOver {A} first by turns t (Err stop) = IsRunFrom {A = A} first by turns t (Err stop)
+    IsNotOpenedOver first by turns t (Ok done)
+IsOpenedOver {A} first by turns t (Err stop) = IsNotOpenedOver {A = A} first by turns t (Err stop)
 
 -- what is told of readers, behind what came of a stream before them
 pub record TellsOf {A : Type 0} (before : List (Done A)) (readers : List (Reader A))
@@ -143,7 +149,15 @@ pub record IsServedByAll {A : Type 0} (first : Session) (by : Sourced) (turns co
   pub are : AreReaders begun.session by turns (left_by opening) count readers
   pub told : TellsOf (begun.done ∷ []) readers ended
 
--- readers served a stack and its sources; or the one that began ended before the session had begun
+-- one reader came to this, and the session had not begun
+pub record IsServedByOne {A : Type 0} (first : Session) (by : Sourced) (turns : ℕ)
+    (ended : Ended A) : Type 0 where
+  pub reader : Reader A
+  pub is : IsReader first by turns unused reader
+  pub not_begun : WasNotBegun (answering_from first by) reader.trace is.run.ended
+  pub told : TellsOf [] (reader ∷ []) ended
+
+-- readers served a stack and its sources; or one alone, which ended before the session had begun
 abbrev pub IsServedBy : {A : Type 0} → Session → Sourced → ℕ → ℕ → Ended A → Type 0
 IsServedBy first by turns count ended =
-    IsServedByAll first by turns count ended ⊎ IsAlone first by turns unused ended
+    IsServedByAll first by turns count ended ⊎ IsServedByOne first by turns ended

@@ -1,6 +1,6 @@
 //! What readers come to, by what [`crate::serve_by_readers`] promises.
 
-ghost use Rattle.std.specs.Prelude.{◌≡◌, ◌<◌, ◌+◌, ◌⊎◌, ℕ, List, false, length, IsPermutation};
+ghost use Rattle.std.specs.Prelude.{◌≡◌, ◌<◌, ◌+◌, ◌⊎◌, ℕ, List, [], ◌∷◌, false, length, IsPermutation};
 ghost use Rattle.std.specs.List.{AllByRecursion, flat_map};
 ghost use Rattle.reply_model.specs.declared.session.Session.{Session};
 ghost use Rattle.reply_model.specs.Moves.{balance};
@@ -14,8 +14,8 @@ ghost use Rattle.serve_loop.specs.Serving.{moves_of};
 ghost use Rattle.stack_model.specs.Numbers.{nodes};
 ghost use Rattle.device_readers.specs.declared.ends.End.TheVariants.{AtEnd};
 ghost use Rattle.device_readers.specs.declared.ends.Ended.{Ended};
-ghost use Rattle.device_readers.specs.Readers.{AreReaders, Counts, IsServedByAll, Reader, TellsOf, done_of_all, end_of_all};
-ghost use Rattle.device_readers.specs.Laws.{CameOf, HasReader, IsToldFirst, KeepsSession, sum_at};
+ghost use Rattle.device_readers.specs.Readers.{AreReaders, Counts, IsServedByAll, IsServedByOne, Reader, TellsOf, done_of_all, end_of_all};
+ghost use Rattle.device_readers.specs.Laws.{CameOf, HasReader, HasServedBefore, IsToldFirst, KeepsSession, sum_at};
 
 use std::alloc::Allocator;
 
@@ -37,6 +37,14 @@ pub fn readers_go_on_in_the_session<A: Allocator>()
         × (is_fresh session ≡ false) × (readers : List (Reader A)) × (length readers ≡ count)
         × AllByRecursion (λ r. IsRunFrom session over turns r.trace r.result) readers
         × (ended.end ≡ end_of_all readers) }
+{}
+
+/// Where one reader served alone, and its stream ended or a read failed, its session had not begun:
+/// what it got is no whole messages after which it has.
+pub fn one_ends_before_the_session<A: Allocator>()
+    ensures { (first : Session) (over : Sourced) (turns : ℕ) (ended : Ended A) →
+        IsServedByOne first over turns ended → (r : Reader A) × HasServedBefore first over turns r
+        × (ended.end ≡ end_of_all (r ∷ [])) }
 {}
 
 /// The streams of readers leave what their own messages moved. In a session that none of these

@@ -1,12 +1,12 @@
 -- A stream served turn by turn. What holds before a turn (`IsRunning`) holds before the next: a
 -- pull gives bytes (`fed`), and what is whole is answered (`went_round`). Each other lemma is an
 -- end of the run, and says that it keeps the one promise (`IsRun`).
-use Rattle.std.proofs.Common.{◌≡◌, ◌∙◌, sym, ap, subst, ℕ, ◌+◌, ◌^◌, ◌<◌, ◌≤◌, inl, inr, ℤ, List, [], ◌++◌, length, map, refl, arith, length-append, append_assoc, append-nil, Result, Ok, Err, Some, IsErrAnd}
+use Rattle.std.proofs.Common.{◌≡◌, ◌∙◌, sym, ap, subst, ℕ, ◌+◌, ◌^◌, ◌<◌, ◌≤◌, inl, inr, ℤ, List, [], ◌++◌, length, refl, arith, length-append, append_assoc, append-nil, Result, Ok, Err, Some, IsErrAnd}
 use Rattle.devices.specs.declared.limits.TheConstants.{PULL_SIZE}
 use Rattle.fuse_wire.specs.Stream.{IsBad, IsOpen, IsRest, IsSplit}
 use Rattle.fuse_wire.proofs.Splits.{some_split}
 use Rattle.devices.specs.declared.failed.Failed.{Failed}
-use Rattle.devices.specs.declared.counts.LastPull.TheVariants.{End}
+use Rattle.devices.specs.declared.counts.LastPull.TheVariants.{Bytes, End}
 use Rattle.devices.specs.declared.counts.Pulls.{Pulls}
 use Rattle.devices.specs.declared.counts.Pushes.{Pushes}
 use Rattle.devices.specs.Counting.{pulled}
@@ -243,34 +243,43 @@ module _ (by : Answering) (nodes : ℕ) where
           };
         }
 
-    -- after a pull that gave bytes they stand behind what was left, and earlier replies are flushed
-    pub fed : (new : Pulls) (x rest : List ℕ) (n : ℕ) → new ≡ pulled t.source (Ok n) → length x ≡ n → n ≤ PULL_SIZE → (n ≡ 0 → ⊥)
-        → rest ≡ v.rest ++ x → IsLow t → turn < 2 ^ 40 → IsFed by nodes turn (pulled_on t new x) (record v { rest = rest }) ms
-    fed new x rest n c l m z e low h =
-        let p = low.pulls in let y = low.ends in let f = low.failures in let a = r.pulls in let b = r.ends in let d = r.read in
-        let k = some_counted t.source new (omega arith) (omega arith) (omega arith) n c z in
-        let u = k.0 in let o = k.1 in let i = k.2 in
-        let back : before (pulled_on t new x) ≡ t.got = ap (λ s. all_but (last_size s) (t.got ++ x)) k.3
-        ∙ ap (λ j. all_but j (t.got ++ x)) (sym l) ∙ all_but_last t.got x in
-        record {
-          goes = record {
-            taken = ap (λ g. g ++ x) r.goes.taken ∙ append_assoc (joined ms) v.rest x ∙ ap (λ g. joined ms ++ g) (sym e);
-            each = r.goes.each;
-            answered = r.goes.answered;
-            place = r.goes.place;
-            count = r.goes.count;
-            written = r.goes.written;
-          };
-          size = (let s = r.size in let j = length-append t.got x in omega arith);
-          flushed_all = r.flushed_all;
-          earlier = v.rest;
-          split = record { whole = back ∙ r.goes.taken; each = r.goes.each; tail = inl r.good };
-          good = r.good;
-          pulls = omega arith;
-          ends = o ∙ b;
-          read = i ∙ d;
-          write = r.write;
-        }
+    -- a pull that gave bytes
+    module _ (new : Pulls) (x : List ℕ) (n : ℕ) (c : new ≡ pulled t.source (Ok n)) (l : length x ≡ n) (e : n ≡ 0 → ⊥) (low : IsLow t)
+        (h : turn < 2 ^ 40) where
+      bytes_counted : (new.pulls ≡ t.source.pulls + 1) × (new.ends ≡ t.source.ends) × (new.failures ≡ t.source.failures)
+          × (new.last ≡ Some (Bytes n))
+      bytes_counted = (
+          let p = low.pulls in let y = low.ends in let f = low.failures in let a = r.pulls in let b = r.ends in let d = r.read in
+          some_counted t.source new (omega arith) (omega arith) (omega arith) n c e)
+
+      -- what was got before it is all that was got before
+      pub got_before : before (pulled_on t new x) ≡ t.got
+      got_before = ap (λ s. all_but (last_size s) (t.got ++ x)) bytes_counted.3
+          ∙ ap (λ j. all_but j (t.got ++ x)) (sym l) ∙ all_but_last t.got x
+
+      -- its bytes stand behind what was left, and earlier replies are flushed
+      pub fed : (rest : List ℕ) → n ≤ PULL_SIZE → rest ≡ v.rest ++ x → IsFed by nodes turn (pulled_on t new x) (record v { rest = rest }) ms
+      fed rest m z =
+          let a = r.pulls in let b = r.ends in let d = r.read in let k = bytes_counted in let u = k.0 in let o = k.1 in let i = k.2 in
+          record {
+            goes = record {
+              taken = ap (λ g. g ++ x) r.goes.taken ∙ append_assoc (joined ms) v.rest x ∙ ap (λ g. joined ms ++ g) (sym z);
+              each = r.goes.each;
+              answered = r.goes.answered;
+              place = r.goes.place;
+              count = r.goes.count;
+              written = r.goes.written;
+            };
+            size = (let s = r.size in let j = length-append t.got x in omega arith);
+            flushed_all = r.flushed_all;
+            earlier = v.rest;
+            split = record { whole = got_before ∙ r.goes.taken; each = r.goes.each; tail = inl r.good };
+            good = r.good;
+            pulls = omega arith;
+            ends = o ∙ b;
+            read = i ∙ d;
+            write = r.write;
+          }
 
   module _ (turn : ℕ) (t : Trace) (v : ServingState) (ms : List (List ℕ)) (f : IsFed by nodes turn t v ms) where
     prompt_late : (new : Pushes) (more : List ℕ) → new.unflushed ≤ t.sink.unflushed + length more → IsPrompt by (pushed_on t new more)

@@ -18,7 +18,7 @@ use Rattle.serve_loop.proofs.Traces.{IsFed, IsLow, IsRunning, none_left, some_le
 use Rattle.serve_loop.proofs.Runs.{ends_bad, ends_clean, ends_cut, ends_halt, ends_memory, ends_read, ends_turns, fed, run_memory, runs_first, small_fed, went_round}
 
 -- the trace of a call between these devices
-abbrev so_far : Devices → Devices → List ℕ → List ℕ → Trace
+abbrev pub so_far : Devices → Devices → List ℕ → List ℕ → Trace
 so_far old now got put = trace got put old.source.counts now.source.counts old.sink.counts now.sink.counts
 
 module _ (by : Answering) (nodes : ℕ) (old : Devices) where
@@ -131,8 +131,8 @@ module _ (by : Answering) (nodes : ℕ) (old : Devices) where
         messages = b.messages;
         took = Consumes-trans _ _ _ _ _ b.took more;
         held = b.held;
-        fed = fed by nodes turn _ v b.messages b.runs _ x rest n pull.counts pull.is.0 pull.is.1 some (pull.behind ∙ ap (λ r. r ++ x) same)
-            low (let few = ready.few in omega arith);
+        fed = fed by nodes turn _ v b.messages b.runs _ x n pull.counts pull.is.0 some low (let few = ready.few in omega arith) rest
+            pull.is.1 (pull.behind ∙ ap (λ r. r ++ x) same);
       }
 
       -- and the counts stay small

@@ -1,17 +1,23 @@
 -- What serving a stream until its session has begun promises.
-use Rattle.std.specs.Prelude.{◌≡◌, ℕ, List, [], length, map, false, Result, Ok, Err}
+use Rattle.std.specs.Prelude.{◌≡◌, ℕ, ◌<◌, List, [], length, map, true, false, Result, Ok, Err}
+use Rattle.fuse_wire.specs.Stream.{IsSplit}
 use Rattle.fuse_wire.specs.Requests.{asked}
 use Rattle.reply_model.specs.Sessions.{is_fresh}
 use Rattle.reply_model.specs.Streams.{session_at}
 use Rattle.serve_loop.specs.Rounds.{Answering}
-use Rattle.serve_loop.specs.Serving.{Trace, AreBalances, IsCounted, IsRun, moves_of}
+use Rattle.serve_loop.specs.Serving.{Trace, AreBalances, IsCounted, IsRun, before, moves_of}
 use Rattle.serve_loop.specs.Laws.{HasAnsweredAll}
 use Rattle.serve_loop.specs.declared.done.Done.{Done}
 use Rattle.serve_loop.specs.declared.opening.Begun.{Begun}
 use Rattle.serve_loop.specs.declared.opening.Opening.{Opening}
 use Rattle.serve_loop.specs.declared.opening.Opening.TheVariants as openings
 use Rattle.serve_loop.specs.declared.stream_fault.StreamFault.{StreamFault}
-use Rattle.serve_loop.specs.declared.stream_fault.StreamFault.TheVariants.{Turns}
+use Rattle.serve_loop.specs.declared.stream_fault.StreamFault.TheVariants.{Read, Turns}
+
+-- these bytes are no whole messages after which the session has begun
+pub record HasNotBegun (by : Answering) (bytes : List ℕ) : Type 0 where
+  pub fresh : (messages : List (List ℕ)) → IsSplit bytes messages [] → 0 < length messages
+      → is_fresh (session_at by.first (map asked messages)) ≡ true
 
 -- what these messages of a stream came to, which put these bytes
 pub record IsDoneBy {A : Type 0} (by : Answering) (nodes : ℕ) (put : List ℕ)
@@ -20,20 +26,35 @@ pub record IsDoneBy {A : Type 0} (by : Answering) (nodes : ℕ) (put : List ℕ)
   pub written : done.written ≡ length put
   pub balanced : AreBalances (moves_of by messages) nodes done.balances.items
 
--- a stream stands between two messages, and its session has begun: all that was got is answered,
--- and neither device failed or met its end
+-- a stream stands between two messages, and its session has begun since the last pull: all that was
+-- got is answered, and neither device failed or met its end
 pub record HasBegun {A : Type 0} (by : Answering) (nodes turns : ℕ) (t : Trace)
     (begun : Begun A) : Type 0 where
   pub messages : List (List ℕ)
   pub answered : HasAnsweredAll by t messages []
   pub session_is : begun.session ≡ session_at by.first (map asked messages)
   pub ready : is_fresh begun.session ≡ false
+  pub earlier : HasNotBegun by (before t)
   pub done : IsDoneBy by nodes t.put messages begun.done
   pub counted : IsCounted {A = A} turns t (Err Turns)
+
+-- the session had not begun where more was awaited last: at the end of the stream, at a failed read
+-- or once the turns were used up; or else before the last pull, behind which another fault came
+abbrev pub WasNotBegun : {A : Type 0} → Answering → Trace → Result (Done A) StreamFault → Type 0
+WasNotBegun by t (Ok done) = HasNotBegun by t.got
+WasNotBegun by t (Err Read) = HasNotBegun by t.got
+WasNotBegun by t (Err Turns) = HasNotBegun by t.got
+WasNotBegun by t (Err _) = HasNotBegun by (before t)
+
+-- a stream was served to its end, or until it stopped, and its session had not begun
+pub record IsNotOpened {A : Type 0} (by : Answering) (nodes turns : ℕ) (t : Trace)
+    (result : Result (Done A) StreamFault) : Type 0 where
+  pub run : IsRun by nodes turns t result
+  pub not_begun : WasNotBegun by t result
 
 -- a stream was served until its session had begun, or before that to its end, or until it stopped
 abbrev pub IsOpened : {A : Type 0} → Answering → ℕ → ℕ → Trace → Result (Opening A) StreamFault
     → Type 0
 IsOpened by nodes turns t (Ok (openings.Begun begun)) = HasBegun by nodes turns t begun
-IsOpened by nodes turns t (Ok (openings.Ended done)) = IsRun by nodes turns t (Ok done)
-IsOpened {A} by nodes turns t (Err fault) = IsRun {A = A} by nodes turns t (Err fault)
+IsOpened by nodes turns t (Ok (openings.Ended done)) = IsNotOpened by nodes turns t (Ok done)
+IsOpened {A} by nodes turns t (Err fault) = IsNotOpened {A = A} by nodes turns t (Err fault)

@@ -1,13 +1,16 @@
 //! What a served stream means, end by end: each law follows from what [`crate::run_by`] promises.
 
-ghost use Rattle.std.specs.Prelude.{◌≡◌, ◌↔◌, ◌+◌, ℕ, ℤ, List, Result, Ok, Err};
+ghost use Rattle.std.specs.Prelude.{◌≡◌, ◌↔◌, ◌+◌, ℕ, ℤ, true, List, Result, Ok, Err};
 ghost use Rattle.fuse_wire.specs.Stream.{IsSplit};
 ghost use Rattle.reply_model.specs.declared.moves.Move.{Move};
+ghost use Rattle.reply_model.specs.Sessions.{is_fresh};
 ghost use Rattle.serve_loop.specs.Rounds.{Answering};
 ghost use Rattle.serve_loop.specs.declared.done.Done.{Done};
+ghost use Rattle.serve_loop.specs.declared.opening.Begun.{Begun};
 ghost use Rattle.serve_loop.specs.declared.stream_fault.StreamFault.{StreamFault};
 ghost use Rattle.serve_loop.specs.declared.stream_fault.StreamFault.TheVariants.{BadLength, CutOff, Read, Write, Turns};
 ghost use Rattle.serve_loop.specs.Serving.{Trace, AreBalances, IsRun, IsPrompt, HaveReplies, flushed_bytes, before};
+ghost use Rattle.serve_loop.specs.Opening.{HasBegun, HasNotBegun};
 ghost use Rattle.serve_loop.specs.Laws.{HasServed, HasBadLength, IsCutOff, HasFailed, HasUsedTurns, IsFront};
 
 use std::alloc::Allocator;
@@ -51,6 +54,14 @@ pub fn replies_come_in_order<A: Allocator>()
     ensures flushed { (by : Answering) (n turns : ℕ) (t : Trace) (r : Result (Done A) StreamFault)
         (messages : List (List ℕ)) (rest : List ℕ) → IsRun by n turns t r →
         IsSplit (before t) messages rest → HaveReplies by messages (flushed_bytes t) }
+{}
+
+/// Where the session of a stream has begun, what was got does not say that it has not, if the stream
+/// began in a fresh session.
+#[tactic(auto, using(crate::proofs::Openings::begun_or_not))]
+pub fn sessions_have_begun_or_not<A: Allocator>()
+    ensures { (by : Answering) (n turns : ℕ) (t : Trace) (begun : Begun A) →
+        is_fresh by.first ≡ true → HasBegun by n turns t begun → ¬ HasNotBegun by t.got }
 {}
 
 /// Moves come to one list of balances.

@@ -1,6 +1,6 @@
 //! A stream, served until its session has begun.
 
-ghost use Rattle.std.specs.Prelude.{◌≡◌, [], false, IsTrue};
+ghost use Rattle.std.specs.Prelude.{◌≡◌, ◌<◌, ◌⊎◌, [], length, true, false, IsTrue};
 ghost use Rattle.devices.specs.States.{devices};
 ghost use Rattle.reply_model.specs.Sessions.{is_fresh};
 ghost use Rattle.serve_loop.specs.Buffers.{held_in, IsWithinBytes};
@@ -39,8 +39,9 @@ pub enum Opening<A: Allocator> {
 /// until its session has begun and no part of a message is left: after the pull that brought INIT,
 /// where each pull brings one message.
 ///
-/// `Ended`, and each fault, is what `run_by` says of it. Where the session has begun, all that was
-/// got is answered, the replies are flushed, and neither device failed or met its end.
+/// `Ended`, and each fault, is what `run_by` says of it, and the session had not begun where more
+/// was awaited last. Where it has begun, it had not before the last pull, all that was got is
+/// answered, the replies are flushed, and neither device failed or met its end.
 pub fn open_by<T: AnswersRounds, S: Source, K: Sink, A: Allocator + Copy>(
     alloc: A,
     answers: &T,
@@ -90,6 +91,8 @@ fn has_begun<A: Allocator>(progress: &Progress<A>) -> bool
     requires { IsWithinBytes progress.now.buffer }
     ensures rest { IsTrue result → held_in progress.now.buffer ≡ [] }
     ensures ready { IsTrue result → is_fresh progress.now.session ≡ false }
+    ensures waits { result ≡ false → (0 < length (held_in progress.now.buffer))
+        ⊎ (is_fresh progress.now.session ≡ true) }
 {
     progress.buffer.rest().is_empty() && !is_fresh(progress.session)
 }

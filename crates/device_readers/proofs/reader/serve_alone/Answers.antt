@@ -1,9 +1,10 @@
 use Rattle.fuse_answer.specs.Puts.{sourced_by}
-use Rattle.device_readers.proofs.Reading.{roomless}
+use Rattle.device_readers.proofs.Reading.{one_alone, roomless}
 use Rattle.device_readers.proofs.reader.serve_alone.Goals as goal
 
 pub returns-in-Err : goal.returns-in-Err
 returns-in-Err g c =
     let by = sourced_by g.D.Contents.source c.args.served in
-    roomless {A = g.row.A.Denot} c.args.terms.now.first by c.args.terms.now.turns c.ended_alone.result
-    c.ended_alone.ensures.end c.ended_alone.ensures.done
+    one_alone {A = g.row.A.Denot} c.args.terms.now.first by c.args.terms.now.turns c.ended_alone.result
+    (roomless {A = g.row.A.Denot} c.args.terms.now.first by c.args.terms.now.turns c.ended_alone.result
+    c.ended_alone.ensures.end c.ended_alone.ensures.done)

@@ -1,11 +1,10 @@
-use Rattle.std.proofs.Common.{◌≡◌, ◌∙◌, ap, refl, subst, sym, [], arith}
+use Rattle.std.proofs.Common.{◌≡◌, ◌∙◌, ap, subst, sym, [], arith}
 use Rattle.devices.specs.States.{devices}
 use Rattle.fuse_wire.specs.Stream.{IsBad, IsOpen, IsRest}
 use Rattle.serve_loop.specs.Buffers.{held_in}
 use Rattle.serve_loop.specs.Steps.{serving_state, IsSmall}
 use Rattle.serve_loop.proofs.Traces.{small_first, start}
-use Rattle.serve_loop.proofs.Turns.{IsAfter, feeds, feeds_small, first_turn, goes_on, over_at_end, over_cut_off, over_for_bad, over_for_halt, over_for_read, over_for_turns}
-use Rattle.serve_loop.proofs.Openings.{never_opened, not_opened, over_for_begun}
+use Rattle.serve_loop.proofs.Openings.{IsFollowed, awaits_first, awaits_on, follows, follows_small, never_opened, not_opened, over_bad, over_begun, over_cut, over_end, over_halt, over_read, over_turns}
 use Rattle.serve_loop.proofs.opening.open_by.Given.{Over}
 use Rattle.serve_loop.proofs.opening.open_by.Goals.{In-Ok}
 use Rattle.serve_loop.proofs.opening.open_by.Goals as goal
@@ -19,7 +18,7 @@ loop-turn-init g c =
     let nodes = g.T.AnswersRounds.nodes c.args.answers.now in
     let p = c.in_ok-progress.ensures in
     let is = p.1 ∙ ap (λ s. start s c.nodes.result []) c.first.ensures ∙ ap (λ n. start by.first n []) c.nodes.ensures in (
-      first_turn by nodes _ (serving_state c.in_ok-progress.progress) is,
+      awaits_first by nodes _ (serving_state c.in_ok-progress.progress) is,
       record { range = p.0; small = subst (λ w. IsSmall nodes w) (sym is) (small_first by.first nodes) },
     )
 
@@ -39,7 +38,7 @@ pull-requires-clause-room g c = c.in_ok-make_room.ensures.room
 
 pub returns-in-Err : goal.returns-in-Err
 returns-in-Err g c =
-    over_for_read _ _ _ _ _ _ _ c.loop-turn.invariant.0 _ _ _ c.requires.devices c.loop-turn-test.true c.in_ok-make_room.ensures.rest _
+    over_read _ _ _ _ _ _ _ c.loop-turn.invariant.0 _ _ _ c.requires.devices c.loop-turn-test.true c.in_ok-make_room.ensures.rest _
     c.in-Err.ensures.pull
 
 pub rest-requires : goal.rest-requires
@@ -47,23 +46,23 @@ rest-requires g c = c.pull.ensures.range
 
 pub returns-then-is_empty : goal.returns-then-is_empty
 returns-then-is_empty g c =
-    over_at_end _ _ _ _ _ _ _ c.loop-turn.invariant.0 _ _ _ c.requires.devices c.loop-turn-test.true c.in_ok-make_room.ensures.rest _
+    over_end _ _ _ _ _ _ _ c.loop-turn.invariant.0 _ _ _ c.requires.devices c.loop-turn-test.true c.in_ok-make_room.ensures.rest _
     c.in-Ok.ensures.pull c.if-got-eq0.true _ c.rest.ensures _ c.is_empty.ensures _ c.if-is_empty.true c.done.ensures.messages
     c.done.ensures.written c.done.ensures.balances
 
 pub returns-then-got-eq0 : goal.returns-then-got-eq0
 returns-then-got-eq0 g c =
-    over_cut_off _ _ _ _ _ _ _ c.loop-turn.invariant.0 _ _ _ c.requires.devices c.loop-turn-test.true c.in_ok-make_room.ensures.rest _
+    over_cut _ _ _ _ _ _ _ c.loop-turn.invariant.0 _ _ _ c.requires.devices c.loop-turn-test.true c.in_ok-make_room.ensures.rest _
     c.in-Ok.ensures.pull c.if-got-eq0.true _ c.rest.ensures _ c.is_empty.ensures c.if-is_empty.false
 
 -- what a pull gave stands behind what was left
 fed_now : (g : Over) (c : In-Ok g) → (c.in-Ok.got ≡ 0 → ⊥)
-    → IsAfter (g.T.AnswersRounds.answering c.args.answers.now) (g.T.AnswersRounds.nodes c.args.answers.now)
+    → IsFollowed (g.T.AnswersRounds.answering c.args.answers.now) (g.T.AnswersRounds.nodes c.args.answers.now)
     (devices (g.S.Source.state c.args.source.now) (g.K.Sink.state c.args.sink.now)) c.loop-turn._turn
     (devices (g.S.Source.state c.pull.new.source) (g.K.Sink.state c.loop-turn.sink))
     (record (serving_state c.loop-turn.progress) { rest = held_in c.pull.new.self })
 fed_now g c some =
-    feeds _ _ _ _ _ _ _ c.loop-turn.invariant.0 _ _ _ c.requires.devices c.loop-turn-test.true c.in_ok-make_room.ensures.rest _
+    follows _ _ _ _ _ _ _ c.loop-turn.invariant.0 _ _ _ c.requires.devices c.loop-turn-test.true c.in_ok-make_room.ensures.rest _
     c.in-Ok.ensures.pull some
 
 pub answer_all-requires-clause-ready : goal.answer_all-requires-clause-ready
@@ -74,13 +73,13 @@ answer_all-requires-clause-in_order g c =
     let fed = fed_now g (goal.at.answer_all-requires-clause-in_order g c).In-Ok c.if-got-eq0.false in
     record {
       range = c.pull.ensures.range;
-      small = feeds_small _ _ _ _ _ _ _ c.loop-turn.invariant.0 _ _ _ c.requires.devices c.loop-turn-test.true
+      small = follows_small _ _ _ _ _ _ _ c.loop-turn.invariant.0 _ _ _ c.requires.devices c.loop-turn-test.true
           c.in_ok-make_room.ensures.rest fed c.loop-turn.invariant.1.small;
     }
 
 pub returns-in-Err-answer_all : goal.returns-in-Err-answer_all
 returns-in-Err-answer_all g c =
-    over_for_halt _ _ _ _ _ _ _ (fed_now g (goal.at.returns-in-Err-answer_all g c).In-Ok c.if-got-eq0.false) _ _
+    over_halt _ _ _ _ _ _ _ (fed_now g (goal.at.returns-in-Err-answer_all g c).In-Ok c.if-got-eq0.false) _ _
     c.loop-turn-test.true c.in-Err-answer_all.ensures.err
 
 pub rest-requires-in-loop-turn : goal.rest-requires-in-loop-turn
@@ -91,15 +90,16 @@ bad_length-requires g c = subst IsRest (sym c.rest-in-loop-turn.ensures) c.in-Ok
 
 pub returns-in-Some : goal.returns-in-Some
 returns-in-Some g c =
-    over_for_bad _ _ _ _ _ _ _ (fed_now g (goal.at.returns-in-Some g c).In-Ok c.if-got-eq0.false) _ _
+    over_bad _ _ _ _ _ _ _ (fed_now g (goal.at.returns-in-Some g c).In-Ok c.if-got-eq0.false) _ _
     c.in-Ok-answer_all.ensures.ok.0 c.in-Some.len c.loop-turn-test.true
     (subst (λ l. IsBad l c.in-Some.len) c.rest-in-loop-turn.ensures c.in-Some.ensures)
 
 pub loop-turn-preserved : goal.loop-turn-preserved
 loop-turn-preserved g c =
     let fed = fed_now g (goal.at.loop-turn-preserved g c).In-Ok c.if-got-eq0.false in (
-      goes_on _ _ _ _ c.args.turns _ _ fed _ _ c.in-Ok-answer_all.ensures.ok.0
-          (subst IsOpen c.rest-in-loop-turn.ensures c.in_default.ensures),
+      awaits_on _ _ _ _ c.args.turns _ _ fed _ _ c.in-Ok-answer_all.ensures.ok.0
+          (subst IsOpen c.rest-in-loop-turn.ensures c.in_default.ensures)
+          (c.has_begun.ensures.waits c.if-has_begun.false),
       c.in-Ok-answer_all.ensures.in_order,
     )
 
@@ -109,14 +109,11 @@ has_begun-requires g c = c.in-Ok-answer_all.ensures.in_order.range
 pub returns-then-has_begun : goal.returns-then-has_begun
 returns-then-has_begun g c =
     let fed = fed_now g (goal.at.returns-then-has_begun g c).In-Ok c.if-got-eq0.false in
-    let next = goes_on _ _ _ _ c.args.turns _ _ fed _ _ c.in-Ok-answer_all.ensures.ok.0
-    (subst IsOpen c.rest-in-loop-turn.ensures c.in_default.ensures) in
-    over_for_begun _ _ _ _ _ _ _ next (omega (arith, c.loop-turn-test.true)) c.as_begun.result
-    (c.has_begun.ensures.rest c.if-has_begun.true)
-    c.as_begun.ensures.session (c.has_begun.ensures.ready c.if-has_begun.true) c.as_begun.ensures.messages c.as_begun.ensures.written
-    c.as_begun.ensures.balances
+    over_begun _ _ _ _ _ _ _ fed _ _ c.in-Ok-answer_all.ensures.ok.0 (subst IsOpen c.rest-in-loop-turn.ensures c.in_default.ensures)
+    c.as_begun.result c.loop-turn-test.true (c.has_begun.ensures.rest c.if-has_begun.true) c.as_begun.ensures.session
+    (c.has_begun.ensures.ready c.if-has_begun.true) c.as_begun.ensures.messages c.as_begun.ensures.written c.as_begun.ensures.balances
 
 pub returns : goal.returns
 returns g c =
     let last : c.loop-turn._turn ≡ c.args.turns = omega (arith, c.loop-turn-test.false, c.loop-turn.auto._turn-end) in
-    over_for_turns _ _ _ _ _ _ _ c.loop-turn.invariant.0 last
+    over_turns _ _ _ _ _ _ _ c.loop-turn.invariant.0 last
