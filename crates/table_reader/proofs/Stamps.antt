@@ -1,5 +1,5 @@
 -- Lists that are paired, rows whose stamps stand elsewhere, and what is told by both.
-use Rattle.std.proofs.Common.{◌≡◌, ◌≢◌, ◌∙◌, sym, ap, subst, ℕ, zero, suc, ◌+◌, ◌<◌, ◌≤◌, ◌⊎◌, inl, inr, List, [], ◌∷◌, ◌++◌, length, map, set, true, false, ◌==◌, Option, Some, None, refl, arith}
+use Rattle.std.proofs.Common.{◌≡◌, ◌≢◌, ◌∙◌, sym, ap, subst, ℕ, zero, suc, ◌+◌, ◌<◌, ◌≤◌, ◌⊎◌, inl, inr, List, [], ◌∷◌, ◌++◌, length, map, set, true, false, not, Bool, ◌==◌, Option, Some, None, refl, arith}
 use Rattle.std.specs.Prelude.{slice_get, nat_eq, is_some, Result, IfOk}
 use Rattle.std.specs.List.{slice_index_or}
 use Rattle.std.specs.Option.{option_map, option_and_then}
@@ -183,6 +183,10 @@ all_rows_are stamps rows layers p f = paired_is (map (row_told stamps)) rows lay
   level = p.level;
   each = λ k x y e i. rows_are stamps x y (p.each k x y e i) (f.each k y (slice_get_within layers k y i) i);
 })
+
+-- a layer has a row
+abbrev pub has_row : List AttributeRow → Bool
+has_row of_layer = not (nat_eq (length of_layer) 0)
 
 -- where the first layer has a row, some has
 some_row : (x : AttributeRow) (xs : List AttributeRow) (rows : List (List AttributeRow)) → have_rows ((x ∷ xs) ∷ rows) ≡ false → ⊥
