@@ -2,4 +2,5 @@ pub mod Joined
 pub mod Names
 pub mod Nodes
 pub mod Noting
+pub mod Pushed
 pub mod Stamps

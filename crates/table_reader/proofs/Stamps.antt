@@ -1,6 +1,6 @@
 -- Lists that are paired, rows whose stamps stand elsewhere, and what is told by both.
-use Rattle.std.proofs.Common.{◌≡◌, ◌≢◌, ◌∙◌, sym, ap, subst, ℕ, zero, suc, ◌+◌, ◌<◌, ◌⊎◌, inl, inr, List, [], ◌∷◌, ◌++◌, length, map, set, true, false, ◌==◌, Option, Some, None, refl, arith}
-use Rattle.std.specs.Prelude.{slice_get, nat_eq, Result, IfOk}
+use Rattle.std.proofs.Common.{◌≡◌, ◌≢◌, ◌∙◌, sym, ap, subst, ℕ, zero, suc, ◌+◌, ◌<◌, ◌≤◌, ◌⊎◌, inl, inr, List, [], ◌∷◌, ◌++◌, length, map, set, true, false, not, Bool, ◌==◌, Option, Some, None, refl, arith}
+use Rattle.std.specs.Prelude.{slice_get, nat_eq, is_some, Result, IfOk}
 use Rattle.std.specs.List.{slice_index_or}
 use Rattle.std.specs.Option.{option_map, option_and_then}
 use Rattle.std.proofs.Common.{length-set, get_or, take}
@@ -184,6 +184,10 @@ all_rows_are stamps rows layers p f = paired_is (map (row_told stamps)) rows lay
   each = λ k x y e i. rows_are stamps x y (p.each k x y e i) (f.each k y (slice_get_within layers k y i) i);
 })
 
+-- a layer has a row
+abbrev pub has_row : List AttributeRow → Bool
+has_row of_layer = not (nat_eq (length of_layer) 0)
+
 -- where the first layer has a row, some has
 some_row : (x : AttributeRow) (xs : List AttributeRow) (rows : List (List AttributeRow)) → have_rows ((x ∷ xs) ∷ rows) ≡ false → ⊥
 some_row x xs rows e =
@@ -213,6 +217,18 @@ pub stands : {A : Type 0} (xs : List A) (k : ℕ) → k < length xs → slice_ge
 stands xs k l e = elim (slice_get_cases xs k).1 [
   | inl x ↦ (let z : Some x.0 ≡ None = sym x.2 ∙ e in cc)
   | inr x ↦ (let past = x.0 in omega arith)
+]
+
+-- what is read tells whether the place is within the list
+pub something_stands : {A : Type 0} (xs : List A) (k : ℕ) (o : Option A) → o ≡ slice_get xs k → is_some o ≡ true → k + 1 ≤ length xs
+something_stands xs k None e s = absurd (cc)
+something_stands xs k (Some x) e s = let l = slice_get_within xs k x (sym e) in omega arith
+
+pub nothing_stands : {A : Type 0} (xs : List A) (k : ℕ) (o : Option A) → o ≡ slice_get xs k → is_some o ≡ false → length xs ≤ k
+nothing_stands xs k (Some x) e s = absurd (cc)
+nothing_stands xs k None e s = elim (slice_get_cases xs k).1 [
+  | inl x ↦ absurd (let z : None ≡ Some x.0 = e ∙ x.2 in cc)
+  | inr x ↦ x.0
 ]
 
 -- the row at the position that is found for a place
@@ -271,6 +287,14 @@ module _ (rows : List (List AttributeRow)) (layers : List (List Slim)) (place : 
       let l = slice_get_within rows place.layer f.of_layer f.layer_is in
       let level = a.level in
       a.each place.layer _ _ f.layer_is (slice_get-get_or layers place.layer d (omega arith))
+
+  pub layer_within : (stamps : List Stamp) → AreAllSlim stamps rows layers → position_held rows place ≡ Some i
+      → place.layer < length layers
+  layer_within stamps a e =
+      let f = found rows place i e in
+      let l = slice_get_within rows place.layer f.of_layer f.layer_is in
+      let level = a.level in
+      omega arith
 
   pub within : (stamps : List Stamp) → AreAllSlim stamps rows layers → position_held rows place ≡ Some i
       → i < length (slice_index_or layers place.layer d)

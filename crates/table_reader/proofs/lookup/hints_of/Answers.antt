@@ -1,3 +1,5 @@
+use Rattle.std.proofs.Common.{◌≡◌, ◌+◌, subst, length, arith}
+use Rattle.table_reader.specs.Held.{AreNotedUpTo}
 use Rattle.table_reader.proofs.Noting.{one_more, no_more}
 use Rattle.table_reader.proofs.lookup.hints_of.Goals.{in-Some, in_default}
 use Rattle.table_reader.proofs.lookup.hints_of.Goals as goal
@@ -17,3 +19,20 @@ loop-at-preserved g c = elim c.match-directory_at.branch [
     filter = rw w.filter-is c.loop-at.invariant.filter;
   }
 ]
+
+pub keys_of-requires-clause-start : goal.keys_of-requires-clause-start
+keys_of-requires-clause-start g c = (c.requires.each (c.loop-at.at + 1) c.in-Some.directory.now c.in-Some.ensures).0
+
+pub keys_of-requires-clause-end : goal.keys_of-requires-clause-end
+keys_of-requires-clause-end g c = (c.requires.each (c.loop-at.at + 1) c.in-Some.directory.now c.in-Some.ensures).1
+
+pub returns-clause-noted : goal.returns-clause-noted
+returns-clause-noted g c =
+    let end : c.loop-at.at ≡ length c.args.nodes.now = omega arith in
+    subst (AreNotedUpTo c.args.nodes.now c.args.directories.now c.loop-at.filter) end c.loop-at.invariant.noted
+
+pub returns-clause-guesses : goal.returns-clause-guesses
+returns-clause-guesses g c = c.loop-at.invariant.guesses
+
+pub returns-clause-filter : goal.returns-clause-filter
+returns-clause-filter g c = c.loop-at.invariant.filter

@@ -1,8 +1,18 @@
 use Rattle.std.proofs.Common.{◌≡◌, subst, refl, length, arith}
 use Rattle.std.proofs.lemmas.Option.{slice_get_read, slice_get-get_or}
 use Rattle.table_reader.specs.Stamps.{AreAllStamped}
-use Rattle.table_reader.proofs.Stamps.{layer_stamped}
+use Rattle.table_reader.proofs.Stamps.{keeps_same, layer_stamped}
 use Rattle.table_reader.proofs.stamped_rows.stamp_others.Goals as goal
+
+pub loop-layer-init : goal.loop-layer-init
+loop-layer-init g c = record {
+  slim = c.requires;
+  have = record { each = λ k x l e. absurd (omega arith) };
+  keeps = keeps_same c.args.stamps.now.items;
+}
+
+pub bounds-layers-layer : goal.bounds-layers-layer
+bounds-layers-layer g c = let level = c.loop-layer.invariant.slim.level in omega arith
 
 pub stamp_others-requires : goal.stamp_others-requires
 stamp_others-requires g c =

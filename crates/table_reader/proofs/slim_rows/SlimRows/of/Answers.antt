@@ -1,4 +1,5 @@
-use Rattle.std.proofs.Common.{sym, ◌<◌, length, arith}
+use Rattle.std.proofs.Common.{◌∙◌, sym, ap, ◌<◌, ◌≤◌, length, map, arith}
+use Rattle.std.proofs.lemmas.List.{take_all}
 use Rattle.table_reader.specs.Stamps.{slim_of}
 use Rattle.table_reader.proofs.Stamps.{mapped_more, stands}
 use Rattle.table_reader.proofs.slim_rows.SlimRows.of.Goals as goal
@@ -13,3 +14,9 @@ loop-position-preserved g c =
           (sym (mapped_more slim_of c.args.rows.now c.loop-position.position w.in-Some.row (sym w.in-Some.ensures.value)))
       | in_default w ↦ absurd (stands c.args.rows.now c.loop-position.position within (sym w.in_default.ensures.value))
     ]
+
+pub returns : goal.returns
+returns g c =
+    let level = c.in_ok-count.ensures in
+    let past : length c.args.rows.now ≤ c.loop-position.position = omega arith in
+    c.loop-position.invariant ∙ ap (map slim_of) (take_all c.loop-position.position c.args.rows.now past)

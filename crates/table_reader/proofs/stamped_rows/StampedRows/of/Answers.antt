@@ -27,3 +27,15 @@ pub returns-clause-stamps : goal.returns-clause-stamps
 returns-clause-stamps g c =
     nodes_stamped c.args.rows.now c.args.owner c.args.nodes.now c.in_ok-stamps.stamps.items _ c.in_ok-stamps.ensures.stamps
     (rw c.in_ok-reserve_exact.ensures.items at c.in_ok-stamp_others.ensures.keeps) (sym c.have_rows.ensures ∙ c.if-not-have_rows.false)
+
+pub stamps_of-requires : goal.stamps_of-requires
+stamps_of-requires g c = c.deref_mut.ensures.value ∙ c.in_ok-layers.ensures
+
+pub stamp_others-requires : goal.stamp_others-requires
+stamp_others-requires g c =
+    let made = c.in_ok-layers.layers in
+    let new = c.stamps_of.new.layers in
+    let slim = c.in_ok-stamps.ensures.slim in
+    let level : length new ≡ made.len = slim.level ∙ sym (length-map c.args.rows.now (map slim_of))
+    ∙ sym (ap length c.in_ok-layers.ensures) ∙ sym made.ok.0 in
+    rw (c.in_ok-reserve_exact.ensures.items, c.deref_mut-2.ensures.value, with_items_is made new level) slim

@@ -1,6 +1,6 @@
 use Rattle.std.proofs.Common.{◌∙◌, sym, ap, Some}
 use Rattle.table_reader.specs.Rows.{Line}
-use Rattle.table_reader.proofs.Names.{number_at, number_nowhere}
+use Rattle.table_reader.proofs.Names.{number_at, number_nowhere, place_within}
 use Rattle.table_reader.proofs.Nodes.{found, keys_end, child_is, child_none}
 use Rattle.table_reader.proofs.Noting.{number_within}
 use Rattle.table_reader.proofs.table.Table.child_guessed.Goals as goal
@@ -54,3 +54,6 @@ returns g c =
     ∙ rw (c.rows_of-rows.ensures, ← c.self.view_is)
     (child_is _ _ _ _ c.self.invariant.table c.args.number _ c.args.name.now
     (rw c.deref.ensures.value at c.in_ok-directory.ensures))
+
+pub bounds-rows-at : goal.bounds-rows-at
+bounds-rows-at g c = place_within c.args.name.now c.rows_of-rows.result.now c.in_ok-at.at (sym c.in_ok-at.ensures)
