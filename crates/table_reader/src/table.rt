@@ -219,6 +219,7 @@ impl<A: Allocator> Table<A> {
     }
 
     /// The attributes of a node; none where the number is not in use.
+    #[inline(always)]
     pub fn attr(&self, number: u64) -> Option<Attr>
         ensures { result ≡ attr_at self.now number }
     {

@@ -6,7 +6,7 @@ use layer_tree::{OfLayer, Tree, lay};
 use romfs_image::sample::BuildFault;
 use romfs_image::{Check, CheckFault, Image, Profile};
 use stack_core::FreePass;
-use std::alloc::{Allocator, Global};
+use std::alloc::{AllocError, Allocator, Global};
 use std::test::Fail;
 use std::thread::Threads;
 use test_kit::memories::refuse_in_turn;
@@ -32,16 +32,28 @@ fn strict_size<A: Allocator + Copy>(alloc: A) -> Result<u32, BuildFault> {
     }
 }
 
+/// The tree of a layer, or of one laid on it.
+fn tree_of_one<A: Allocator + Copy>(
+    alloc: A,
+    below: &Image<A>,
+    above: &Image<A>,
+    is_laid: bool,
+) -> Result<Tree<A>, AllocError> {
+    let low = Tree::of(alloc, below, 0)?;
+    if is_laid {
+        lay(alloc, low, Tree::of(alloc, above, 1)?)
+    } else {
+        Ok(low)
+    }
+}
+
 /// Whether a tree has the file of the lower layer alone: of this layer, or of one laid on it.
 fn has_file<A: Allocator + Copy>(alloc: A, is_laid: bool) -> Result<bool, BuildFault> {
     let images = layers(alloc, "1/a 2-c + 1/a 2-.wh.c")?;
     let [below, above] = images.as_slice() else {
         return Err(BuildFault::Listing);
     };
-    let mut tree = Tree::of(alloc, below, 0)?;
-    if is_laid {
-        tree = lay(alloc, tree, Tree::of(alloc, above, 1)?)?;
-    }
+    let tree = tree_of_one(alloc, below, above, is_laid)?;
     Ok(tree.entry(&[b"a".as_slice(), b"c".as_slice()]).is_some())
 }
 

@@ -27,6 +27,16 @@ pub fn wrong_of<'a, R: Threads + Sync, A: Allocator + Copy + Send + Sync, G: Gat
     Ok(first_wrong(&tree, told))
 }
 
+/// The last tree, laid on the one before it.
+fn lay_last<A: Allocator + Copy>(
+    alloc: A,
+    trees: &mut Vec<Tree<A>, A>,
+) -> Result<Tree<A>, BuildFault> {
+    let high = trees.pop().ok_or(BuildFault::Listing)?;
+    let low = trees.pop().ok_or(BuildFault::Listing)?;
+    Ok(lay(alloc, low, high)?)
+}
+
 /// The next tree of an order.
 fn next_tree<A: Allocator + Copy>(
     alloc: A,
@@ -35,10 +45,7 @@ fn next_tree<A: Allocator + Copy>(
     sign: u8,
 ) -> Result<Tree<A>, BuildFault> {
     if sign == b'+' {
-        let (Some(high), Some(low)) = (trees.pop(), trees.pop()) else {
-            return Err(BuildFault::Listing);
-        };
-        return Ok(lay(alloc, low, high)?);
+        return lay_last(alloc, trees);
     }
     let number = u16::from(sign.saturating_sub(b'0'));
     match images.get(usize::from(number)) {
