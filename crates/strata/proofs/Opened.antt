@@ -122,7 +122,7 @@ pub whole_ones : {F A : Type 0} (line : Line) (known : F → Option (List ℕ)) 
 whole_ones line known images held e h =
     let is = IsOfFile (λ file. IsHeldOf (known file) (trailers_of line)) in
     All-same is held (map Whole images) e (All-map is Whole images (All-weaker (IsOfFile (λ file. AreBytesOf (known file)))
-        (λ bytes. is (Whole bytes)) (λ bytes of. record { file = of.file; read = of.read }) images h))
+    (λ bytes. is (Whole bytes)) (λ bytes of. record { file = of.file; read = of.read }) images h))
 
 -- images that are prepared with their files are so with all of these, lent
 pub seen_as : {F A B : Type 0} (line : Line) (images : List (List ℕ)) (stack : Stacked) (files : Vec (ImageData F A) B)

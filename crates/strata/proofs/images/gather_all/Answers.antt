@@ -13,4 +13,6 @@ returns-then-line-clause-ok g c =
 
 pub returns-then-line-clause-held : goal.returns-then-line-clause-held
 returns-then-line-clause-held g c =
-    whole_ones _ _ c.in_ok-images.images.items c.in_ok-all_whole.field-0.items c.in_ok-all_whole.ensures c.in_ok-images.ensures.bytes
+    let held = c.in_ok-all_whole.field-0 in
+    let images = c.in_ok-images.images in
+    whole_ones c.args.line.now _ images.items held.items c.in_ok-all_whole.ensures c.in_ok-images.ensures.bytes
