@@ -3,3 +3,4 @@ pub mod Reading
 pub mod Data
 pub mod Opened
 pub mod Opening
+pub mod Files

@@ -13,7 +13,8 @@ use Rattle.image_files.specs.declared.whole.ReadFault.TheVariants.{Failed, Memor
 use Rattle.kept_image.specs.declared.fault.GatherFault.{GatherFault}
 use Rattle.kept_image.specs.declared.fault.GatherFault.TheVariants as gather
 use Rattle.std.specs.declared.vec.Vec.{Vec}
-use Rattle.image_files.specs.Opened.{Opened}
+use Rattle.image_files.specs.Files.{AreBytesOf}
+use Rattle.image_files.specs.Opened.{Opened, WasGathered}
 use Rattle.image_files.specs.declared.opening.HeldImage.{HeldImage}
 use Rattle.image_files.specs.declared.opening.HeldImage.TheVariants as held
 
@@ -35,7 +36,7 @@ StayInFile (from.Memory bytes) = ⊥
 -- all bytes of the data are in memory, those that are known
 abbrev pub AreAllOf : {F A : Type 0} → Option (List ℕ) → ImageData F A → Type 0
 AreAllOf known (from.File file) = ⊥
-AreAllOf known (from.Memory bytes) = IfSome known (λ xs. bytes.items ≡ xs)
+AreAllOf known (from.Memory bytes) = AreBytesOf known bytes
 
 -- what the data of a file of this kind are read from, of which these bytes are known
 abbrev pub AreOfFile : {F A : Type 0} → FileKind → Option (List ℕ) → ImageData F A → Type 0
@@ -48,6 +49,24 @@ abbrev pub IsKnownAs : FileKind → Option (List ℕ) → Option (List ℕ) → 
 IsKnownAs (Regular size) known seen = seen ≡ None
 IsKnownAs BlockDevice known seen = seen ≡ None
 IsKnownAs Stream known seen = IsSome seen × IfSome known (λ xs. seen ≡ Some xs)
+
+-- what the rules look at is held of an image: it was gathered of these bytes, where they are known,
+-- with the trailer where trailers are read
+abbrev pub IsKeptOf : {A : Type 0} → Option (List ℕ) → Trailers → HeldImage A → Type 0
+IsKeptOf known trailers (held.Kept kept its) = (its ≡ trailers) × WasGathered trailers known kept
+IsKeptOf known trailers (held.Whole bytes) = ⊥
+
+-- all bytes of an image are held, those that are known
+abbrev pub IsHeldWhole : {A : Type 0} → Option (List ℕ) → HeldImage A → Type 0
+IsHeldWhole known (held.Kept kept its) = ⊥
+IsHeldWhole known (held.Whole bytes) = AreBytesOf known bytes
+
+-- what is held of the image of a file of this kind, of which these bytes are known: of a stream
+-- all, and of any other what the rules look at, but of its reads nothing is known
+abbrev pub IsHeldAs : {A : Type 0} → FileKind → Option (List ℕ) → Trailers → HeldImage A → Type 0
+IsHeldAs (Regular size) known trailers image = IsKeptOf None trailers image
+IsHeldAs BlockDevice known trailers image = IsKeptOf None trailers image
+IsHeldAs Stream known trailers image = IsHeldWhole known image
 
 -- how the image of a file of this kind is open, of which these bytes are known
 pub record IsOpenedAs (kind : FileKind) (known : Option (List ℕ)) (trailers : Trailers)
@@ -62,7 +81,7 @@ fault_of gather.Memory = Memory
 
 -- the bytes that are held of an image, and zeros where nothing is
 abbrev pub held_bytes : {A : Type 0} → HeldImage A → List ℕ
-held_bytes (held.Kept kept) = kept
+held_bytes (held.Kept kept its) = kept
 held_bytes (held.Whole bytes) = bytes.items
 
 -- those of a list of images

@@ -6,6 +6,7 @@
 //! read.
 
 ghost use Rattle.std.specs.Prelude.{◌≡◌, ◌⊎◌, ◌+◌, ◌<◌, ◌^◌, ℕ, ◌++◌, length, vec_len, All, IfOk, IfErr, OnOk};
+ghost use Rattle.image_files.specs.Files.{AreBytesOf, IsHeldOf, IsOfFile, IsOpenOf};
 ghost use Rattle.image_files.specs.Unread.{IsReadUpTo};
 ghost use Rattle.image_files.specs.declared.images.FilesFault.TheVariants.{Unread, Memory};
 ghost use denote.Param.Send.{IsSync, IsSend, Frees};
@@ -65,6 +66,8 @@ where
     R::File: Send,
     R::Dir: Send,
     ensures ok { IfOk result (λ images. vec_len images ≡ length paths.now) }
+    ensures bytes { IfOk result (λ images.
+        All (IsOfFile (λ file. AreBytesOf (R.File.remaining file))) images.items) }
     ensures err { IfErr result (λ fault. (fault ≡ Memory)
         ⊎ ((image : ℕ) × (image < length paths.now) × (fault ≡ Unread image))) }
 {
@@ -93,6 +96,8 @@ where
     R::File: FileExt + Send,
     R::Dir: Send,
     ensures ok { IfOk result (λ images. vec_len images ≡ length paths.now) }
+    ensures known { IfOk result (λ images.
+        All (IsOfFile (λ file. IsOpenOf (R.File.remaining file) trailers)) images.items) }
     ensures trailers { IfOk result (λ images.
         All (λ image. image.trailers ≡ trailers) images.items) }
     ensures err { IfErr result (λ fault. (fault ≡ Memory)
@@ -115,6 +120,8 @@ where
     R::File: FileExt + Send,
     R::Dir: Send,
     ensures ok { IfOk result (λ images. vec_len images ≡ length paths.now) }
+    ensures held { IfOk result (λ images.
+        All (IsOfFile (λ file. IsHeldOf (R.File.remaining file) trailers)) images.items) }
     ensures err { IfErr result (λ fault. (fault ≡ Memory)
         ⊎ ((image : ℕ) × (image < length paths.now) × (fault ≡ Unread image))) }
 {
@@ -143,7 +150,7 @@ where
     R::Dir: Send,
     requires { first + length paths.now < 2 ^ 64 }
     ensures count { IsReadUpTo first (length paths.now) (vec_len result.images) result.end }
-    ensures read { All (T.is_read trailers) result.images.items }
+    ensures read { All (IsOfFile (T.is_read trailers)) result.images.items }
 {
     if forks == 0 || paths.len() < MANY {
         return read_in_turn(rt, alloc, first, paths, trailers);
@@ -160,14 +167,14 @@ where
                 × Frees A.Allocator A.dealloc_token × (next + length highs.now < 2 ^ 64) }
             ensures count { IsReadUpTo next (length highs.entry.now) (vec_len result.images)
                 result.end }
-            ensures read { All (T.is_read trailers) result.images.items }
+            ensures read { All (IsOfFile (T.is_read trailers)) result.images.items }
         { read_from(rt, alloc, next, highs, trailers, less) },
         move || -> Run<T, A>
             requires { IsSync R.row × IsSync A.row × IsSend A.row
                 × Frees A.Allocator A.dealloc_token × (first + length lows.now < 2 ^ 64) }
             ensures count { IsReadUpTo first (length lows.entry.now) (vec_len result.images)
                 result.end }
-            ensures read { All (T.is_read trailers) result.images.items }
+            ensures read { All (IsOfFile (T.is_read trailers)) result.images.items }
         { read_from(rt, alloc, first, lows, trailers, less) },
     );
     both(low, high)
@@ -215,7 +222,7 @@ fn read_in_turn<R: Files, A: Allocator + Copy, T: OfFile<R::File, A> + Drop>(
 ) -> Run<T, A>
     requires { first + length paths.now < 2 ^ 64 }
     ensures count { IsReadUpTo first (length paths.now) (vec_len result.images) result.end }
-    ensures read { All (T.is_read trailers) result.images.items }
+    ensures read { All (IsOfFile (T.is_read trailers)) result.images.items }
 {
     let mut images = Vec::new(alloc);
     let end = add_in_turn(rt, alloc, first, paths, trailers, &mut images);
@@ -235,7 +242,7 @@ fn add_in_turn<R: Files, A: Allocator + Copy, T: OfFile<R::File, A> + Drop>(
     requires empty { vec_len images.old ≡ 0 }
     requires few { first + length paths.now < 2 ^ 64 }
     ensures count { IsReadUpTo first (length paths.now) (vec_len images.new) result }
-    ensures read { All (T.is_read trailers) images.new.items }
+    ensures read { All (IsOfFile (T.is_read trailers)) images.new.items }
 {
     images.reserve_exact(paths.len())?;
     for (at, path) in paths.iter().enumerate() {
@@ -251,7 +258,7 @@ fn read_image<R: Files, A: Allocator, T: OfFile<R::File, A>>(
     path: &str,
     trailers: Trailers,
 ) -> Result<T, FilesFault>
-    ensures ok { IfOk result (T.is_read trailers) }
+    ensures ok { IfOk result (IsOfFile (T.is_read trailers)) }
     ensures err { IfErr result (λ fault. (fault ≡ Unread image) ⊎ (fault ≡ Memory)) }
 {
     let file = fs::open(rt, path).map_err(|_| FilesFault::Unread { image })?;

@@ -14,8 +14,8 @@
 //!
 //! The private parts: `images` shares a list out, whatever is read of each file; `whole` reads one
 //! file, and `opening` opens one; `open_image` and `image_data` have what is open. No clause sees a
-//! path, nor what a file holds: the tests open real files. Of bytes in memory a clause says that
-//! what is kept was gathered of them.
+//! path, nor what a read at a place gives: the tests open real files. Bytes in memory are those of
+//! some file, where these are known, and what is kept beside them was gathered of them.
 #![tactic(auto)]
 
 mod image_data;

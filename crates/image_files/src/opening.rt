@@ -5,12 +5,12 @@
 //! bytes once, from the first to the last, and is read whole.
 
 ghost use Rattle.std.specs.Prelude.{◌≡◌, ◌↔◌, IfOk, IsTrue};
-ghost use Rattle.image_files.specs.Opening.{AreOfFile, IsBlockDevice, IsKindOf, IsOpenedAs, fault_of};
+ghost use Rattle.image_files.specs.Opening.{AreOfFile, IsBlockDevice, IsHeldAs, IsKeptOf, IsKindOf, IsOpenedAs, fault_of};
 
 use crate::image_data::ImageData;
 use crate::open_image::{OpenImage, gather_as};
 use crate::whole::{OfFile, ReadFault, Trailers, read_file};
-use image_bytes::InFile;
+use image_bytes::{Contents, InFile};
 use kept_image::{GatherFault, Kept};
 use std::alloc::Allocator;
 use std::fs::{Metadata, OpenFile};
@@ -36,10 +36,11 @@ impl From<GatherFault> for ReadFault {
 
 impl<F: Read + Seek + OpenFile + FileExt + Drop, A: Allocator + Copy> OfFile<F, A>
     for OpenImage<F, A> {
-    ghost use Rattle.std.specs.Prelude.{◌≡◌};
+    ghost use Rattle.image_files.specs.Files.{IsOpenOf};
 
-    ghost is_read = { λ trailers image. image.trailers ≡ trailers };
+    ghost is_read = { λ trailers file. IsOpenOf (F.remaining file) trailers };
 
+    #[tactic(auto, using(crate::proofs::Files::open_of))]
     fn of_file(alloc: A, file: F, trailers: Trailers) -> Result<OpenImage<F, A>, ReadFault> {
         let kind = told_kind(&file);
         open_as(alloc, file, kind, trailers)
@@ -49,24 +50,22 @@ impl<F: Read + Seek + OpenFile + FileExt + Drop, A: Allocator + Copy> OfFile<F, 
 /// What is held of an image whose file was let go.
 #[derive(Drop)]
 pub enum HeldImage<A: Allocator> {
-    /// What the rules look at.
-    Kept(Kept<A>),
+    /// What the rules look at, with the trailer where trailers were read.
+    Kept { image: Kept<A>, trailers: Trailers },
     /// All bytes of a file that cannot be read at a place.
     Whole(Vec<u8, A>),
 }
 
 impl<F: Read + Seek + OpenFile + FileExt + Drop, A: Allocator + Copy> OfFile<F, A>
     for HeldImage<A> {
-    ghost use Rattle.std.specs.Prelude.{⊤};
+    ghost use Rattle.image_files.specs.Files.{IsHeldOf};
 
-    ghost is_read = { λ _ _. ⊤ };
+    ghost is_read = { λ trailers file. IsHeldOf (F.remaining file) trailers };
 
+    #[tactic(auto, using(crate::proofs::Files::held_of))]
     fn of_file(alloc: A, file: F, trailers: Trailers) -> Result<HeldImage<A>, ReadFault> {
         let kind = told_kind(&file);
-        match data_of(alloc, file, kind)? {
-            ImageData::File(file) => Ok(HeldImage::Kept(gather_as(alloc, &file, trailers)?)),
-            ImageData::Memory(bytes) => Ok(HeldImage::Whole(bytes)),
-        }
+        hold_as(alloc, file, kind, trailers)
     }
 }
 
@@ -122,6 +121,34 @@ pub fn open_as<F: Read + Seek + OpenFile + FileExt + Drop, A: Allocator + Copy>(
 {
     let source = data_of(alloc, file, kind)?;
     Ok(OpenImage::over(alloc, source, trailers)?)
+}
+
+/// What is held of the image of a file of a kind, which is at its beginning and is let go. `Failed`
+/// comes as [`open_as`] says.
+fn hold_as<F: Read + Seek + OpenFile + FileExt + Drop, A: Allocator + Copy>(
+    alloc: A,
+    file: F,
+    kind: FileKind,
+    trailers: Trailers,
+) -> Result<HeldImage<A>, ReadFault>
+    ensures { IfOk result (IsHeldAs kind (F.remaining file) trailers) }
+{
+    match data_of(alloc, file, kind)? {
+        ImageData::File(file) => Ok(kept_of(alloc, &file, trailers)?),
+        ImageData::Memory(bytes) => Ok(HeldImage::Whole(bytes)),
+    }
+}
+
+/// What the rules look at, and whether the trailer is there.
+fn kept_of<S: Contents, A: Allocator + Copy>(
+    alloc: A,
+    source: &S,
+    trailers: Trailers,
+) -> Result<HeldImage<A>, GatherFault>
+    ensures { IfOk result (IsKeptOf (S.contents source.now) trailers) }
+{
+    let image = gather_as(alloc, source, trailers)?;
+    Ok(HeldImage::Kept { image, trailers })
 }
 
 /// What the data of a file of a kind are read from: the file, or of a stream all its bytes.

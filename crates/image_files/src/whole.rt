@@ -4,6 +4,7 @@ ghost use Rattle.std.specs.Prelude.{◌≡◌, IfSome, OnOk, IfOk};
 ghost use Rattle.std.specs.Io.KnownBytes.{IsAtEnd};
 ghost use Rattle.devices.specs.Counting.{no_pulls};
 ghost use Rattle.image_files.specs.declared.whole.ReadFault.TheVariants.{Memory};
+ghost use Rattle.image_files.specs.Files.{AreBytesOf};
 ghost use Rattle.image_files.specs.Reading.{IsReadThrough};
 
 use devices::limits::{MAX_TURNS, PULL_SIZE};
@@ -40,18 +41,18 @@ pub enum Trailers {
 pub(crate) trait OfFile<F, A: Allocator>: Sized {
     ghost use Rattle.image_files.specs.declared.whole.Trailers.{Trailers};
 
-    // Holds of what is read, where trailers are read or left.
-    ghost is_read: { Trailers → Self → Type 0 };
+    // Holds of what is read of a file, where trailers are read or left.
+    ghost is_read: { Trailers → F → Self → Type 0 };
 
     /// What is read of this file, which is at its beginning.
     fn of_file(alloc: A, file: F, trailers: Trailers) -> Result<Self, ReadFault>
-        ensures { IfOk result (is_read trailers) };
+        ensures { IfOk result (is_read trailers file) };
 }
 
 impl<F: Read + OpenFile + Drop, A: Allocator> OfFile<F, A> for Vec<u8, A> {
-    ghost use Rattle.std.specs.Prelude.{⊤};
+    ghost use Rattle.image_files.specs.Files.{AreBytesOf};
 
-    ghost is_read = { λ _ _. ⊤ };
+    ghost is_read = { λ _ file. AreBytesOf (F.remaining file) };
 
     /// All bytes, with those of the trailer.
     fn of_file(alloc: A, file: F, _trailers: Trailers) -> Result<Vec<u8, A>, ReadFault> {
@@ -64,7 +65,7 @@ pub fn read_file<F: Read + OpenFile + Drop, A: Allocator>(
     alloc: A,
     file: F,
 ) -> Result<Vec<u8, A>, ReadFault>
-    ensures { IfOk result (λ bytes. IfSome (F.remaining file) (λ known. bytes.items ≡ known)) }
+    ensures { IfOk result (AreBytesOf (F.remaining file)) }
 {
     let length = told_length(&file);
     read_all(alloc, &mut Tap::new(file), length)

@@ -1,21 +1,23 @@
 -- The images of a line. `are_sources` says of images that were taken apart what their data are read from,
 -- `stacked_sources` that their stack has the same; `whole_held` that nothing is where a line asks for all bytes, and
 -- `held_whole` that a stack without sources is held. `seen_as` lends their files. `one_held` is the step of the loop
--- that holds images whole.
-use Rattle.std.proofs.Common.{◌≡◌, ◌≤◌, ◌⊎◌, ◌||◌, ◌∙◌, sym, ap, subst, refl, ℕ, suc, inl, inr, true, false, true≢false, List, [], ◌∷◌, ◌++◌, append_assoc, length, map, All, Bool, Some, Vec, arith}
+-- that holds images whole, and `whole_ones` says what these hold.
+use Rattle.std.proofs.Common.{◌≡◌, ◌≤◌, ◌⊎◌, ◌||◌, ◌∙◌, sym, ap, subst, refl, ℕ, suc, inl, inr, true, false, true≢false, List, [], ◌∷◌, ◌++◌, append_assoc, length, map, All, Bool, Option, Some, Vec, arith}
 use Rattle.std.specs.List.{AllByRecursion}
-use Rattle.std.proofs.lemmas.List.{map-append}
-use Rattle.std.proofs.lemmas.List.Elements.{recursion_from_All}
+use Rattle.std.proofs.lemmas.List.Elements.{All-map, All-same, All-weaker, recursion_from_All}
 use Rattle.image_bytes.specs.Sources.{Source}
 use Rattle.image_files.specs.declared.image_data.ImageData.{ImageData}
 use Rattle.image_files.specs.declared.image_data.ImageData.TheVariants.{File, Memory}
 use Rattle.image_files.specs.declared.whole.Trailers.{Trailers}
+use Rattle.image_files.specs.declared.opening.HeldImage.{HeldImage}
+use Rattle.image_files.specs.declared.opening.HeldImage.TheVariants.{Whole}
 use Rattle.image_files.specs.Data.{known_bytes, source_of}
+use Rattle.image_files.specs.Files.{AreBytesOf, IsHeldOf, IsOfFile}
 use Rattle.image_files.specs.Opened.{Opened, AreApart, IsFaithful, WasGathered}
 use Rattle.command_line.specs.declared.options.Line.{Line}
 use Rattle.stack_model.specs.Listing.{Stacked}
 use Rattle.reply_model.specs.Readings.{Sourced, in_memory, sourced}
-use Rattle.strata.specs.Images.{AreDataOf, AreHeldWhole, ArePrepared, HaveSources, IsDataOf, sources_of, trailers_of}
+use Rattle.strata.specs.Images.{AreDataOf, AreHeldFor, AreHeldWhole, ArePrepared, HaveSources, IsDataOf, sources_of, trailers_of}
 
 -- the data of an image that is open, of which these bytes are known
 is_data : {F A : Type 0} (trailers : Trailers) (image : Opened) (file : ImageData F A) → known_bytes file ≡ image.known
@@ -109,11 +111,18 @@ in_their_files line images by left said p =
     as_many (trailers_of line) images by.sources (p.sources.opened left (stays line.in_files line.device said))
 
 -- the next image goes from those that are left to those that are held
-pub one_held : {X Y : Type 0} (v : X → List ℕ) (w : Y → List ℕ) (all : List (List ℕ)) (done : List X) (left rest : List Y) (x : X) (y : Y)
-    → all ≡ map v done ++ map w left → left ≡ y ∷ rest → v x ≡ w y → all ≡ map v (done ++ x ∷ []) ++ map w rest
-one_held v w all done left rest x y e l same =
-    e ∙ ap (λ ys. map v done ++ map w ys) l ∙ sym (append_assoc (map v done) (w y ∷ []) (map w rest))
-    ∙ ap (λ b. (map v done ++ b ∷ []) ++ map w rest) (sym same) ∙ ap (λ xs. xs ++ map w rest) (sym (map-append v done (x ∷ [])))
+pub one_held : {X Y : Type 0} (w : Y → X) (all done : List X) (left rest : List Y) (y : Y) → all ≡ done ++ map w left → left ≡ y ∷ rest
+    → all ≡ (done ++ w y ∷ []) ++ map w rest
+one_held w all done left rest y e l =
+    e ∙ ap (λ ys. done ++ map w ys) l ∙ sym (append_assoc done (w y ∷ []) (map w rest))
+
+-- images that are held whole are held so for any line
+pub whole_ones : {F A : Type 0} (line : Line) (known : F → Option (List ℕ)) (images : List (Vec ℕ A)) (held : List (HeldImage A))
+    → held ≡ map Whole images → All (IsOfFile (λ file. AreBytesOf (known file))) images → AreHeldFor line known held
+whole_ones line known images held e h =
+    let is = IsOfFile (λ file. IsHeldOf (known file) (trailers_of line)) in
+    All-same is held (map Whole images) e (All-map is Whole images (All-weaker (IsOfFile (λ file. AreBytesOf (known file)))
+    (λ bytes. is (Whole bytes)) (λ bytes of. record { file = of.file; read = of.read }) images h))
 
 -- images that are prepared with their files are so with all of these, lent
 pub seen_as : {F A B : Type 0} (line : Line) (images : List (List ℕ)) (stack : Stacked) (files : Vec (ImageData F A) B)

@@ -1,6 +1,6 @@
--- What a line asks for, and what follows from it: its profile (`asks`, `reads`), how its images are judged (`judged`), and
--- with which status its readers end (`ends_alike`).
-use Rattle.std.proofs.Common.{◌≡◌, ◌∙◌, sym, refl, ℕ, ◌↔◌, List, Bool, true, false, true≢false, Some, if◌then◌else◌}
+-- What a line asks for, and what follows from it: its profile (`asks`, `reads`), how its images are judged (`judged`,
+-- `judged_whole`), and with which status its readers end (`ends_alike`).
+use Rattle.std.proofs.Common.{◌≡◌, ◌∙◌, sym, subst, refl, ℕ, ◌↔◌, List, Bool, true, false, true≢false, Some, if◌then◌else◌}
 use Rattle.romfs_format.specs.declared.rule.Profile.{Profile}
 use Rattle.romfs_format.specs.Profiles.{asks_sums, profile_with, reads_attributes}
 use Rattle.romfs_format.specs.Rules.{IsSound}
@@ -8,7 +8,10 @@ use Rattle.romfs_check.specs.declared.refusal.CheckFault.{CheckFault}
 use Rattle.romfs_check.specs.Refusals.{IsRefusal}
 use Rattle.romfs_check.proofs.Gathered.{judged_alike, judged_with_trailer}
 use Rattle.image_files.specs.declared.whole.Trailers.TheVariants.{Read, Left}
+use Rattle.image_files.specs.declared.opening.HeldImage.{HeldImage}
+use Rattle.image_files.specs.declared.opening.HeldImage.TheVariants.{Kept, Whole}
 use Rattle.image_files.specs.Opened.{WasGathered}
+use Rattle.image_files.specs.Opening.{IsHeldWhole, held_bytes}
 use Rattle.command_line.specs.declared.options.Line.{Line}
 use Rattle.serve_core.specs.declared.stop.Stop.{Stop}
 use Rattle.serve_core.specs.declared.stop.Stop.TheVariants as stops
@@ -51,6 +54,13 @@ judged_by sums false bytes image g =
 pub judged : (line : Line) (bytes image : List ℕ) → WasGathered (trailers_of line) (Some bytes) image
     → IsJudged (profile_of line) bytes image
 judged line bytes image g = judged_by line.strict line.attributes bytes image g
+
+-- an image that is held whole is judged as its file is
+pub judged_whole : {A : Type 0} (line : Line) (bytes : List ℕ) (image : HeldImage A) → IsHeldWhole (Some bytes) image
+    → IsJudged (profile_of line) bytes (held_bytes image)
+judged_whole line bytes (Kept kept its) h = absurd h
+judged_whole line bytes (Whole all) h =
+    subst (IsJudged (profile_of line) bytes) (sym h) ((λ x. x, λ x. x), λ fault. (λ x. x, λ x. x))
 
 -- readers end with the status of one alone
 pub ends_alike : (stop : Stop) (input output : Bool)

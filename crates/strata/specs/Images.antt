@@ -1,6 +1,6 @@
 -- The images of a line, as they are held: all bytes of each, or what the rules look at, with zeros
 -- where nothing is held.
-use Rattle.std.specs.Prelude.{◌≡◌, ◌⊎◌, ◌||◌, ℕ, Bool, true, false, List, [], ◌∷◌, Some, ⊤, length, map, vec_len, if◌then◌else◌}
+use Rattle.std.specs.Prelude.{◌≡◌, ◌⊎◌, ◌||◌, ℕ, Bool, true, false, List, [], ◌∷◌, Option, Some, All, ⊤, length, map, vec_len, if◌then◌else◌}
 use Rattle.std.specs.declared.vec.Vec.{Vec}
 use Rattle.romfs_format.specs.declared.rule.Profile.{Profile}
 use Rattle.romfs_format.specs.Profiles.{profile_with}
@@ -8,7 +8,9 @@ use Rattle.image_bytes.specs.Sources.{Source, held, unknown}
 use Rattle.image_files.specs.declared.image_data.ImageData.{ImageData}
 use Rattle.image_files.specs.declared.whole.Trailers.{Trailers}
 use Rattle.image_files.specs.declared.whole.Trailers.TheVariants.{Read, Left}
+use Rattle.image_files.specs.declared.opening.HeldImage.{HeldImage}
 use Rattle.image_files.specs.Data.{source_of}
+use Rattle.image_files.specs.Files.{IsHeldOf, IsOfFile}
 use Rattle.image_files.specs.Opened.{WasGathered}
 use Rattle.stack_prepare.specs.Layers.{contents_of}
 use Rattle.stack_prepare.specs.Preparing.{AreStacked}
@@ -28,6 +30,13 @@ trailers_of line = if line.attributes then Read else Left
 -- as many images as the line names
 abbrev pub NamesAsMany : Line → List (List ℕ) → Type 0
 NamesAsMany line images = length images ≡ vec_len line.images
+
+-- this is held of the images of a line, each of which was read of some file: all its bytes, those
+-- that are known of it; or what the rules look at, with the trailer where the line asks for
+-- attributes
+abbrev pub AreHeldFor : {F A : Type 0} → Line → (F → Option (List ℕ)) → List (HeldImage A) → Type 0
+AreHeldFor line known images =
+    All (IsOfFile (λ file. IsHeldOf (known file) (trailers_of line))) images
 
 -- the bytes that are held of images
 abbrev pub bytes_of : {A : Type 0} → HeldImages A → List (List ℕ)

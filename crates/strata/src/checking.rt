@@ -97,7 +97,7 @@ fn full_size<A: Allocator + Copy>(
     ensures err { IfErr result (IsRefusal profile (held_bytes held)) }
 {
     match held {
-        HeldImage::Kept(kept) => {
+        HeldImage::Kept { image: kept, .. } => {
             let (image, _rows) = check_kept(alloc, kept, profile)?;
             Ok(image.full())
         }

@@ -1,10 +1,9 @@
 //! The images of a line, as they are read: whole, or what the rules look at.
 
-ghost use Rattle.std.specs.Prelude.{◌≡◌, false, true, vec_len, IfOk, IfErr};
-ghost use Rattle.image_files.specs.Opening.{held_contents};
-ghost use Rattle.stack_prepare.specs.Layers.{contents_of};
+ghost use Rattle.std.specs.Prelude.{◌≡◌, false, true, map, vec_len, IfOk, IfErr};
+ghost use Rattle.image_files.specs.declared.opening.HeldImage.TheVariants.{Whole};
 ghost use Rattle.strata.specs.Faults.{AreUnread};
-ghost use Rattle.strata.specs.Images.{NamesAsMany, HaveSources, are_whole, bytes_of, sources_of, stay_in_files, trailers_of};
+ghost use Rattle.strata.specs.Images.{AreHeldFor, NamesAsMany, HaveSources, are_whole, bytes_of, sources_of, stay_in_files, trailers_of};
 
 use crate::faults::Fault;
 use command_line::Line;
@@ -80,6 +79,8 @@ where
     R::File: FileExt + Send,
     R::Dir: Send,
     ensures ok { IfOk result (λ images. vec_len images ≡ vec_len line.now.images) }
+    ensures held { IfOk result (λ images.
+        AreHeldFor line.now R.File.remaining images.items) }
     ensures err { IfErr result (AreUnread (vec_len line.now.images)) }
 {
     let paths = line.images.as_slice();
@@ -95,7 +96,7 @@ fn all_whole<A: Allocator + Copy>(
     alloc: A,
     images: Vec<Vec<u8, A>, A>,
 ) -> Result<Vec<HeldImage<A>, A>, AllocError>
-    ensures { IfOk result (λ held. held_contents held ≡ contents_of images) }
+    ensures { IfOk result (λ held. held.items ≡ map Whole images.items) }
 {
     let mut held = Vec::with_capacity(alloc, images.len())?;
     for bytes in images {

@@ -1,5 +1,6 @@
 use Rattle.std.proofs.Common.{◌≡◌, ◌+◌, ◌++◌, inl, inr, sym, subst, length, vec_len, arith}
 use Rattle.std.proofs.lemmas.List.Elements.{All-append, All-same}
+use Rattle.image_files.specs.Files.{IsOfFile}
 use Rattle.image_files.specs.Unread.{IsReadUpTo}
 use Rattle.image_files.proofs.images.+halves.Goals as goal
 
@@ -24,7 +25,7 @@ returns-clause-count g t c =
 pub returns-clause-read : goal.returns-clause-read
 returns-clause-read g t c =
     let (high, low) = c.join-high.result in
-    let is_read = g.T.OfFile.is_read c.args.trailers in
+    let is_read = IsOfFile (g.T.OfFile.is_read c.args.trailers) in
     let upper = c.join-high.ensures.first.1 in
     let lower = c.join-high.ensures.second.1 in
     let all = c.both.result.images.items in

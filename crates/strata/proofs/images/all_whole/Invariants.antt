@@ -1,7 +1,6 @@
 use Rattle.std.proofs.Common.{◌≡◌, ◌++◌, map}
 use Rattle.std.specs.Vec.Iter.{into_iter_items}
-use Rattle.image_files.specs.Opening.{held_bytes}
-use Rattle.stack_prepare.specs.Layers.{contents_of}
+use Rattle.image_files.specs.declared.opening.HeldImage.TheVariants.{Whole}
 use Rattle.strata.proofs.images.all_whole.Given as goal
 
 -- the images so far are held, and the others are left
@@ -9,6 +8,5 @@ abbrev pub invariant-loop-bytes : goal.invariant-loop-bytes
 invariant-loop-bytes g l = record {
   can_next : (goal.iterator-loop-bytes g).can_next l.bytes-iterator;
   is_finite : (goal.iterator-loop-bytes g).is_finite l.bytes-iterator;
-  done : contents_of l.fn.images
-      ≡ map held_bytes l.held.items ++ map (λ image. image.items) (into_iter_items l.bytes-iterator);
+  done : map Whole l.fn.images.items ≡ l.held.items ++ map Whole (into_iter_items l.bytes-iterator);
 }

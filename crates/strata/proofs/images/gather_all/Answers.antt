@@ -1,12 +1,18 @@
 use Rattle.std.proofs.Common.{◌∙◌, sym, ap, length, arith}
 use Rattle.std.proofs.lemmas.List.{length-map}
-use Rattle.image_files.specs.Opening.{held_bytes}
+use Rattle.image_files.specs.declared.opening.HeldImage.TheVariants.{Whole}
+use Rattle.strata.proofs.Opened.{whole_ones}
 use Rattle.strata.proofs.images.gather_all.Goals as goal
 
 pub returns-then-line-clause-ok : goal.returns-then-line-clause-ok
 returns-then-line-clause-ok g c =
     let held = c.in_ok-all_whole.field-0 in
     let images = c.in_ok-images.images in
-    held.ok.0 ∙ sym (length-map held.items held_bytes) ∙ ap length c.in_ok-all_whole.ensures
-    ∙ length-map images.items (λ image. image.items) ∙ sym images.ok.0
+    held.ok.0 ∙ ap length c.in_ok-all_whole.ensures ∙ length-map images.items Whole ∙ sym images.ok.0
     ∙ omega (arith, c.in_ok-images.ensures.ok, c.as_slice-paths.ensures.len)
+
+pub returns-then-line-clause-held : goal.returns-then-line-clause-held
+returns-then-line-clause-held g c =
+    let held = c.in_ok-all_whole.field-0 in
+    let images = c.in_ok-images.images in
+    whole_ones c.args.line.now _ images.items held.items c.in_ok-all_whole.ensures c.in_ok-images.ensures.bytes
