@@ -1,3 +1,4 @@
+pub mod AtNodes
 pub mod Numbered
 pub mod Lookups
 pub mod Fitting

@@ -1,6 +1,4 @@
-use Rattle.std.proofs.Common.{sym, ◌≤◌, ◌∙◌, length, arith, Some, None}
-use Rattle.std.specs.Prelude.{is_some}
-use Rattle.std.proofs.lemmas.Option.{slice_get_cases}
+use Rattle.std.proofs.Common.{arith}
 use Rattle.table_reader.proofs.Stamps.{nothing_stands, something_stands}
 use Rattle.table_reader.proofs.slim_rows.count_of.Goals as goal
 

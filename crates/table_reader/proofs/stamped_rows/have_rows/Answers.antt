@@ -1,7 +1,5 @@
-use Rattle.std.proofs.Common.{◌∙◌, ◌||◌, sym, ap, not, get_or, length}
-use Rattle.std.specs.Prelude.{nat_eq}
+use Rattle.std.proofs.Common.{◌∙◌, ◌||◌, sym, ap, not, get_or}
 use Rattle.std.proofs.lemmas.List.Folds.{list_any_at, list_any_more}
-use Rattle.romfs_format.specs.declared.attribute_row.AttributeRow.{AttributeRow}
 use Rattle.table_reader.proofs.Stamps.{has_row}
 use Rattle.table_reader.proofs.stamped_rows.have_rows.Goals as goal
 

@@ -1,4 +1,4 @@
-use Rattle.std.proofs.Common.{◌/◌, refl, arith}
+use Rattle.std.proofs.Common.{◌∙◌, ◌/◌, refl, arith}
 use Rattle.romfs_rules.specs.Plain.{WalkState}
 use Rattle.romfs_rules.proofs.PlainChain.{begun, none_hashed, steps, hashed_more, ended}
 use Rattle.successor_graph.proofs.Marks.{marks_fall}
@@ -43,3 +43,24 @@ loop-next-preserved g c =
 pub returns : goal.returns
 returns g c = λ _. ended c.args.volume.now.bytes.now c.args.folder c.args.self.now _
     (rw c.in_default.is at c.loop-next.invariant.chained) c.loop-next.invariant.hashed
+
+pub first_of-next-requires : goal.first_of-next-requires
+first_of-next-requires g c = record { inside = c.requires.inside }
+
+pub is_new-requires-clause-sized : goal.is_new-requires-clause-sized
+is_new-requires-clause-sized g c = c.loop-next.invariant.chained.front.sized ∙ c.requires.sized
+
+pub plain_hash-requires : goal.plain_hash-requires
+plain_hash-requires g c = (c.if-not-is_new.ensures refl).0
+
+pub insert-requires : goal.insert-requires
+insert-requires g c = (c.if-not-is_new.ensures refl).1
+
+pub push_below-requires-clause-inside : goal.push_below-requires-clause-inside
+push_below-requires-clause-inside g c = (c.if-not-is_new.ensures refl).0
+
+pub push_below-requires-clause-names : goal.push_below-requires-clause-names
+push_below-requires-clause-names g c = let depth = c.in-Some-plain_hash.ensures.plain.depth in omega arith
+
+pub next_of-next-requires : goal.next_of-next-requires
+next_of-next-requires g c = record { inside = (c.if-not-is_new.ensures refl).0 }

@@ -1,4 +1,4 @@
-use Rattle.std.proofs.Common.{◌≡◌, ◌+◌, ◌-◌, ◌<◌, ap, sym, subst, List, length, ℕ, arith}
+use Rattle.std.proofs.Common.{◌≡◌, ◌+◌, ◌-◌, ◌<◌, ap, sym, subst, length, arith}
 use Rattle.table_reader.proofs.Joined.{Tells, tells_first, tells_behind}
 use Rattle.table_reader.proofs.layers.Layers.view.Goals as goal
 
