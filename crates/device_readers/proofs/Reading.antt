@@ -4,8 +4,6 @@ use Rattle.std.proofs.Common.{◌≡◌, sym, ap, subst, refl, ℕ, ◌+◌, ◌
 use Rattle.std.specs.List.{AllByRecursion}
 use Rattle.devices.specs.Counting.{no_pulls, no_pushes}
 use Rattle.devices.specs.States.{Devices}
-use Rattle.devices.specs.declared.counts.Pulls.{Pulls}
-use Rattle.devices.specs.declared.counts.Pushes.{Pushes}
 use Rattle.devices.specs.declared.limits.TheConstants.{MAX_TURNS}
 use Rattle.stack_model.specs.Numbers.{nodes}
 use Rattle.reply_model.specs.declared.session.Session.{Session}
@@ -17,7 +15,6 @@ use Rattle.serve_loop.specs.declared.opening.Opening.TheVariants as openings
 use Rattle.serve_loop.specs.Serving.{AreReady, Does, trace}
 use Rattle.serve_loop.proofs.Openings.{nothing_begun}
 use Rattle.serve_loop.proofs.Runs.{no_memory}
-use Rattle.serve_loop.proofs.Traces.{take_none}
 use Rattle.serve_core.specs.declared.stop.Stop.{Stop}
 use Rattle.serve_core.specs.declared.stop.Stop.TheVariants.{Memory}
 use Rattle.serve_loop.specs.declared.stream_fault.StreamFault.TheVariants as faults
@@ -108,7 +105,7 @@ module _ {A : Type 0} (first : Session) (by : Sourced) (turns : ℕ) where
           input = λ no. absurd (cc);
           output = λ no. absurd (cc);
         };
-        not_begun = nothing_begun (answering_from first by) _ (take_none _ [] refl);
+        not_begun = nothing_begun (answering_from first by) [] refl;
         told = one_told r ended end done;
       }
 
