@@ -21,6 +21,7 @@ import shutil
 import subprocess
 import sys
 import tempfile
+import time
 
 from checks import ROOT
 from checks.gate.crates import crates_below, crates_used
@@ -121,8 +122,15 @@ def lines_of(crate):
     return sum(os.path.getsize(path) for path in glob.glob("%s/crates/%s/*/**" % (ROOT, crate), recursive=True))
 
 
-def say(tried, outcomes):
+def timed(tried):
+    """What came of edits, and how many seconds it took."""
+    begun = time.monotonic()
+    return tried.outcomes(), time.monotonic() - begun
+
+
+def say(tried, outcomes, seconds):
     """Tells what came of each edit; how many were refused."""
+    print("%s: %s together, %d s" % (tried.crate, len(outcomes), seconds))
     for name, (found, printed) in outcomes.items():
         print("wrong body %s/%s: %s" % (tried.crate, name, "refused: %s" % found if found else "NOT REFUSED"), flush=True)
         if not found:
@@ -146,9 +154,9 @@ def main(words):
         tries = [it for crate in sorted(crates, key=lines_of, reverse=True) for it in batches(crate, room)]
         refused = 0
         with concurrent.futures.ThreadPoolExecutor(given.jobs) as pool:
-            begun = {pool.submit(it.outcomes): it for it in tries}
+            begun = {pool.submit(timed, it): it for it in tries}
             for done in concurrent.futures.as_completed(begun):
-                refused += say(begun[done], done.result())
+                refused += say(begun[done], *done.result())
     of = sum(len(it.edits) for it in tries)
     print("wrong bodies: %d refused, %d not" % (refused, of - refused))
     return 0 if refused == of else 1

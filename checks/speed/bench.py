@@ -25,7 +25,7 @@ from checks.shared import runs
 from checks.speed import bench_inputs as inputs
 from checks.speed import bench_sockets
 
-RUNS = 3
+RUNS, MANY_RUNS, LONG = 3, 12, 0.4
 # how many times as long a hostile input may take as an honest one, a million requests as copying them, and a LOOKUP in a
 # large directory as a GETATTR in a small one
 MOST, MOST_OF_CAT, MOST_OF_GETATTR = 5, 4, 11
@@ -71,7 +71,12 @@ def feed(packets, pipe):
 
 
 def cost(*words, output=os.devnull, packets=None):
-    return min(run(words, output, packets) for _ in range(RUNS))
+    """The least that some words cost, of a few runs; of many, where they are short: other programs on the machine
+    disturb these most."""
+    runs_of = [run(words, output, packets) for _ in range(RUNS)]
+    while len(runs_of) < MANY_RUNS and sum(it.seconds for it in runs_of) < LONG:
+        runs_of.append(run(words, output, packets))
+    return min(runs_of)
 
 
 def apart(function, *arguments):
