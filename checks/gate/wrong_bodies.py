@@ -2,7 +2,7 @@
 
 The prover must refuse each. `rt ci` tries those of must-fail/ by a check of the whole crate, which is what the crate's
 proof costs. Here only the function is checked that an edit makes wrong: what its proof takes from others is their
-contracts, which stand. That is a sixth of the time, so there can be more of them.
+contracts, which stand. What it calls within the crate is checked with it, so leaves cost least.
 
 Each crate is laid into a scratch folder, with the edits of different functions in it together, and one `rattle check
 --only` of these functions tries them, over what `rt ci` or `make build` has proved of the crates below. An edit counts
