@@ -14,7 +14,7 @@ pub const MAX_SESSIONS: u32 = 65_535;
 pub const MAX_READERS: u32 = 64;
 
 /// What the program is asked to do.
-#[derive(Clone, Copy, Debug, PartialEq, Eq)]
+#[derive(Clone, Copy, PartialEq, Eq)]
 pub enum Verb {
     /// To answer requests over the images.
     Serve,
@@ -28,7 +28,7 @@ pub enum Verb {
 
 /// A command line that was read. An option that the command lacks, or that was left out, is `None`,
 /// or has its default.
-#[derive(Debug, Drop)]
+#[derive(Drop)]
 pub struct Line<'a> {
     pub verb: Verb,
     /// Images are held to the strict profile too.
@@ -69,7 +69,7 @@ pub struct Line<'a> {
 }
 
 /// Why there is no `Line`.
-#[derive(Debug, Drop)]
+#[derive(Drop)]
 pub enum NoLine {
     /// The words ask for the version of the program.
     Version,
@@ -78,7 +78,7 @@ pub enum NoLine {
 }
 
 /// What is wrong with the words.
-#[derive(Debug, Drop)]
+#[derive(Drop)]
 pub enum LineFault {
     /// The words say no command of the program, give a number that is none or is out of its range,
     /// or ask for help. The text is for the user.

@@ -8,7 +8,7 @@ use serve_core::{Done, Stop};
 use std::alloc::{AllocError, Allocator};
 
 /// How a reader ended, or several together.
-#[derive(Clone, Copy, Debug, PartialEq, Eq)]
+#[derive(Clone, Copy, PartialEq, Eq)]
 pub enum End {
     /// Its stream came to its end.
     AtEnd,

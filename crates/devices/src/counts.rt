@@ -8,7 +8,7 @@ use crate::failed::Failed;
 use std::io::Write;
 
 /// What a pull was.
-#[derive(Debug, Clone, Copy, PartialEq, Eq)]
+#[derive(Clone, Copy)]
 pub enum LastPull {
     /// It gave so many bytes, at least one.
     Bytes(u64),
@@ -19,7 +19,7 @@ pub enum LastPull {
 }
 
 /// The counts of a source.
-#[derive(Debug, Clone, Copy, PartialEq, Eq)]
+#[derive(Clone, Copy)]
 pub struct Pulls {
     /// How often it was pulled.
     pub pulls: u64,
@@ -32,7 +32,7 @@ pub struct Pulls {
 }
 
 /// The counts of a sink.
-#[derive(Debug, Clone, Copy, PartialEq, Eq)]
+#[derive(Clone, Copy)]
 pub struct Pushes {
     /// How often it was flushed.
     pub flushes: u64,
@@ -43,7 +43,7 @@ pub struct Pushes {
 }
 
 /// The counts of what gives clients.
-#[derive(Debug, Clone, Copy, PartialEq, Eq)]
+#[derive(Clone, Copy)]
 pub struct Accepts {
     /// How many clients it gave.
     pub clients: u64,

@@ -15,7 +15,7 @@ const FORGET_ONE_SIZE: usize = 16;
 const NLOOKUP: usize = 8;
 
 /// A node, and how many lookups of it are forgotten (linux/fuse.h, `struct fuse_forget_one`).
-#[derive(Clone, Copy, Debug, PartialEq, Eq)]
+#[derive(Clone, Copy)]
 pub struct Forget {
     /// The node's number.
     pub node: u64,
@@ -40,7 +40,7 @@ impl Forget {
 
 /// The items of a message, in their order: whole ones alone, borrowed from it, and at most
 /// [`MAX_FORGETS`](crate::limits::MAX_FORGETS).
-#[derive(Clone, Copy, Debug, PartialEq, Eq)]
+#[derive(Clone, Copy)]
 pub struct Forgets<'a> {
     bytes: &'a [u8],
     ghost whole: { length bytes.now % 16 ≡ 0 },

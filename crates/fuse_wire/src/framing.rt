@@ -9,7 +9,7 @@ use byteorder::{ByteOrder, LittleEndian};
 const LEN_SIZE: usize = 4;
 
 /// What some bytes begin with.
-#[derive(Clone, Copy, Debug, PartialEq, Eq)]
+#[derive(Clone, Copy, PartialEq, Eq)]
 pub enum Framed {
     /// No message yet: none has begun, or bytes of it are still to come.
     More,

@@ -1,7 +1,7 @@
 //! What replies say.
 
 /// A row of a directory (linux/fuse.h, `struct fuse_dirent`).
-#[derive(Clone, Copy, Debug)]
+#[derive(Clone, Copy)]
 pub struct Dirent<'a> {
     /// The node's number.
     pub ino: u64,
@@ -14,7 +14,7 @@ pub struct Dirent<'a> {
 }
 
 /// What an INIT that is not refused is answered (linux/fuse.h, `struct fuse_init_out`).
-#[derive(Clone, Copy, Debug, PartialEq, Eq)]
+#[derive(Clone, Copy)]
 pub enum InitOut {
     /// The version alone, for a client of a later major version.
     Version,

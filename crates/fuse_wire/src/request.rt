@@ -21,7 +21,7 @@ const UNIQUE: usize = 8;
 const NODEID: usize = 16;
 
 /// A message as it was read (linux/fuse.h, `struct fuse_in_header` and the structure after it).
-#[derive(Clone, Copy, Debug, PartialEq, Eq)]
+#[derive(Clone, Copy)]
 pub struct Request<'a> {
     /// The number that the reply repeats.
     pub unique: u64,
@@ -32,7 +32,7 @@ pub struct Request<'a> {
 }
 
 /// What is asked, with the fields that answers use.
-#[derive(Clone, Copy, Debug, PartialEq, Eq)]
+#[derive(Clone, Copy)]
 pub enum Op<'a> {
     /// The first request of a session (`FUSE_INIT`).
     Init {

@@ -24,8 +24,8 @@ const MANY: usize = 32;
 #[derive(Clone, Copy)]
 pub(crate) struct Numbers<'a> {
     pub(crate) all: &'a [u32],
-    /// By stretch, how many numbers stand before it; then how many there are; then the same by part,
-    /// of stretches that have many numbers.
+    /// By stretch, how many numbers stand before it; then how many there are; then the same by
+    /// part, of stretches that have many numbers.
     starts: &'a [u32],
     /// Where that of the parts begins.
     parts: usize,
@@ -192,7 +192,8 @@ fn note_starts<A: Allocator>(
     Ok(())
 }
 
-// Notes where parts begin, of each stretch that has many numbers, behind what is noted of stretches.
+// Notes where parts begin, of each stretch that has many numbers, behind what is noted of
+// stretches.
 fn note_parts<A: Allocator>(
     starts: &mut Vec<u32, A>,
     numbers: &[u32],

@@ -31,7 +31,7 @@ impl From<AllocError> for ReadFault {
 }
 
 /// Whether attribute trailers are read, which stand behind the images.
-#[derive(Clone, Copy, Debug, PartialEq, Eq)]
+#[derive(Clone, Copy)]
 pub enum Trailers {
     Read,
     Left,

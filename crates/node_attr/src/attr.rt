@@ -1,7 +1,7 @@
 //! The attributes of a node.
 
 /// The attributes of a node, as stat(2) and linux/fuse.h (`struct fuse_attr`) have them.
-#[derive(Clone, Copy, Debug, PartialEq, Eq)]
+#[derive(Clone, Copy)]
 pub struct Attr {
     /// The node's number.
     pub ino: u64,

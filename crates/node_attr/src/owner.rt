@@ -1,7 +1,7 @@
 //! Whom a node belongs to.
 
 /// A user and a group, by their numbers, as stat(2) has them. Every number is one, 2^32 - 1 too.
-#[derive(Clone, Copy, Debug, PartialEq, Eq)]
+#[derive(Clone, Copy)]
 pub struct Owner {
     /// The user's number.
     pub uid: u32,

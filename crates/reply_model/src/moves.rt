@@ -1,7 +1,7 @@
 //! Lookups, which a client holds until it forgets them.
 
 /// What a request does to the number of lookups of a node that the client holds.
-#[derive(Clone, Copy, Debug, PartialEq, Eq)]
+#[derive(Clone, Copy, PartialEq, Eq)]
 pub struct Move {
     /// The node's number.
     pub node: u64,

@@ -3,7 +3,7 @@
 /// Whether a stream has agreed on its protocol version, and on what beside. A stream begins
 /// `Fresh`; one that is served lastingly begins `LastingFresh`, and its client is told that the
 /// tree never changes, so that it asks for each thing once.
-#[derive(Clone, Copy, Debug, PartialEq, Eq)]
+#[derive(Clone, Copy, PartialEq, Eq)]
 pub enum Session {
     /// No INIT was accepted yet, or DESTROY came since.
     Fresh,
@@ -26,7 +26,7 @@ pub enum Session {
 }
 
 /// What a client and the server have agreed on in a session.
-#[derive(Clone, Copy, Debug, PartialEq, Eq)]
+#[derive(Clone, Copy, PartialEq, Eq)]
 pub struct Agreement {
     /// Whether the stream is served lastingly.
     pub lasting: bool,

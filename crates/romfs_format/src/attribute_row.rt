@@ -1,7 +1,7 @@
 //! What an image says of a file beside its header.
 
 /// A row of an attribute trailer: owner, mode and time of the file whose header stands at a place.
-#[derive(Clone, Copy, Debug, PartialEq, Eq)]
+#[derive(Clone, Copy)]
 pub struct AttributeRow {
     /// Where the header stands, from the image's first byte on.
     pub place: u32,

@@ -1,7 +1,7 @@
 //! File headers.
 
 /// What a file header stands for (romfs.rst: the low three bits of its first word).
-#[derive(Clone, Copy, Debug, PartialEq, Eq)]
+#[derive(Clone, Copy, PartialEq, Eq)]
 pub enum Kind {
     HardLink,
     Directory,
@@ -14,7 +14,7 @@ pub enum Kind {
 }
 
 /// A file header of an image. Offsets and sizes are in bytes.
-#[derive(Clone, Copy, Debug, PartialEq, Eq)]
+#[derive(Clone, Copy, PartialEq, Eq)]
 pub struct Head {
     /// Where the header stands, from the image's first byte on.
     pub offset: u32,
@@ -35,7 +35,7 @@ pub struct Head {
 }
 
 /// Where a chain of hard links ends.
-#[derive(Clone, Copy, Debug, PartialEq, Eq)]
+#[derive(Clone, Copy, PartialEq, Eq)]
 pub enum End {
     /// At a directory.
     AtDirectory,

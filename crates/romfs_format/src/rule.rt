@@ -56,7 +56,7 @@ pub enum Rule {
 /// Which rules an image has to keep, and whether its attribute trailer is read: the strict profiles
 /// ask for [`Rule::HeaderSum`], those with attributes for [`Rule::Attributes`], and all for all
 /// other rules.
-#[derive(Clone, Copy, Debug, PartialEq, Eq)]
+#[derive(Clone, Copy, PartialEq, Eq)]
 pub enum Profile {
     /// Header sums are not looked at, as Linux does.
     Usual,

@@ -10,7 +10,7 @@ use reply_model::Session;
 use std::alloc::{AllocError, Allocator};
 
 /// How far a round went.
-#[derive(Clone, Copy, Debug, PartialEq, Eq)]
+#[derive(Clone, Copy)]
 pub struct RoundEnd {
     /// How many bytes its messages have.
     pub used: usize,

@@ -23,7 +23,7 @@ use std::{fmt, io};
 const LINE: usize = 4096;
 
 /// Why the program stopped. Its `Display` is the line for standard error.
-#[derive(Debug, Drop)]
+#[derive(Drop)]
 pub enum Fault {
     /// The words say no command of the program, or ask for help.
     Usage { text: String },

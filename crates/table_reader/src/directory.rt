@@ -8,7 +8,7 @@ use std::marker::Model;
 
 /// What a table holds of a directory: the number of the one above, where its rows stand among all
 /// rows, and how many bytes their names share at the front.
-#[derive(Clone, Copy, Debug)]
+#[derive(Clone, Copy)]
 pub struct Directory {
     pub parent: u64,
     pub rows_start: usize,

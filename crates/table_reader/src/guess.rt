@@ -2,7 +2,7 @@
 
 /// Where the row of a directory's child may stand among all rows, as whoever reads ahead found it.
 /// No answer follows from a guess: it saves steps where it is right.
-#[derive(Clone, Copy, Debug)]
+#[derive(Clone, Copy)]
 pub enum Guess {
     /// Nothing is known.
     Unknown,

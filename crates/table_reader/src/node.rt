@@ -4,7 +4,7 @@ use romfs_reader::{Kind, Part};
 use whiteout_tree::Place;
 
 /// A node: what stands at one place of the stack, under however many paths.
-#[derive(Clone, Copy, Debug)]
+#[derive(Clone, Copy)]
 pub struct Node {
     /// Its kind, which is never a hard link.
     pub kind: Kind,
@@ -25,7 +25,7 @@ pub struct Node {
 /// The attributes of a node but for its number and its `Stamp`, in 16 bytes: four nodes' lie in a
 /// line of the processor's cache, where requests for attributes in any order find more of them than
 /// of nodes. The mode is the row's, where there is one.
-#[derive(Clone, Copy, Debug)]
+#[derive(Clone, Copy)]
 pub(crate) struct Brief {
     pub(crate) size: u32,
     pub(crate) nlink: u32,

@@ -12,7 +12,7 @@ use std::marker::Model;
 const HALF: u64 = 0x1_0000_0000;
 
 /// Whose a node is, and when it was changed last.
-#[derive(Clone, Copy, Debug)]
+#[derive(Clone, Copy)]
 pub(crate) struct Stamp {
     pub(crate) seconds: u64,
     pub(crate) nanoseconds: u32,

@@ -1,7 +1,7 @@
 //! What workers pass as they begin a piece of work.
 
 /// A kind of work.
-#[derive(Clone, Copy, Debug, PartialEq, Eq)]
+#[derive(Clone, Copy)]
 pub enum Work {
     /// A layer is checked.
     Check,
@@ -18,7 +18,7 @@ pub trait Gate {
 }
 
 /// Holds nothing.
-#[derive(Clone, Copy, Debug, PartialEq, Eq, Drop)]
+#[derive(Clone, Copy, Drop)]
 pub struct FreePass;
 
 impl Gate for FreePass {
