@@ -32,13 +32,22 @@ pub fn unfit_input<R: Files>(
     if !is_terminal && !words.iter().any(|word| word.as_str() == "--device") {
         return None;
     }
-    let text = match line(alloc, words) {
-        Ok(line) => unfit_for(rt, &line, is_terminal)?,
-        Err(_) => return None,
-    };
+    let text = unfit_text(rt, alloc, words, is_terminal)?;
     match String::from_str(alloc, text) {
         Ok(text) => Some(Fault::Usage { text }),
         Err(refused) => Some(Fault::from(refused)),
+    }
+}
+
+fn unfit_text<R: Files>(
+    rt: &R,
+    alloc: Global,
+    words: &[String],
+    is_terminal: bool,
+) -> Option<&'static str> {
+    match line(alloc, words) {
+        Ok(line) => unfit_for(rt, &line, is_terminal),
+        Err(_) => None,
     }
 }
 
