@@ -59,46 +59,6 @@ fn listener<R: Files + Net>(rt: &R) -> io::Result<UnixListener> {
 }
 
 #[test]
-fn a_client_is_served(rt: HostRuntime) -> Result<(), Fail> {
-    let global = rt.alloc();
-    let listener = listener(&rt)?;
-    let client = client(&rt, global, &listener, 652).ok_or("a client")?;
-    let are_served = are_served(&rt, global, global, global, &listener, 1, (0, b""));
-    assert!(rt; are_served == Some(true) && read_of(global, client) == Some(1531));
-    Ok(())
-}
-
-#[test]
-fn the_first_fault_is_told_and_the_next_client_served(rt: HostRuntime) -> Result<(), Fail> {
-    let global = rt.alloc();
-    let listener = listener(&rt)?;
-    let first = client(&rt, global, &listener, 120).ok_or("the first")?;
-    let second = client(&rt, global, &listener, 652).ok_or("the second")?;
-    let told = (4, b"session 1: request at 100: cut off\n".as_slice());
-    let are_served = are_served(&rt, global, global, global, &listener, 2, told);
-    let read = (read_of(global, first), read_of(global, second));
-    assert!(rt; are_served == Some(true) && read == (Some(224), Some(1531)));
-    Ok(())
-}
-
-#[test]
-fn clients_that_are_gone_end_their_sessions(rt: HostRuntime) -> Result<(), Fail> {
-    let global = rt.alloc();
-    let listener = listener(&rt)?;
-    let deaf = client(&rt, global, &listener, 652).ok_or("the first")?;
-    deaf.shutdown(Shutdown::Read)?;
-    drop(client(&rt, global, &listener, 652));
-    drop(client(&rt, global, &listener, 120));
-    let last = client(&rt, global, &listener, 652).ok_or("the last")?;
-    let lines = b"session 1: write fault\nsession 2: write fault\nsession 3: write fault\n";
-    let told = (1, lines.as_slice());
-    let are_served = are_served(&rt, global, global, global, &listener, 4, told);
-    drop(deaf);
-    assert!(rt; are_served == Some(true) && read_of(global, last) == Some(1531));
-    Ok(())
-}
-
-#[test]
 fn no_session_follows_where_no_client_is_accepted(rt: HostRuntime) -> Result<(), Fail> {
     let global = rt.alloc();
     let listener = listener(&rt)?;

@@ -11,12 +11,13 @@ use test_kit::memories::{Memories, refuse_in_turn};
 use test_kit::messages::{REPLIES, REQUESTS};
 
 /// Whether the program over two requests tells that memory was refused, with some of the first
-/// bytes of its output written; or else wrote all of it.
+/// bytes of its output written; or else wrote all of it. Where these are not given, it writes
+/// nothing when memory was refused.
 fn is_told<R: Files + Net + Threads + Sync>(
     rt: &R,
     memories: &Memories,
     words: &[&str],
-    whole: &[u8],
+    whole: Option<&[u8]>,
 ) -> bool
 where
     R::File: FileExt + Send + Sync,
@@ -27,28 +28,9 @@ where
     let (requests, line) = (REQUESTS.as_slice(), b"out of memory\n");
     let status = status_of(rt, global, refusing, words, requests, &mut output, line);
     if refusing.refused() {
-        status == Some(5) && whole.starts_with(&output)
+        status == Some(5) && whole.unwrap_or(&[]).starts_with(&output)
     } else {
-        status == Some(0) && output.as_slice() == whole
-    }
-}
-
-/// Whether the program that is asked for its version tells that memory was refused, and writes
-/// nothing else.
-fn version_is_told<R: Files + Net + Threads + Sync>(rt: &R, memories: &Memories) -> bool
-where
-    R::File: FileExt + Send + Sync,
-    R::Dir: Send,
-{
-    let (global, refusing) = (memories.global, &memories.refusing);
-    let mut output = Vec::new(global);
-    let (requests, line) = (REQUESTS.as_slice(), b"out of memory\n");
-    let words = ["--version"];
-    let status = status_of(rt, global, refusing, &words, requests, &mut output, line);
-    if refusing.refused() {
-        status == Some(5) && output.is_empty()
-    } else {
-        status == Some(0)
+        status == Some(0) && whole.is_none_or(|whole| output.as_slice() == whole)
     }
 }
 
@@ -57,7 +39,7 @@ fn told_refusals<R: Files + Net + Threads + Sync>(
     rt: &R,
     global: Global,
     words: &[&str],
-    whole: &[u8],
+    whole: Option<&[u8]>,
 ) -> Result<u64, u64>
 where
     R::File: FileExt + Send + Sync,
@@ -72,8 +54,8 @@ fn refused_memory_is_told_of_lines(rt: HostRuntime) -> Result<(), Fail> {
     let path = image.as_str();
     let sizes = b"layer 0: 96 bytes\nlayer 1: 96 bytes\n";
     let paths = b"1 040755 2 0 1 /\n";
-    let checking = told_refusals(&rt, rt.alloc(), &["check", path, path], sizes);
-    let listing = told_refusals(&rt, rt.alloc(), &["list", path, path], paths);
+    let checking = told_refusals(&rt, rt.alloc(), &["check", path, path], Some(sizes));
+    let listing = told_refusals(&rt, rt.alloc(), &["list", path, path], Some(paths));
     fs::remove_file(&rt, path)?;
     drop(image);
     assert!(rt;
@@ -85,7 +67,7 @@ fn refused_memory_is_told_of_lines(rt: HostRuntime) -> Result<(), Fail> {
 
 #[test]
 fn refused_memory_is_told_of_the_version(rt: HostRuntime) -> Result<(), Fail> {
-    let told = refuse_in_turn(rt.alloc(), |memories| version_is_told(&rt, memories));
+    let told = told_refusals(&rt, rt.alloc(), &["--version"], None);
     assert!(rt; matches!(told, Ok(1..)), "{told:?}");
     Ok(())
 }
@@ -95,7 +77,7 @@ fn refused_memory_is_told_of_a_stream(rt: HostRuntime) -> Result<(), Fail> {
     let image = image_file(&rt, "stream")?;
     let balances = file_path(&rt, "stream", "balances")?;
     let words = ["serve", "--balances", balances.as_str(), image.as_str()];
-    let requests = told_refusals(&rt, rt.alloc(), &words, &REPLIES);
+    let requests = told_refusals(&rt, rt.alloc(), &words, Some(&REPLIES));
     let lines = fs::read(&rt, balances.as_str())?;
     let are_told = lines.as_slice() == b"1 0\n".as_slice();
     drop(lines);

@@ -123,24 +123,24 @@ where
     (status == Some(0) && replies.is_some()).then_some(memory.requests())
 }
 
-/// What three plans ask for over 120 pages of the directory of the image at a path: one worker, two
-/// with the largest batches, and two with the smallest; by `serve`, and at a socket.
+/// What three plans ask for over a stream for the image at a path: one worker, two with the largest
+/// batches, and two with the smallest; by `serve`, and at a socket.
 fn requests_of_plans<R: Files + Net<Listener = TcpListener, Stream = TcpStream> + Threads + Sync>(
     rt: &R,
     global: Global,
     path: &str,
     socket: &str,
-) -> Result<[[u64; 3]; 2], Fail>
+    stream: &[u8],
+) -> [[u64; 3]; 2]
 where
     R::File: FileExt + Send + Sync,
     R::Dir: Send,
 {
-    let stream = stream(global, Long::Readdir, 120)?;
     let plans = [("1", "1"), ("2", "256"), ("2", "1")];
-    Ok([
-        plans.map(|plan| requests_by(rt, global, path, &stream, plan).unwrap_or(0)),
-        plans.map(|plan| requests_at(rt, global, path, socket, &stream, plan).unwrap_or(0)),
-    ])
+    [
+        plans.map(|plan| requests_by(rt, global, path, stream, plan).unwrap_or(0)),
+        plans.map(|plan| requests_at(rt, global, path, socket, stream, plan).unwrap_or(0)),
+    ]
 }
 
 /// Whether one worker asks for less memory than two, and these for less in batches of 256 than in
@@ -155,12 +155,15 @@ fn have_their_plans(requests: [u64; 3]) -> bool {
 /// to chance, and moves these numbers by some ten.
 #[test]
 fn a_line_has_its_plan(rt: HostRuntime) -> Result<(), Fail> {
+    let stream = stream(rt.alloc(), Long::Readdir, 120)?;
     let path = written(&rt, "plans", &image(rt.alloc())?)?;
     let socket = file_path(&rt, "plans", "socket")?;
-    let [served, at_socket] = requests_of_plans(&rt, rt.alloc(), path.as_str(), socket.as_str())?;
+    let (image, global) = (path.as_str(), rt.alloc());
+    let [served, at_socket] = requests_of_plans(&rt, global, image, socket.as_str(), &stream);
+    drop(stream);
+    drop(socket);
     fs::remove_file(&rt, path.as_str())?;
     drop(path);
-    drop(socket);
     assert!(rt;
         have_their_plans(served) && have_their_plans(at_socket),
         "{served:?} {at_socket:?}"
