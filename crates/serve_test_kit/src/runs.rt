@@ -21,7 +21,7 @@ use test_kit::script::{bad_stream, forgets, long_replies, long_stream, script};
 /// More pulls than any of the streams has.
 pub const TURNS: u32 = 1 << 20;
 
-#[derive(Clone, Copy, Debug)]
+#[derive(Clone, Copy)]
 pub enum Stream {
     Script,
     /// The script, and then a WRITE for which the room for requests has to grow.
@@ -35,7 +35,7 @@ pub enum Stream {
 }
 
 /// How a stream comes, and how its replies are taken.
-#[derive(Clone, Copy, Debug)]
+#[derive(Clone, Copy)]
 pub struct Run {
     pub stream: Stream,
     /// How many first bytes of it are given, in pieces of so many, and whether the read after them
@@ -132,7 +132,7 @@ impl<A: Allocator> Finished<A> {
 }
 
 /// What is seen of a run.
-#[derive(Clone, Copy, Debug, PartialEq, Eq)]
+#[derive(Clone, Copy, PartialEq, Eq)]
 pub struct Seen {
     pub end: End,
     /// How many bytes were put, where they are the first of the replies.

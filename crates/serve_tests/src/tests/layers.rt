@@ -11,7 +11,7 @@ use std::thread::Threads;
 use test_kit::sample_images::{alone, empty, samples};
 
 /// The layers of a row.
-#[derive(Clone, Copy, Debug)]
+#[derive(Clone, Copy)]
 enum Layers {
     None,
     BadSumOverEmpty,
@@ -104,7 +104,7 @@ fn refused_images_touch_no_device(rt: HostRuntime) {
         (Layers::Sample, Profile::Strict, SERVED),
     ] {
         let seen = served(&rt, rt.alloc(), layers, profile);
-        assert!(rt; seen == Some(Seen::of(wanted)), "{layers:?}: {seen:?}");
+        assert!(rt; seen == Some(Seen::of(wanted)));
     }
 }
 

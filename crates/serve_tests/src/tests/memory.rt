@@ -144,16 +144,21 @@ fn requests_of<R: Threads + Sync>(rt: &R, global: Global, call: Call) -> Result<
     refuse_in_turn(global, |memories| is_told(rt, memories, call))
 }
 
+/// A run asks for its balances, its replies and the buffer, and for the buffer's growth.
 #[test]
 fn preparing_and_runs_are_refused(rt: HostRuntime) {
-    let preparing = requests_of(&rt, rt.alloc(), Call::Prepare);
-    assert!(rt; matches!(preparing, Ok(31..)), "{preparing:?}");
-    for broken in [0, 1] {
-        let preparing = requests_of(&rt, rt.alloc(), Call::PrepareBroken(broken));
-        assert!(rt; matches!(preparing, Ok(6..)), "{broken}: {preparing:?}");
+    for (call, least, most) in [
+        (Call::Prepare, 31, u64::MAX),
+        (Call::PrepareBroken(0), 6, u64::MAX),
+        (Call::PrepareBroken(1), 6, u64::MAX),
+        (Call::Run, 4, 4),
+    ] {
+        let requests = requests_of(&rt, rt.alloc(), call);
+        assert!(rt;
+            requests.is_ok_and(|it| (least..=most).contains(&it)),
+            "{requests:?}"
+        );
     }
-    // Balances, replies, the buffer, and its growth.
-    assert_eq!(rt; requests_of(&rt, rt.alloc(), Call::Run), Ok(4));
 }
 
 #[test]

@@ -2,12 +2,21 @@
 //! without a reply.
 
 use serve_core::{Profile, Stop};
-use serve_test_kit::runs::{Outcome, Run, Seen, Stream, TURNS, WHOLE, run_of, serve_of};
+use serve_test_kit::runs::{End, Outcome, Run, Seen, Stream, TURNS, WHOLE, run_of, serve_of};
+use std::alloc::Global;
 use std::test::Fail;
+use std::thread::Threads;
 use test_kit::sample_images::samples;
 
+/// Whether a run comes to this end, in so many reads and so many bytes of the replies.
+fn comes_to<R: Threads + Sync>(rt: &R, global: Global, row: Run, reads: u64, end: End) -> bool {
+    let put = end.map_or(0, |(_, put)| put as usize);
+    let seen = run_of(rt, global, global, global, row, None);
+    seen.is_some_and(|seen| seen.end == end && seen.reads == reads && seen.put == Some(put))
+}
+
 #[test]
-fn every_way_gives_the_same_bytes(rt: HostRuntime) -> Result<(), Fail> {
+fn every_way_gives_the_same_bytes(rt: HostRuntime) {
     for plan in [(1, 1), (2, 1), (5, 1), (1, 3), (2, 3), (5, 3)] {
         for (piece, reads) in [(1, 653), (7, 95), (652, 2)] {
             let row = Run {
@@ -15,12 +24,10 @@ fn every_way_gives_the_same_bytes(rt: HostRuntime) -> Result<(), Fail> {
                 plan,
                 ..WHOLE
             };
-            let seen = run_of(&rt, rt.alloc(), rt.alloc(), rt.alloc(), row, None).ok_or("a run")?;
-            assert!(rt; seen.end == Ok((12, 1531)) && seen.put == Some(1531));
-            assert!(rt; seen.reads == reads, "pieces of {piece}");
+            let is_same = comes_to(&rt, rt.alloc(), row, reads, Ok((12, 1531)));
+            assert!(rt; is_same, "pieces of {piece}");
         }
     }
-    Ok(())
 }
 
 /// No reply to the script differs where it is served lastingly.
@@ -104,7 +111,10 @@ fn sources_end_and_fail(rt: HostRuntime) {
             ..WHOLE
         };
         let seen = run_of(&rt, rt.alloc(), rt.alloc(), rt.alloc(), row, None);
-        assert!(rt; seen == Some(Seen::of(wanted)), "{row:?} came to {seen:?}");
+        assert!(rt;
+            seen == Some(Seen::of(wanted)),
+            "{given} in pieces of {piece}"
+        );
     }
 }
 
@@ -120,30 +130,33 @@ fn sinks_fail(rt: HostRuntime) {
             ..WHOLE
         };
         let seen = run_of(&rt, rt.alloc(), rt.alloc(), rt.alloc(), row, None);
-        assert!(rt; seen == Some(Seen::of(wanted)), "{row:?} came to {seen:?}");
+        assert!(rt;
+            seen == Some(Seen::of(wanted)),
+            "room for {room}, {most} at once"
+        );
     }
 }
 
 /// Streams that are read in pulls of at most 65,536 bytes, and answered in rounds of at most 256
 /// messages, each with one write and one flush if it has a reply.
 #[test]
-fn pulls_and_rounds_are_not_larger(rt: HostRuntime) -> Result<(), Fail> {
-    for (stream, end, reads, writes) in [
+fn pulls_and_rounds_are_not_larger(rt: HostRuntime) {
+    for (stream, messages, reads, writes) in [
         // 16 pulls of 65,536 bytes, one of 32, and the end.
-        (Stream::Forgets, Ok((21_846, 0)), 18, 0),
+        (Stream::Forgets, 21_846, 18, 0),
         // Rounds of 256, 256 and 1; a pull of 28,728 bytes, and the end.
-        (Stream::Many, Ok((513, 61_520)), 2, 6),
+        (Stream::Many, 513, 2, 6),
     ] {
         let row = Run {
             stream,
             plan: (1, 256),
             ..WHOLE
         };
-        let seen = run_of(&rt, rt.alloc(), rt.alloc(), rt.alloc(), row, None).ok_or("a run")?;
-        assert!(rt;
-            seen.end == end && seen.reads == reads && seen.writes == writes,
-            "{seen:?}"
-        );
+        let seen = run_of(&rt, rt.alloc(), rt.alloc(), rt.alloc(), row, None);
+        let is_so = seen.is_some_and(|seen| {
+            let put = if writes == 0 { 0 } else { 61_520 };
+            seen.end == Ok((messages, put)) && seen.reads == reads && seen.writes == writes
+        });
+        assert!(rt; is_so, "{messages} messages");
     }
-    Ok(())
 }
