@@ -19,10 +19,8 @@ fn two_hands_share_three_numbers(rt: HostRuntime) -> Result<(), Fail> {
     let misses = [board.draw(&mut a), board.draw(&mut b), board.draw(&mut b)];
     board.rejoin(&mut a, b);
     let draws = board.close(a);
-    assert!(rt; are_few && draws == 5);
-    assert_eq!(rt; numbers, [Some(0), Some(1), Some(2)]);
-    assert_eq!(rt; misses, [None, None, None]);
-    assert_eq!(rt; memory.requests(), requests);
+    assert!(rt; are_few && draws == 5 && memory.requests() == requests);
+    assert!(rt; numbers == [Some(0), Some(1), Some(2)] && misses == [None; 3]);
     Ok(())
 }
 
@@ -31,8 +29,7 @@ fn a_board_of_no_numbers(rt: HostRuntime) -> Result<(), Fail> {
     let (board, mut hand) = Board::start(rt.alloc(), 0, 1)?;
     let draws = [board.draw(&mut hand), board.draw(&mut hand)];
     let drawn = board.close(hand);
-    assert_eq!(rt; draws, [None, None]);
-    assert_eq!(rt; drawn, 1);
+    assert!(rt; draws == [None; 2] && drawn == 1);
     Ok(())
 }
 

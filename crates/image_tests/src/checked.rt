@@ -7,7 +7,7 @@
 use image_bytes::InMemory;
 use kept_image::gather;
 use romfs_check::{CheckFault, ImageFault, Profile, Rule, check_kept};
-use romfs_reader::{KeptImage, Part};
+use romfs_reader::{ImageView, KeptImage, Part};
 use std::alloc::Allocator;
 
 /// The image (romfs.rst), with the sum that makes its words sum to 0, and the size of the target.
@@ -45,8 +45,10 @@ struct Seen {
 }
 
 fn look_at<A: Allocator + Copy>(alloc: A, bytes: &[u8]) -> Result<Seen, CheckFault> {
-    let kept_image = kept(alloc, bytes)?;
-    let image = kept_image.view();
+    Ok(seen_of(kept(alloc, bytes)?.view()))
+}
+
+fn seen_of(image: ImageView<'_>) -> Seen {
     let mut seen = Seen {
         full: image.full(),
         count: 0,
@@ -60,7 +62,7 @@ fn look_at<A: Allocator + Copy>(alloc: A, bytes: &[u8]) -> Result<Seen, CheckFau
         }
         seen.last = image.data_part(&image.target(&head));
     }
-    Ok(seen)
+    seen
 }
 
 #[test]

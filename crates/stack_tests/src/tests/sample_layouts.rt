@@ -2,7 +2,6 @@
 
 use romfs_image::sample::{BuildFault, build};
 use std::alloc::{AllocError, Global};
-use std::test::Fail;
 use test_kit::bytes::{bytes_of, put_words};
 use test_kit::sample_images::{empty, image, mixed, sample};
 
@@ -58,13 +57,20 @@ fn sample_bytes(alloc: Global) -> Result<Vec<u8>, AllocError> {
     Ok(image)
 }
 
+/// Whether an image was laid out as these bytes.
+fn is_laid_out(image: Result<Vec<u8>, BuildFault>, bytes: Result<Vec<u8>, AllocError>) -> bool {
+    match (image, bytes) {
+        (Ok(image), Ok(bytes)) => image == bytes,
+        _ => false,
+    }
+}
+
 #[test]
-fn lays_out_three_images(rt: HostRuntime) -> Result<(), Fail> {
+fn lays_out_three_images(rt: HostRuntime) {
     let alloc = rt.alloc();
-    assert!(rt; build(alloc, b"v", &[])? == empty(alloc)?);
-    assert!(rt; sample(alloc)? == sample_bytes(alloc)?);
-    assert!(rt; mixed(alloc)? == bytes_of(alloc, &MIXED)?);
-    Ok(())
+    assert!(rt; is_laid_out(build(alloc, b"v", &[]), empty(alloc)));
+    assert!(rt; is_laid_out(sample(alloc), sample_bytes(alloc)));
+    assert!(rt; is_laid_out(mixed(alloc), bytes_of(alloc, &MIXED)));
 }
 
 /// Names of a volume, each with the words of a listing.
@@ -80,13 +86,16 @@ static BAD: [(&str, &str); 9] = [
     ("v", "1/d 20/ 1|\0"),
 ];
 
+/// The size of the image of a listing.
+fn size_of(alloc: Global, volume: &str, words: &str) -> Result<usize, BuildFault> {
+    Ok(image(alloc, volume.as_bytes(), words)?.len())
+}
+
 #[test]
-fn refuses_a_bad_listing(rt: HostRuntime) -> Result<(), Fail> {
-    let good = image(rt.alloc(), b"", "1/d 22/ 1|")?.len();
-    assert_eq!(rt; good, 0x100);
+fn refuses_a_bad_listing(rt: HostRuntime) {
+    assert!(rt; size_of(rt.alloc(), "", "1/d 22/ 1|") == Ok(0x100));
     for (volume, words) in BAD {
-        let fault = image(rt.alloc(), volume.as_bytes(), words).err();
-        assert_eq!(rt; fault, Some(BuildFault::Listing), "{words}");
+        let size = size_of(rt.alloc(), volume, words);
+        assert!(rt; size == Err(BuildFault::Listing), "{words}");
     }
-    Ok(())
 }

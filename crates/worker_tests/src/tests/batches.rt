@@ -1,13 +1,12 @@
 //! Rounds of jobs by any plan: their replies, the sums of their moves, and the gates that they
 //! pass.
 
-use super::jobs::jobs_of;
+use super::jobs::{Job, jobs_of};
 use super::tables::sample_table;
 use node_table::Table;
 use reply_model::Move;
 use reply_pool::{Plan, Rounded, Served, round};
 use std::alloc::{AllocError, Allocator, Global};
-use std::test::Fail;
 use std::thread::Threads;
 use test_kit::gates::Recording;
 use test_kit::memories::Memories;
@@ -16,7 +15,7 @@ use test_kit::script::{lookups, script, script_replies};
 
 const PLANS: [(u32, u32); 6] = [(1, 1), (2, 1), (5, 1), (1, 3), (2, 3), (5, 3)];
 
-#[derive(Clone, Copy, Debug, PartialEq, Eq)]
+#[derive(Clone, Copy, PartialEq, Eq)]
 pub enum Jobs {
     None,
     Script,
@@ -71,36 +70,42 @@ fn round_over<'a, R: Threads + Sync>(
     jobs: Jobs,
     plan: Plan,
 ) -> Option<Result<(bool, (u64, u64, u64)), AllocError>> {
-    let gate = Recording::new();
     let stream = stream_of(memories.global, jobs).ok()?;
     let replies = script_replies(memories.global).ok()?;
     let requests = jobs_of(memories.global, &stream).ok()?;
+    Some(round_to(rt, memories, table, (jobs, &requests, &replies), plan))
+}
+
+/// The same of these requests, with the script's replies.
+fn round_to<'a, R: Threads + Sync>(
+    rt: &R,
+    memories: &'a Memories,
+    table: &Table<&'a Refusing<Global>>,
+    asked: (Jobs, &[Job<'_>], &[u8]),
+    plan: Plan,
+) -> Result<(bool, (u64, u64, u64)), AllocError> {
+    let (jobs, requests, replies) = asked;
+    let gate = Recording::new();
     let few = requests.len().min(256);
     let alloc = &memories.refusing;
     let served = Served::held(table);
-    match round(rt, alloc, served, &requests[..few], plan, &gate) {
-        Ok(rounded) => Some(Ok((is_right(&rounded, jobs, &replies), gate.seen()))),
-        Err(AllocError) => Some(Err(AllocError)),
-    }
+    let rounded = round(rt, alloc, served, &requests[..few], plan, &gate)?;
+    Ok((is_right(&rounded, jobs, replies), gate.seen()))
 }
 
 #[test]
-fn rounds_by_any_plan(rt: HostRuntime) -> Result<(), Fail> {
+fn rounds_by_any_plan(rt: HostRuntime) {
     for jobs in [Jobs::None, Jobs::Script, Jobs::Lookups] {
         for plan in PLANS {
-            let came_to = round_of(&rt, &Memories::new(rt.alloc(), 0), jobs, plan);
-            let Some(Ok((is_right, passed))) = came_to else {
-                return Err(Fail::new("no round"));
-            };
-            assert!(rt; is_right, "{jobs:?} by {plan:?}");
             let batches = match (jobs, plan.1) {
                 (Jobs::None, _) => 0,
                 (Jobs::Script, 1) => 0x1111_1111_1111,
                 (Jobs::Lookups, 1) => 0x11_1111_1111,
                 _ => 0x1111,
             };
-            assert!(rt; passed == (0, 0, batches), "{jobs:?} by {plan:?}");
+            let came_to = round_of(&rt, &Memories::new(rt.alloc(), 0), jobs, plan);
+            let is_right = came_to == Some(Ok((true, (0, 0, batches))));
+            assert!(rt; is_right, "{batches:x} by {}", plan.0);
         }
     }
-    Ok(())
 }

@@ -1,6 +1,6 @@
 //! A batch is held until others have come, and workers are counted.
 
-use super::jobs::jobs_of;
+use super::jobs::{Job, jobs_of};
 use super::tables::sample_table;
 use super::threads::pieces_of;
 use node_table::Table;
@@ -25,11 +25,22 @@ fn is_given_up_over<R: Threads + Sync>(
 ) -> Option<bool> {
     let stream = script(alloc).ok()?;
     let requests = jobs_of(alloc, &stream).ok()?;
-    let few = requests.get(..jobs)?;
-    if 256 < few.len() {
+    is_given_up_in(rt, alloc, table, requests.get(..jobs.min(256))?, plan, gate)
+}
+
+/// The same of these jobs.
+fn is_given_up_in<R: Threads + Sync>(
+    rt: &R,
+    alloc: Global,
+    table: &Table<Global>,
+    jobs: &[Job<'_>],
+    plan: Plan,
+    gate: &Holding,
+) -> Option<bool> {
+    if 256 < jobs.len() {
         return None;
     }
-    let rounded = round(rt, alloc, Served::held(table), few, plan, gate).ok()?;
+    let rounded = round(rt, alloc, Served::held(table), jobs, plan, gate).ok()?;
     (0 < rounded.bytes.len()).then_some(gate.is_given_up())
 }
 

@@ -5,7 +5,7 @@ ghost use Rattle.std.specs.Thread.{IsSync};
 ghost use Rattle.draw_board.specs.Hands.{GivesBack, IsHandOf, KeepsShare, share, total_of};
 ghost use Rattle.reply_pool.specs.Batches.{batches};
 
-use super::jobs::jobs_of;
+use super::jobs::{Job, jobs_of};
 use super::tables::sample_table;
 use draw_board::{Board, Hand};
 use node_table::Table;
@@ -72,10 +72,19 @@ fn pieces_over<R: Threads + Sync, G: Gate>(
 ) -> Option<Result<(usize, u64), AllocError>> {
     let stream = script(memories.global).ok()?;
     let requests = jobs_of(memories.global, &stream).ok()?;
-    let jobs = requests.get(..jobs.min(12))?;
-    let Ok((board, mut hand)) = Board::start(memories.global, batches_in(jobs.len()), 1) else {
-        return None;
-    };
+    pieces_to(rt, memories, table, requests.get(..jobs.min(12))?, gate)
+}
+
+/// The same to these requests.
+fn pieces_to<R: Threads + Sync, G: Gate>(
+    rt: &R,
+    memories: &Memories,
+    table: &Table<&Refusing<Global>>,
+    jobs: &[Job<'_>],
+    gate: &G,
+) -> Option<Result<(usize, u64), AllocError>> {
+    let batches = batches_in(jobs.len());
+    let (board, mut hand) = Board::start(memories.global, batches, 1).ok()?;
     let alloc = &memories.refusing;
     let pieces = work(
         rt,
