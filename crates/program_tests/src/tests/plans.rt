@@ -143,6 +143,21 @@ where
     ]
 }
 
+/// The same over 120 pages of the directory of the image.
+fn requests_of_pages<R: Files + Net<Listener = TcpListener, Stream = TcpStream> + Threads + Sync>(
+    rt: &R,
+    global: Global,
+    path: &str,
+    socket: &str,
+) -> Option<[[u64; 3]; 2]>
+where
+    R::File: FileExt + Send + Sync,
+    R::Dir: Send,
+{
+    let stream = stream(global, Long::Readdir, 120).ok()?;
+    Some(requests_of_plans(rt, global, path, socket, &stream))
+}
+
 /// Whether one worker asks for less memory than two, and these for less in batches of 256 than in
 /// batches of one.
 fn have_their_plans(requests: [u64; 3]) -> bool {
@@ -155,18 +170,12 @@ fn have_their_plans(requests: [u64; 3]) -> bool {
 /// to chance, and moves these numbers by some ten.
 #[test]
 fn a_line_has_its_plan(rt: HostRuntime) -> Result<(), Fail> {
-    let stream = stream(rt.alloc(), Long::Readdir, 120)?;
     let path = written(&rt, "plans", &image(rt.alloc())?)?;
     let socket = file_path(&rt, "plans", "socket")?;
-    let (image, global) = (path.as_str(), rt.alloc());
-    let [served, at_socket] = requests_of_plans(&rt, global, image, socket.as_str(), &stream);
-    drop(stream);
+    let requests = requests_of_pages(&rt, rt.alloc(), path.as_str(), socket.as_str());
     drop(socket);
     fs::remove_file(&rt, path.as_str())?;
     drop(path);
-    assert!(rt;
-        have_their_plans(served) && have_their_plans(at_socket),
-        "{served:?} {at_socket:?}"
-    );
+    assert!(rt; requests.is_some_and(|of_both| of_both.iter().all(|it| have_their_plans(*it))));
     Ok(())
 }

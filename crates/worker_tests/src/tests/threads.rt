@@ -72,7 +72,7 @@ fn pieces_over<R: Threads + Sync, G: Gate>(
 ) -> Option<Result<(usize, u64), AllocError>> {
     let stream = script(memories.global).ok()?;
     let requests = jobs_of(memories.global, &stream).ok()?;
-    pieces_to(rt, memories, table, requests.get(..jobs.min(12))?, gate)
+    pieces_to(rt, memories, table, requests.get(..jobs)?, gate)
 }
 
 /// The same to these requests.
@@ -83,6 +83,9 @@ fn pieces_to<R: Threads + Sync, G: Gate>(
     jobs: &[Job<'_>],
     gate: &G,
 ) -> Option<Result<(usize, u64), AllocError>> {
+    if 12 < jobs.len() {
+        return None;
+    }
     let batches = batches_in(jobs.len());
     let (board, mut hand) = Board::start(memories.global, batches, 1).ok()?;
     let alloc = &memories.refusing;
