@@ -1,0 +1,121 @@
+use Rattle.std.proofs.Common.{◌≡◌, refl, subst, sym, arith}
+use Rattle.devices.specs.States.{devices}
+use Rattle.fuse_wire.specs.Stream.{IsBad, IsOpen, IsRest}
+use Rattle.serve_loop.specs.Buffers.{held_in}
+use Rattle.serve_loop.specs.Steps.{done_of, done_or, serving_state, IsSmall}
+use Rattle.serve_loop.proofs.Traces.{small_first}
+use Rattle.serve_loop.proofs.Turns.{IsAfter, feeds, feeds_small, first_turn, goes_on, over_at_end, over_cut_off, over_for_bad, over_for_halt, over_for_memory, over_for_read, over_for_turns, told_memory}
+use Rattle.serve_loop.proofs.running.run_on.Given.{Over}
+use Rattle.serve_loop.proofs.running.run_on.Goals.{In-Ok}
+use Rattle.serve_loop.proofs.running.run_on.Goals as goal
+
+pub loop-turn-init : goal.loop-turn-init
+loop-turn-init g c =
+    let by = g.T.AnswersRounds.answering c.args.answers.now in
+    let nodes = g.T.AnswersRounds.nodes c.args.answers.now in (
+      first_turn by nodes _ (serving_state c.args.progress.now) c.requires.new,
+      record { range = c.requires.range; small = subst (λ w. IsSmall nodes w) (sym c.requires.new) (small_first by.first nodes) },
+    )
+
+pub returns-in_err-make_room-clause-run : goal.returns-in_err-make_room-clause-run
+returns-in_err-make_room-clause-run g c =
+    over_for_memory _ _ _ c.loop-turn._turn c.args.turns _ _ c.loop-turn.invariant.0 (done_or c.loop-turn.progress c.from_residual.result)
+    (omega (arith, c.loop-turn-test.true)) (told_memory c.loop-turn.progress c.from_residual.result c.from_residual.ensures.1)
+
+pub returns-in-Err-clause-run : goal.returns-in-Err-clause-run
+returns-in-Err-clause-run g c =
+    over_for_read _ _ _ _ _ _ _ c.loop-turn.invariant.0 _ _ _ c.requires.devices c.loop-turn-test.true c.in_ok-make_room.ensures.rest _
+    c.in-Err.ensures.pull
+
+pub returns-then-is_empty-clause-run : goal.returns-then-is_empty-clause-run
+returns-then-is_empty-clause-run g c =
+    over_at_end _ _ _ _ _ _ _ c.loop-turn.invariant.0 _ _ _ c.requires.devices c.loop-turn-test.true c.in_ok-make_room.ensures.rest _
+    c.in-Ok.ensures.pull c.if-got-eq0.true _ c.rest.ensures _ c.is_empty.ensures
+    (done_of c.loop-turn.progress) c.if-is_empty.true refl refl refl
+
+pub returns-then-got-eq0-clause-run : goal.returns-then-got-eq0-clause-run
+returns-then-got-eq0-clause-run g c =
+    over_cut_off _ _ _ _ _ _ _ c.loop-turn.invariant.0 _ _ _ c.requires.devices c.loop-turn-test.true c.in_ok-make_room.ensures.rest _
+    c.in-Ok.ensures.pull c.if-got-eq0.true _ c.rest.ensures _ c.is_empty.ensures c.if-is_empty.false
+
+-- what a pull gave stands behind what was left
+fed_now : (g : Over) (c : In-Ok g) → (c.in-Ok.got ≡ 0 → ⊥)
+    → IsAfter (g.T.AnswersRounds.answering c.args.answers.now) (g.T.AnswersRounds.nodes c.args.answers.now)
+    (devices (g.S.Source.state c.args.source.now) (g.K.Sink.state c.args.sink.now)) c.loop-turn._turn
+    (devices (g.S.Source.state c.pull.new.source) (g.K.Sink.state c.loop-turn.sink))
+    (record (serving_state c.loop-turn.progress) { rest = held_in c.pull.new.self })
+fed_now g c some =
+    feeds _ _ _ _ _ _ _ c.loop-turn.invariant.0 _ _ _ c.requires.devices c.loop-turn-test.true c.in_ok-make_room.ensures.rest _
+    c.in-Ok.ensures.pull some
+
+pub answer_all-requires-clause-in_order : goal.answer_all-requires-clause-in_order
+answer_all-requires-clause-in_order g c =
+    let fed = fed_now g (goal.at.answer_all-requires-clause-in_order g c).In-Ok c.if-got-eq0.false in
+    record {
+      range = c.pull.ensures.range;
+      small = feeds_small _ _ _ _ _ _ _ c.loop-turn.invariant.0 _ _ _ c.requires.devices c.loop-turn-test.true
+          c.in_ok-make_room.ensures.rest fed c.loop-turn.invariant.1.small;
+    }
+
+pub returns-in-Err-answer_all-clause-run : goal.returns-in-Err-answer_all-clause-run
+returns-in-Err-answer_all-clause-run g c =
+    over_for_halt _ _ _ _ _ _ _ (fed_now g (goal.at.returns-in-Err-answer_all-clause-run g c).In-Ok c.if-got-eq0.false) _ _
+    c.loop-turn-test.true c.in-Err-answer_all.ensures.err
+
+pub bad_length-requires : goal.bad_length-requires
+bad_length-requires g c = subst IsRest (sym c.rest-in-loop-turn.ensures) c.in-Ok-answer_all.ensures.ok.1
+
+pub returns-in-Some-clause-run : goal.returns-in-Some-clause-run
+returns-in-Some-clause-run g c =
+    over_for_bad _ _ _ _ _ _ _ (fed_now g (goal.at.returns-in-Some-clause-run g c).In-Ok c.if-got-eq0.false) _ _
+    c.in-Ok-answer_all.ensures.ok.0 c.in-Some.len c.loop-turn-test.true
+    (subst (λ l. IsBad l c.in-Some.len) c.rest-in-loop-turn.ensures c.in-Some.ensures)
+
+pub loop-turn-preserved : goal.loop-turn-preserved
+loop-turn-preserved g c =
+    let fed = fed_now g (goal.at.loop-turn-preserved g c).In-Ok c.if-got-eq0.false in (
+      goes_on _ _ _ _ c.args.turns _ _ fed _ _ c.in-Ok-answer_all.ensures.ok.0
+          (subst IsOpen c.rest-in-loop-turn.ensures c.in_default.ensures),
+      c.in-Ok-answer_all.ensures.in_order,
+    )
+
+pub returns-clause-run : goal.returns-clause-run
+returns-clause-run g c =
+    let last : c.loop-turn._turn ≡ c.args.turns = omega (arith, c.loop-turn-test.false, c.loop-turn.auto._turn-end) in
+    over_for_turns _ _ _ _ _ _ _ c.loop-turn.invariant.0 last
+
+pub make_room-requires : goal.make_room-requires
+make_room-requires g c = c.loop-turn.invariant.1.range
+
+pub pull-requires-clause-range : goal.pull-requires-clause-range
+pull-requires-clause-range g c = c.in_ok-make_room.ensures.range
+
+pub pull-requires-clause-room : goal.pull-requires-clause-room
+pull-requires-clause-room g c = c.in_ok-make_room.ensures.room
+
+pub returns-in-Err-clause-end : goal.returns-in-Err-clause-end
+returns-in-Err-clause-end g c = tt
+
+pub rest-requires : goal.rest-requires
+rest-requires g c = c.pull.ensures.range
+
+pub returns-then-is_empty-clause-end : goal.returns-then-is_empty-clause-end
+returns-then-is_empty-clause-end g c = c.in-Ok.ensures.end c.if-got-eq0.true
+
+pub returns-then-got-eq0-clause-end : goal.returns-then-got-eq0-clause-end
+returns-then-got-eq0-clause-end g c = tt
+
+pub answer_all-requires-clause-ready : goal.answer_all-requires-clause-ready
+answer_all-requires-clause-ready g c = c.requires.ready
+
+pub returns-in-Err-answer_all-clause-end : goal.returns-in-Err-answer_all-clause-end
+returns-in-Err-answer_all-clause-end g c = tt
+
+pub rest-requires-in-loop-turn : goal.rest-requires-in-loop-turn
+rest-requires-in-loop-turn g c = c.in-Ok-answer_all.ensures.in_order.range
+
+pub returns-in-Some-clause-end : goal.returns-in-Some-clause-end
+returns-in-Some-clause-end g c = tt
+
+pub returns-clause-end : goal.returns-clause-end
+returns-clause-end g c = tt
