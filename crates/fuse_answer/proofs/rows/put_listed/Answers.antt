@@ -1,4 +1,5 @@
 use Rattle.std.proofs.Common.{◌∙◌, sym, ◌+◌, ◌-◌, ◌++◌, ap, length, arith, length-append, refl}
+use Rattle.std.proofs.lemmas.Result.{err_from_is_err_and}
 use Rattle.fuse_answer.specs.Listings.{row_bytes_at}
 use Rattle.fuse_answer.proofs.Moving.{adds_none, adds_on, all_added, first_within}
 use Rattle.fuse_answer.proofs.Writing.{all_rows, fits_next, fits_no_more, none_left, none_written, row_next, so_far_long}
@@ -129,3 +130,22 @@ returns-clause-moves g c =
     c.requires.whole was.first (omega (arith, was.there, c.count.ensures, c.loop-index-test.false)) was.so_far
     (omega (arith, was.limit, c.len.ensures.len)) in
     all_added c.args.rows.now c.loop-index.index c.args.balances.now c.loop-index.balances last was.given
+
+pub put_any-requires-clause-there : goal.put_any-requires-clause-there
+put_any-requires-clause-there g c = (omega (arith, c.loop-index-test.true, c.count.ensures), omega arith)
+
+pub add_row-requires-clause-from : goal.add_row-requires-clause-from
+add_row-requires-clause-from g c = c.loop-index.invariant.first
+
+pub add_row-requires-clause-there : goal.add_row-requires-clause-there
+add_row-requires-clause-there g c = (omega (arith, c.loop-index-test.true, c.count.ensures), omega arith)
+
+pub put_short-requires : goal.put_short-requires
+put_short-requires g c = (omega (arith, c.loop-index-test.true, c.count.ensures), omega arith)
+
+pub overflow_add-index : goal.overflow_add-index
+overflow_add-index g c = omega arith
+
+pub returns-in_err-put_any-clause-moves : goal.returns-in_err-put_any-clause-moves
+returns-in_err-put_any-clause-moves g c =
+    let failed = err_from_is_err_and c.from_residual.result c.from_residual.ensures.1 in rw failed.1 tt
