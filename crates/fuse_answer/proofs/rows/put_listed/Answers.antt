@@ -149,3 +149,29 @@ overflow_add-index g c = omega arith
 pub returns-in_err-put_any-clause-moves : goal.returns-in_err-put_any-clause-moves
 returns-in_err-put_any-clause-moves g c =
     let failed = err_from_is_err_and c.from_residual.result c.from_residual.ensures.1 in rw failed.1 tt
+
+pub add_row-requires-clause-within : goal.add_row-requires-clause-within
+add_row-requires-clause-within g c = c.loop-index.invariant.given.within
+
+pub fits-requires : goal.fits-requires
+fits-requires g c =
+    let was = c.loop-index.invariant in
+    omega (
+      arith,
+      c.requires.whole.small,
+      c.len.ensures.len,
+      c.len-then-not-put_short.ensures.len,
+      ap length c.if-not-put_short.ensures.items,
+      so_far_long c.args.table.now c.args.rows.now c.args.out.now.items c.loop-index.index c.loop-index.out.items was.so_far,
+    )
+
+pub overflow_add-most : goal.overflow_add-most
+overflow_add-most g c = omega (arith, c.requires.whole.small, c.len.ensures.few)
+
+pub overflow_sub-most : goal.overflow_sub-most
+overflow_sub-most g c =
+    let same = ap length c.if-not-put_short.ensures.items in
+    omega (arith, c.loop-index.invariant.limit, c.len.ensures.len, c.len-then-not-put_short.ensures.len, same)
+
+pub loop-index-smaller : goal.loop-index-smaller
+loop-index-smaller g c = omega (arith, c.loop-index-test.true, c.count.ensures)
