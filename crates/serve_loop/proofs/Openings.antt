@@ -16,9 +16,8 @@ use Rattle.serve_loop.specs.Buffers.{Fills}
 use Rattle.serve_loop.specs.Rounds.{Answering}
 use Rattle.serve_loop.specs.Serving.{AreBalances, AreReady, Does, IsRun, Trace, all_but, before, last_size, moves_of}
 use Rattle.serve_loop.specs.Steps.{IsHalt, IsSmall, Proceeds, ServingState, StopsShort}
-use Rattle.serve_loop.specs.Opening.{HasBegun, HasNotBegun, IsNotOpened, IsOpened, WasNotBegun, opening_or}
+use Rattle.serve_loop.specs.Opening.{HasBegun, HasNotBegun, IsNotOpened, IsOpened, WasNotBegun}
 use Rattle.serve_loop.specs.declared.done.Done.{Done}
-use Rattle.serve_loop.specs.declared.progress.Progress.{Progress}
 use Rattle.serve_loop.specs.declared.opening.Begun.{Begun}
 use Rattle.serve_loop.specs.declared.opening.Opening.{Opening}
 use Rattle.serve_loop.specs.declared.stream_fault.StreamFault.{StreamFault}
@@ -34,12 +33,6 @@ pub opened_memory : {A : Type 0} (by : Answering) (nodes turns : ℕ) (t : Trace
 opened_memory by nodes turns t (Ok opening) e run = absurd e
 opened_memory {A} by nodes turns t (Err fault) e run =
     subst (λ f. IsNotOpened {A = A} by nodes turns t (Err f)) (sym e) run
-
--- where memory was refused, that is what is told of how far it came
-pub told_refused : {A : Type 0} (p : Progress A) (r : Result Bool StreamFault) → IsErrAnd r (λ fault. fault ≡ Memory)
-    → IsErrAnd (opening_or p r) (λ fault. fault ≡ Memory)
-told_refused p (Ok begun) e = absurd e
-told_refused p (Err fault) e = e
 
 -- more is awaited: a part of a message is left, or the session is not begun, or nothing came yet
 abbrev pub IsWaiting : ServingState → Type 0

@@ -8,21 +8,14 @@ use Rattle.fuse_wire.specs.Stream.{IsBad, IsOpen}
 use Rattle.devices.specs.declared.failed.Failed.{Failed}
 use Rattle.devices.specs.States.{Devices, SinkState, SourceState, devices}
 use Rattle.serve_loop.specs.declared.done.Done.{Done}
-use Rattle.serve_loop.specs.declared.progress.Progress.{Progress}
 use Rattle.serve_loop.specs.declared.stream_fault.StreamFault.{StreamFault}
 use Rattle.serve_loop.specs.declared.stream_fault.StreamFault.TheVariants.{BadLength, CutOff, Memory, Read, Turns}
 use Rattle.serve_loop.specs.Buffers.{Fills}
 use Rattle.serve_loop.specs.Rounds.{Answering}
 use Rattle.serve_loop.specs.Serving.{AreReady, Does, IsRun, Trace, trace}
-use Rattle.serve_loop.specs.Steps.{ServingState, IsSmall, Proceeds, StopsShort, done_or}
+use Rattle.serve_loop.specs.Steps.{ServingState, IsSmall, Proceeds, StopsShort}
 use Rattle.serve_loop.proofs.Traces.{IsFed, IsLow, IsRunning, none_left, some_left, start, untouched}
 use Rattle.serve_loop.proofs.Runs.{ends_bad, ends_clean, ends_cut, ends_halt, ends_memory, ends_read, ends_turns, fed, run_memory, runs_first, small_fed, went_round}
-
--- where memory was refused, that is what is told of what a stream came to
-pub told_memory : {A : Type 0} (p : Progress A) (r : Result (Unit {0}) StreamFault) → IsErrAnd r (λ fault. fault ≡ Memory)
-    → IsErrAnd (done_or p r) (λ fault. fault ≡ Memory)
-told_memory p (Ok u) e = absurd e
-told_memory p (Err fault) e = e
 
 -- the trace of a call between these devices
 abbrev pub so_far : Devices → Devices → List ℕ → List ℕ → Trace

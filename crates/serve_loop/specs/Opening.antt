@@ -1,5 +1,5 @@
 -- What serving a stream until its session has begun promises.
-use Rattle.std.specs.Prelude.{◌≡◌, ℕ, ◌<◌, List, [], length, map, Bool, true, false, Result, Ok, Err}
+use Rattle.std.specs.Prelude.{◌≡◌, ℕ, ◌<◌, List, [], length, map, true, false, Result, Ok, Err}
 use Rattle.fuse_wire.specs.Stream.{IsSplit}
 use Rattle.fuse_wire.specs.Requests.{asked}
 use Rattle.reply_model.specs.Sessions.{is_fresh}
@@ -7,9 +7,7 @@ use Rattle.reply_model.specs.Streams.{session_at}
 use Rattle.serve_loop.specs.Rounds.{Answering}
 use Rattle.serve_loop.specs.Serving.{Trace, AreBalances, IsCounted, IsRun, before, moves_of}
 use Rattle.serve_loop.specs.Laws.{HasAnsweredAll}
-use Rattle.serve_loop.specs.Steps.{done_of}
 use Rattle.serve_loop.specs.declared.done.Done.{Done}
-use Rattle.serve_loop.specs.declared.progress.Progress.{Progress}
 use Rattle.serve_loop.specs.declared.opening.Begun.{Begun}
 use Rattle.serve_loop.specs.declared.opening.Opening.{Opening}
 use Rattle.serve_loop.specs.declared.opening.Opening.TheVariants as openings
@@ -53,17 +51,6 @@ pub record IsNotOpened {A : Type 0} (by : Answering) (nodes turns : ℕ) (t : Tr
     (result : Result (Done A) StreamFault) : Type 0 where
   pub run : IsRun by nodes turns t result
   pub not_begun : WasNotBegun by t result
-
--- the stream, whose session has begun
-abbrev pub begun_of : {A : Type 0} → Progress A → Begun A
-begun_of p = record { session = p.session; done = done_of p }
-
--- that, or one that came to its end before, or why serving it stopped
-abbrev pub opening_or : {A : Type 0} → Progress A → Result Bool StreamFault
-    → Result (Opening A) StreamFault
-opening_or p (Ok true) = Ok (openings.Begun (begun_of p))
-opening_or p (Ok false) = Ok (openings.Ended (done_of p))
-opening_or p (Err fault) = Err fault
 
 -- a stream was served until its session had begun, or before that to its end, or until it stopped
 abbrev pub IsOpened : {A : Type 0} → Answering → ℕ → ℕ → Trace → Result (Opening A) StreamFault

@@ -1,5 +1,5 @@
 -- What the steps of serving a stream do.
-use Rattle.std.specs.Prelude.{◌≡◌, ℕ, ◌+◌, ◌*◌, ◌^◌, ◌<◌, ◌≤◌, Bool, true, false, ℤ, pos, List, [], ◌++◌, length, map, replicate, Result, Ok, Err}
+use Rattle.std.specs.Prelude.{◌≡◌, ℕ, ◌+◌, ◌*◌, ◌^◌, ◌<◌, ◌≤◌, Bool, true, false, ℤ, pos, List, [], ◌++◌, length, map, replicate}
 use Rattle.std.specs.List.{AllByRecursion}
 use Rattle.fuse_wire.specs.Stream.{IsMessage, IsRest}
 use Rattle.fuse_wire.specs.Requests.{asked}
@@ -14,7 +14,6 @@ use Rattle.serve_loop.specs.Rounds.{Answering, IsReply, joined, AreAnswered}
 use Rattle.serve_loop.specs.declared.stream_fault.StreamFault.{StreamFault}
 use Rattle.serve_loop.specs.declared.stream_fault.StreamFault.TheVariants.{Write, Memory}
 use Rattle.serve_loop.specs.declared.progress.Progress.{Progress}
-use Rattle.serve_loop.specs.declared.done.Done.{Done}
 use Rattle.serve_loop.specs.Buffers.{held_in, IsWithinBytes}
 use Rattle.serve_loop.specs.Serving.{Begins}
 
@@ -49,20 +48,6 @@ beginning first nodes = record {
   written = 0;
   balances = replicate nodes (pos 0);
 }
-
--- what a stream came to that is answered so far
-abbrev pub done_of : {A : Type 0} → Progress A → Done A
-done_of p = record {
-  messages = p.messages;
-  written = p.written;
-  balances = p.balances;
-}
-
--- the same, or why serving it stopped
-abbrev pub done_or : {A : Type 0} → Progress A → Result (Unit {0}) StreamFault
-    → Result (Done A) StreamFault
-done_or p (Ok u) = Ok (done_of p)
-done_or p (Err fault) = Err fault
 
 -- the counts stay far below their types' limits: a stream has less than 2^57 bytes
 pub record IsSmall (nodes : ℕ) (v : ServingState) : Type 0 where

@@ -5,8 +5,7 @@ ghost use Rattle.devices.specs.States.{devices};
 ghost use Rattle.reply_model.specs.Sessions.{is_fresh};
 ghost use Rattle.serve_loop.specs.Buffers.{held_in, IsWithinBytes};
 ghost use Rattle.serve_loop.specs.Serving.{AreReady, Does};
-ghost use Rattle.serve_loop.specs.Opening.{IsOpened, begun_of, opening_or};
-ghost use Rattle.serve_loop.specs.Steps.{beginning, serving_state};
+ghost use Rattle.serve_loop.specs.Opening.{IsOpened};
 
 use crate::done::Done;
 use crate::one_round::AnswersRounds;
@@ -57,32 +56,6 @@ pub fn open_by<T: AnswersRounds, S: Source, K: Sink, A: Allocator + Copy>(
         (devices (S.state source.new) (K.state sink.new)) }
 {
     let mut progress = Progress::new(alloc, answers.first(), answers.nodes())?;
-    match open_on(answers, &mut progress, source, sink, turns) {
-        Ok(true) => Ok(Opening::Begun(as_begun(progress))),
-        Ok(false) => Ok(Opening::Ended(progress.done())),
-        Err(fault) => Err(fault),
-    }
-}
-
-// Serves a stream of which nothing came yet until its session has begun, or before that to its end:
-// whether it has begun.
-fn open_on<T: AnswersRounds, S: Source, K: Sink, A: Allocator>(
-    answers: &T,
-    progress: &mut Progress<A>,
-    source: &mut S,
-    sink: &mut K,
-    turns: u64,
-) -> Result<bool, StreamFault>
-    requires ready { T.ready answers.now }
-    requires devices { AreReady turns (devices (S.state source.old) (K.state sink.old)) }
-    requires range { IsWithinBytes progress.old.buffer }
-    requires new { serving_state progress.old
-        ≡ beginning (T.answering answers.now).first (T.nodes answers.now) }
-    ensures { Does (λ t. IsOpened (T.answering answers.now) (T.nodes answers.now) turns t
-        (opening_or progress.new result))
-        (devices (S.state source.old) (K.state sink.old))
-        (devices (S.state source.new) (K.state sink.new)) }
-{
     for _turn in 0..turns {
         progress.buffer.make_room()?;
         let got = match progress.buffer.pull(source) {
@@ -91,12 +64,12 @@ fn open_on<T: AnswersRounds, S: Source, K: Sink, A: Allocator>(
         };
         if got == 0 {
             if progress.buffer.rest().is_empty() {
-                return Ok(false);
+                return Ok(Opening::Ended(progress.done()));
             }
             return Err(StreamFault::CutOff { at: progress.at });
         }
         // as `?`, but each end is an arm, by whose name the proof speaks of it
-        match answer_all(answers, progress, sink) {
+        match answer_all(answers, &mut progress, sink) {
             Ok(()) => {}
             Err(fault) => return Err(fault),
         }
@@ -106,8 +79,8 @@ fn open_on<T: AnswersRounds, S: Source, K: Sink, A: Allocator>(
                 len,
             });
         }
-        if has_begun(progress) {
-            return Ok(true);
+        if has_begun(&progress) {
+            return Ok(Opening::Begun(as_begun(progress)));
         }
     }
     Err(StreamFault::Turns)
@@ -136,7 +109,10 @@ fn is_fresh(session: Session) -> bool
 
 // The stream, whose session has begun.
 fn as_begun<A: Allocator>(progress: Progress<A>) -> Begun<A>
-    ensures { result ≡ begun_of progress }
+    ensures session { result.session ≡ progress.session }
+    ensures messages { result.done.messages ≡ progress.messages }
+    ensures written { result.done.written ≡ progress.written }
+    ensures balances { result.done.balances.items ≡ progress.balances.items }
 {
     let session = progress.session;
     let done = progress.done();

@@ -2,7 +2,7 @@
 
 ghost use Rattle.std.specs.Prelude.{◌≡◌, IfOk};
 ghost use Rattle.serve_loop.specs.Buffers.{IsWithinBytes};
-ghost use Rattle.serve_loop.specs.Steps.{serving_state, beginning, done_of};
+ghost use Rattle.serve_loop.specs.Steps.{serving_state, beginning};
 
 use crate::buffer::Buffer;
 use crate::done::Done;
@@ -55,7 +55,9 @@ impl<A: Allocator + Copy> Progress<A> {
 impl<A: Allocator> Progress<A> {
     // What the stream came to.
     pub(crate) fn done(self) -> Done<A>
-        ensures { result ≡ done_of self }
+        ensures messages { result.messages ≡ self.messages }
+        ensures written { result.written ≡ self.written }
+        ensures balances { result.balances.items ≡ self.balances.items }
     {
         Done {
             messages: self.messages,

@@ -5,9 +5,7 @@ ghost use Rattle.std.specs.Io.KnownBytes.{IsAtEnd};
 ghost use Rattle.devices.specs.States.{devices};
 ghost use Rattle.fuse_wire.specs.Stream.{IsRest, IsBad, IsOpen};
 ghost use Rattle.serve_loop.specs.declared.stream_fault.StreamFault.TheVariants.{Turns};
-ghost use Rattle.serve_loop.specs.Buffers.{IsWithinBytes};
 ghost use Rattle.serve_loop.specs.Serving.{AreReady, Does, IsRun};
-ghost use Rattle.serve_loop.specs.Steps.{beginning, done_or, serving_state};
 
 use crate::done::Done;
 use crate::one_round::AnswersRounds;
@@ -49,32 +47,6 @@ pub fn run_by<T: AnswersRounds, S: Source, K: Sink, A: Allocator + Copy>(
         return Err(StreamFault::Turns);
     }
     let mut progress = Progress::new(alloc, answers.first(), answers.nodes())?;
-    match run_on(answers, &mut progress, source, sink, turns) {
-        Ok(()) => Ok(progress.done()),
-        Err(fault) => Err(fault),
-    }
-}
-
-// Serves a stream of which nothing came yet to its end. It borrows what it makes progress in, so
-// that none of its ends has anything to give back.
-fn run_on<T: AnswersRounds, S: Source, K: Sink, A: Allocator>(
-    answers: &T,
-    progress: &mut Progress<A>,
-    source: &mut S,
-    sink: &mut K,
-    turns: u64,
-) -> Result<(), StreamFault>
-    requires ready { T.ready answers.now }
-    requires devices { AreReady turns (devices (S.state source.old) (K.state sink.old)) }
-    requires range { IsWithinBytes progress.old.buffer }
-    requires new { serving_state progress.old
-        ≡ beginning (T.answering answers.now).first (T.nodes answers.now) }
-    ensures run { Does (λ t. IsRun (T.answering answers.now) (T.nodes answers.now) turns t
-        (done_or progress.new result))
-        (devices (S.state source.old) (K.state sink.old))
-        (devices (S.state source.new) (K.state sink.new)) }
-    ensures end { OnOk result (IsAtEnd (S.state source.new).left) }
-{
     for _turn in 0..turns {
         progress.buffer.make_room()?;
         let got = match progress.buffer.pull(source) {
@@ -83,12 +55,12 @@ fn run_on<T: AnswersRounds, S: Source, K: Sink, A: Allocator>(
         };
         if got == 0 {
             if progress.buffer.rest().is_empty() {
-                return Ok(());
+                return Ok(progress.done());
             }
             return Err(StreamFault::CutOff { at: progress.at });
         }
         // as `?`, but each end is an arm, by whose name the proof speaks of it
-        match answer_all(answers, progress, sink) {
+        match answer_all(answers, &mut progress, sink) {
             Ok(()) => {}
             Err(fault) => return Err(fault),
         }
