@@ -51,7 +51,8 @@ returns-in_err-images-clause-err c =
     rw (failed.1, failed.2) (inl refl)
 
 pub returns-in_err-crossed-in-Some-clause-ok : goal.returns-in_err-crossed-in-Some-clause-ok
-returns-in_err-crossed-in-Some-clause-ok c = IfOk-from_err c.from_residual-in_err-crossed-in-Some.result _ c.from_residual-in_err-crossed-in-Some.ensures.0
+returns-in_err-crossed-in-Some-clause-ok c =
+    IfOk-from_err c.from_residual-in_err-crossed-in-Some.result _ c.from_residual-in_err-crossed-in-Some.ensures.0
 
 pub returns-in_err-crossed-in-Some-clause-err : goal.returns-in_err-crossed-in-Some-clause-err
 returns-in_err-crossed-in-Some-clause-err c =
