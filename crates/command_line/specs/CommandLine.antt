@@ -1,7 +1,7 @@
 -- The command line: the program as `clap` sees it, and what the words after its name say.
 use Rattle.std.specs.Prelude.{◌≡◌, ◌≢◌, ◌⊎◌, ℕ, Bool, true, false, List, [], ◌∷◌, ◌++◌, codes, is_some, ◌&&◌, ◌||◌}
 use Rattle.std.specs.Prelude.{Option, Some, IfSome, MatchOption, option_map, unwrap_or}
-use Rattle.std.specs.Prelude.{Result, IfOk}
+use Rattle.std.specs.Prelude.{Result, IfOk, ◌≤◌, vec_len}
 use Rattle.std.specs.Int.{IsInRange}
 use Rattle.std.specs.List.{All, find, list_any}
 use Rattle.std.specs.Option.{option_map_or}
@@ -315,6 +315,14 @@ NamesSocket line = line.verb ≡ verbs.Socket → is_some line.listen ≡ true
 -- the rows of the command `socket` give it
 abbrev pub GivesSocket : Verb → List Row → Type 0
 GivesSocket verb rows = verb ≡ verbs.Socket → is_some (first_of (codes "listen") rows) ≡ true
+
+-- a line of a command of this verb, which says what its rows give
+pub record IsReadFrom (verb : Verb) (rows : List Row) (line : Line) : Type 0 where
+  pub same : line.verb ≡ verb
+  pub holds : HoldsRows rows line
+  pub limits : IsInLimits line
+  pub some_image : 1 ≤ vec_len line.images
+  pub socket : NamesSocket line
 
 -- the words are a command of the program, but for a number that is none, or is out of its range
 pub record IsMisnumbered (words : List Text) : Type 0 where

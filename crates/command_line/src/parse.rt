@@ -9,7 +9,7 @@ ghost use Rattle.clap.specs.Takes.{is_given};
 ghost use Rattle.clap.specs.Walk.{all_of, first_of, texts};
 ghost use Rattle.clap.specs.Words.{kind_of, subcommand_rows_of};
 ghost use Rattle.command_line.specs.CommandLine.{IsLineOf, IsNoLine, IsTaken, TellsKind, command_in};
-ghost use Rattle.command_line.specs.CommandLine.{HoldsRows, IsFilled, IsInLimits, names_both, verb_word};
+ghost use Rattle.command_line.specs.CommandLine.{IsFilled, IsInLimits, IsReadFrom, names_both, verb_word};
 ghost use Rattle.command_line.specs.CommandLine.{AreCrossed, GivesSocket, NamesSocket, is_flag, rows_in};
 ghost use Rattle.command_line.specs.CommandLine.{HaveNumbersInRange, IsNumberNamed, IsNumberOf};
 ghost use Rattle.command_line.specs.Owners.{IsOwnerOf};
@@ -101,11 +101,7 @@ fn verb_of(name: &str) -> Verb
 fn line_of<'a>(alloc: Global, verb: Verb, found: &ArgMatches<'a>) -> Result<Line<'a>, LineFault>
     requires filled { IsFilled (rows_in found.now) }
     requires socket { GivesSocket verb (rows_in found.now) }
-    ensures verb { IfOk result (λ line. line.verb ≡ verb) }
-    ensures holds { IfOk result (λ line. HoldsRows (rows_in found.now) line) }
-    ensures limits { IfOk result (λ line. IsInLimits line) }
-    ensures some_image { IfOk result (λ line. 1 ≤ vec_len line.images) }
-    ensures socket { IfOk result (λ line. NamesSocket line) }
+    ensures ok { IfOk result (IsReadFrom verb (rows_in found.now)) }
     ensures err { IfErr result (λ fault. (fault ≡ Memory)
         ⊎ ((¬ HaveNumbersInRange (rows_in found.now)) ⊎ AreCrossed (rows_in found.now))) }
 {

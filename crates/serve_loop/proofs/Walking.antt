@@ -5,6 +5,9 @@ use Rattle.std.proofs.Common.{◌≡◌, ◌∙◌, sym, ap, subst, ℕ, ◌+◌
 use Rattle.std.specs.List.{AllByRecursion}
 use Rattle.std.proofs.lemmas.Grind.{flat_map-append}
 use Rattle.std.proofs.lemmas.List.{map-append, take-append-drop, take_at, drop-drop}
+use Rattle.fuse_wire.specs.declared.framing.Framed.{Framed}
+use Rattle.fuse_wire.specs.declared.framing.Framed.TheVariants.{Bad, More}
+use Rattle.fuse_wire.specs.Frames.{Frames}
 use Rattle.fuse_wire.specs.Stream.{IsMessage, IsRest, BeginsMessage}
 use Rattle.fuse_wire.specs.Requests.{Asked, asked}
 use Rattle.reply_model.specs.declared.session.Session.{Session}
@@ -183,6 +186,31 @@ module _ (by : Answering) (s : Session) (stream : List ℕ) where
     answered = f.answered;
     some = elim o [ inl h ↦ inl (let k = f.count in omega arith) | inr r ↦ inr r ];
   }
+
+  -- where replies were put, a message is answered
+  some_put : (messages : List (List ℕ)) (t : Session) (put : List ℕ) → AreReplies (IsReply by) t (map asked messages) put → 0 < length put
+      → 0 < length messages
+  some_put [] t put none some = absurd (let e = ap length none in omega arith)
+  some_put (m ∷ ms) t put are some = omega arith
+
+  -- so the messages answered so far are a round
+  pub full_round : (round : RoundEnd) (put : List ℕ) (b : Balances) → IsSoFar by s stream round put b → 0 < length put
+      → IsRound by s stream round put b
+  full_round round put b f some =
+      let n = some_put f.messages s put f.answered.told some in
+      let k = f.count in
+      is_round round put b f (inl (omega arith))
+
+  -- and so are they where what is left begins with none
+  pub last_round : (round : RoundEnd) (put : List ℕ) (b : Balances) (rest : List ℕ) (framed : Framed) → IsSoFar by s stream round put b
+      → rest ≡ drop round.used stream → Frames rest framed → (framed ≡ More) ⊎ ((n : ℕ) × (framed ≡ Bad n))
+      → IsRound by s stream round put b
+  last_round round put b rest framed f e frames is =
+      let left : IsRest rest = elim is [
+        | inl more ↦ inl (subst (Frames rest) more frames)
+        | inr bad ↦ inr (bad.0, subst (Frames rest) bad.1 frames)
+      ] in
+      is_round round put b f (inr (subst IsRest e left))
 
   -- a round takes balances within 2^122 no further than 2^123, if the stream has at most 2^57 bytes
   pub so_far_within : (round : RoundEnd) (put : List ℕ) (a b : List ℤ)

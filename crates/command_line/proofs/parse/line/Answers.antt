@@ -37,7 +37,16 @@ pub returns-in-Ok-clause-ok : goal.returns-in-Ok-clause-ok
 returns-in-Ok-clause-ok g c =
     let read : Result Line LineFault = Ok c.in-Ok.line in
     line_is _ _ _ c.verb_of.result read c.in_ok-matches.ensures.taken (met g (goal.at.returns-in-Ok-clause-ok g c).After-unwrap)
-    c.verb_of.ensures c.in-Ok.ensures.verb c.in-Ok.ensures.holds
+    c.verb_of.ensures c.in-Ok.ensures.ok.same c.in-Ok.ensures.ok.holds
+
+pub returns-in-Ok-clause-limits : goal.returns-in-Ok-clause-limits
+returns-in-Ok-clause-limits g c = c.in-Ok.ensures.ok.limits
+
+pub returns-in-Ok-clause-some_image : goal.returns-in-Ok-clause-some_image
+returns-in-Ok-clause-some_image g c = c.in-Ok.ensures.ok.some_image
+
+pub returns-in-Ok-clause-socket : goal.returns-in-Ok-clause-socket
+returns-in-Ok-clause-socket g c = c.in-Ok.ensures.ok.socket
 
 pub returns-clause-err : goal.returns-clause-err
 returns-clause-err g c =

@@ -5,7 +5,8 @@ use Rattle.fuse_answer.proofs.AtNodes.{decided_at}
 use Rattle.fuse_answer.proofs.decide.go_on.Goals as goal
 
 pub returns-in-Lookup : goal.returns-in-Lookup
-returns-in-Lookup g c = decided_at c.args.table.now c.args.agreed (asked_of c.args.request.now) (lookup c.in-Lookup.name.now) (ap op_said c.in-Lookup.is)
+returns-in-Lookup g c =
+    decided_at c.args.table.now c.args.agreed (asked_of c.args.request.now) (lookup c.in-Lookup.name.now) (ap op_said c.in-Lookup.is)
     c.look_up.result c.look_up.ensures
 
 pub returns-in-Getattr : goal.returns-in-Getattr
@@ -17,11 +18,13 @@ returns-in-Readlink g c = decided_at c.args.table.now c.args.agreed (asked_of c.
     c.read_link.result c.read_link.ensures
 
 pub returns-in-Open : goal.returns-in-Open
-returns-in-Open g c = decided_at c.args.table.now c.args.agreed (asked_of c.args.request.now) (open_file c.in-Open.flags) (ap op_said c.in-Open.is)
+returns-in-Open g c =
+    decided_at c.args.table.now c.args.agreed (asked_of c.args.request.now) (open_file c.in-Open.flags) (ap op_said c.in-Open.is)
     c.open_file.result c.open_file.ensures
 
 pub returns-in-Read : goal.returns-in-Read
-returns-in-Read g c = decided_at c.args.table.now c.args.agreed (asked_of c.args.request.now) (read c.in-Read.offset c.in-Read.size) (ap op_said c.in-Read.is)
+returns-in-Read g c =
+    decided_at c.args.table.now c.args.agreed (asked_of c.args.request.now) (read c.in-Read.offset c.in-Read.size) (ap op_said c.in-Read.is)
     c.read.result c.read.ensures
 
 pub returns-in-Opendir : goal.returns-in-Opendir
@@ -29,9 +32,11 @@ returns-in-Opendir g c = decided_at c.args.table.now c.args.agreed (asked_of c.a
     c.open_directory.result c.open_directory.ensures
 
 pub returns-in-Readdir : goal.returns-in-Readdir
-returns-in-Readdir g c = decided_at c.args.table.now c.args.agreed (asked_of c.args.request.now) (readdir c.in-Readdir.offset c.in-Readdir.size) (ap op_said c.in-Readdir.is)
-    c.list.result c.list.ensures
+returns-in-Readdir g c =
+    decided_at c.args.table.now c.args.agreed (asked_of c.args.request.now) (readdir c.in-Readdir.offset c.in-Readdir.size)
+    (ap op_said c.in-Readdir.is) c.list.result c.list.ensures
 
 pub returns-in-Readdirplus : goal.returns-in-Readdirplus
-returns-in-Readdirplus g c = decided_at c.args.table.now c.args.agreed (asked_of c.args.request.now) (readdirplus c.in-Readdirplus.offset c.in-Readdirplus.size) (ap op_said c.in-Readdirplus.is)
-    c.list-in-Readdirplus.result c.list-in-Readdirplus.ensures
+returns-in-Readdirplus g c =
+    decided_at c.args.table.now c.args.agreed (asked_of c.args.request.now) (readdirplus c.in-Readdirplus.offset c.in-Readdirplus.size)
+    (ap op_said c.in-Readdirplus.is) c.list-in-Readdirplus.result c.list-in-Readdirplus.ensures

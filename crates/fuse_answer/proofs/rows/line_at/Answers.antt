@@ -23,3 +23,9 @@ returns-in_default g c =
     ∙ ap (λ n. let l : Line = record { number = c.row.inside.number; name = n } in l) (sym c.name.ensures) in
     line_there own upper c.args.rows.now.children.now c.args.index c.index-rows-index.result (omega arith) c.requires c.index-rows-index.is
     ∙ ap (λ (l : Line). Some (c.args.index + 1, l)) same
+
+pub returns-in-0 : goal.returns-in-0
+returns-in-0 g c = rw (c.in-0.is, c.as_slice.ensures)
+
+pub returns-in-1 : goal.returns-in-1
+returns-in-1 g c = rw (c.in-1.is, c.as_slice-in-1.ensures)

@@ -1,4 +1,5 @@
 use Rattle.std.proofs.Common.{◌∙◌, sym, ◌+◌, ◌-◌, ◌++◌, ap, length, arith, length-append, refl}
+use Rattle.std.proofs.lemmas.Result.{err_from_is_err_and}
 use Rattle.fuse_answer.specs.Listings.{row_bytes_at}
 use Rattle.fuse_answer.proofs.Moving.{adds_none, adds_on, all_added, first_within}
 use Rattle.fuse_answer.proofs.Writing.{all_rows, fits_next, fits_no_more, none_left, none_written, row_next, so_far_long}
@@ -129,3 +130,48 @@ returns-clause-moves g c =
     c.requires.whole was.first (omega (arith, was.there, c.count.ensures, c.loop-index-test.false)) was.so_far
     (omega (arith, was.limit, c.len.ensures.len)) in
     all_added c.args.rows.now c.loop-index.index c.args.balances.now c.loop-index.balances last was.given
+
+pub put_any-requires-clause-there : goal.put_any-requires-clause-there
+put_any-requires-clause-there g c = (omega (arith, c.loop-index-test.true, c.count.ensures), omega arith)
+
+pub add_row-requires-clause-from : goal.add_row-requires-clause-from
+add_row-requires-clause-from g c = c.loop-index.invariant.first
+
+pub add_row-requires-clause-there : goal.add_row-requires-clause-there
+add_row-requires-clause-there g c = (omega (arith, c.loop-index-test.true, c.count.ensures), omega arith)
+
+pub put_short-requires : goal.put_short-requires
+put_short-requires g c = (omega (arith, c.loop-index-test.true, c.count.ensures), omega arith)
+
+pub overflow_add-index : goal.overflow_add-index
+overflow_add-index g c = omega arith
+
+pub returns-in_err-put_any-clause-moves : goal.returns-in_err-put_any-clause-moves
+returns-in_err-put_any-clause-moves g c =
+    let failed = err_from_is_err_and c.from_residual.result c.from_residual.ensures.1 in rw failed.1 tt
+
+pub add_row-requires-clause-within : goal.add_row-requires-clause-within
+add_row-requires-clause-within g c = c.loop-index.invariant.given.within
+
+pub fits-requires : goal.fits-requires
+fits-requires g c =
+    let was = c.loop-index.invariant in
+    omega (
+      arith,
+      c.requires.whole.small,
+      c.len.ensures.len,
+      c.len-then-not-put_short.ensures.len,
+      ap length c.if-not-put_short.ensures.items,
+      so_far_long c.args.table.now c.args.rows.now c.args.out.now.items c.loop-index.index c.loop-index.out.items was.so_far,
+    )
+
+pub overflow_add-most : goal.overflow_add-most
+overflow_add-most g c = omega (arith, c.requires.whole.small, c.len.ensures.few)
+
+pub overflow_sub-most : goal.overflow_sub-most
+overflow_sub-most g c =
+    let same = ap length c.if-not-put_short.ensures.items in
+    omega (arith, c.loop-index.invariant.limit, c.len.ensures.len, c.len-then-not-put_short.ensures.len, same)
+
+pub loop-index-smaller : goal.loop-index-smaller
+loop-index-smaller g c = omega (arith, c.loop-index-test.true, c.count.ensures)

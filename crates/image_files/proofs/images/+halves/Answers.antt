@@ -34,3 +34,21 @@ returns-clause-read g t c =
       | inr two ↦ All-same is_read all (low.images.items ++ high.images.items) two
           (All-append is_read low.images.items high.images.items lower upper)
     ]
+
+pub overflow_sub-less : goal.overflow_sub-less
+overflow_sub-less g t c = omega arith
+
+pub read_in_turn-requires : goal.read_in_turn-requires
+read_in_turn-requires g t c = c.requires
+
+pub returns-then-forks-eq0-clause-count : goal.returns-then-forks-eq0-clause-count
+returns-then-forks-eq0-clause-count g t c = c.read_in_turn.ensures.count
+
+pub returns-then-forks-eq0-clause-read : goal.returns-then-forks-eq0-clause-read
+returns-then-forks-eq0-clause-read g t c = c.read_in_turn.ensures.read
+
+pub join+arg2-returns : goal.join+arg2-returns
+join+arg2-returns g t c = record { count = c.read_from.ensures.count; read = c.read_from.ensures.read }
+
+pub join+arg3-returns : goal.join+arg3-returns
+join+arg3-returns g t c = record { count = c.read_from.ensures.count; read = c.read_from.ensures.read }

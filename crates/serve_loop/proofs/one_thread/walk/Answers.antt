@@ -1,6 +1,7 @@
-use Rattle.std.proofs.Common.{◌++◌, ◌∙◌, append-nil, ap, arith, length, length-append, sym, []}
+use Rattle.std.proofs.Common.{◌<◌, ◌++◌, ◌∙◌, append-nil, ap, arith, inl, length, length-append, sym, []}
 use Rattle.std.proofs.lemmas.List.{take_rest}
-use Rattle.serve_loop.proofs.Walking.{appended, as_long, first_within, nothing_so_far, one_first, one_more, so_far_within}
+use Rattle.std.proofs.lemmas.Result.{IfOk-from_err}
+use Rattle.serve_loop.proofs.Walking.{appended, as_long, first_within, full_round, is_round, last_round, nothing_so_far, one_first, one_more, so_far_within}
 use Rattle.serve_loop.proofs.one_thread.walk.Goals as goal
 
 pub loop-round-init : goal.loop-round-init
@@ -80,3 +81,25 @@ overflow_add-round-in-Whole g c = omega arith
 
 pub loop-round-smaller : goal.loop-round-smaller
 loop-round-smaller g c = omega arith
+
+pub returns-in_err-round-in-Whole : goal.returns-in_err-round-in-Whole
+returns-in_err-round-in-Whole g c = IfOk-from_err c.from_residual.result _ c.from_residual.ensures.0
+
+pub returns-after-loop-round : goal.returns-after-loop-round
+returns-after-loop-round g c =
+    let (put, e, f) = c.loop-round.invariant in
+    (put, e, is_round _ _ _ c.loop-round.round put _ f (inl (omega (arith, c.loop-round-test.false))))
+
+pub returns-else-len-begun-lt-ENOUGH_REPLIES : goal.returns-else-len-begun-lt-ENOUGH_REPLIES
+returns-else-len-begun-lt-ENOUGH_REPLIES g c =
+    let (put, e, f) = c.loop-round.invariant in
+    let l = ap length e in
+    let a = length-append c.args.replies.now.items put in
+    let some : 0 < length put = omega (arith, c.len.ensures.len, c.len-begun.ensures.len) in
+    (put, e, full_round _ _ _ c.loop-round.round put _ f some)
+
+pub returns-in-More : goal.returns-in-More
+returns-in-More g c =
+    let (put, e, f) = c.loop-round.invariant in
+    let left = take_rest c.args.stream.now c.loop-round.round.used in
+    (put, e, last_round _ _ _ c.loop-round.round put _ _ c.frame.result f left c.frame.ensures c.in-More.is)
