@@ -1,8 +1,8 @@
-use Rattle.std.proofs.Common.{◌≡◌, ◌∙◌, sym, subst, map, length}
+use Rattle.std.proofs.Common.{◌∙◌, sym, subst}
 use mathlib.Core.List.{map-id}
-use Rattle.stack_prepare.specs.Layers.{AreRefused, IsFew}
+use Rattle.stack_prepare.specs.Layers.{AreRefused}
 use Rattle.stack_prepare.specs.Preparing.{AreStacked}
-use Rattle.stack_prepare.proofs.Apart.{are_stacked, few_held, passed_on}
+use Rattle.stack_prepare.proofs.Apart.{are_stacked, passed_on}
 use Rattle.stack_prepare.proofs.preparing.prepare_kept.Goals as goal
 
 pub returns-clause-ok : goal.returns-clause-ok
@@ -17,9 +17,3 @@ returns-in_err-images-clause-err g c =
     c.in_err-images.ensures.err in
     passed_on c.from_residual.result (λ refusal. AreRefused c.args.profile c.args.images.items refusal) c.in_err-images.field-0.0
     c.from_residual.ensures.1 why
-
-pub table_of-requires : goal.table_of-requires
-table_of-requires g c =
-    let held = c.kept.ensures ∙ sym (map-id c.in_ok-images.images.items) in
-    let few = subst (λ xs. IsFew (length xs)) (sym held) (few_held c.in_ok-images.ensures.ok) in
-    (c.type_bounds.send-A, (c.type_bounds.sync-R, (c.type_bounds.sync-A, (c.type_bounds.sync-G, (c.type_bounds.frees-A-Allocator, few)))))
