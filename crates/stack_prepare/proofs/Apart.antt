@@ -1,6 +1,6 @@
 -- What is kept of images that were checked, taken apart and stacked: `are_stacked` is the main lemma.
 -- Where no attributes are read a stack shows what it shows without rows (`unasked`).
-use Rattle.std.proofs.Common.{◌≡◌, ◌∙◌, sym, ap, subst, ℕ, zero, suc, List, [], ◌∷◌, ◌++◌, map, length, None, false, refl, arith, append_assoc, append-nil}
+use Rattle.std.proofs.Common.{◌≡◌, ◌∙◌, sym, ap, subst, ℕ, zero, suc, List, [], ◌∷◌, ◌++◌, map, length, None, false, refl, arith, append_assoc, append-nil, Result, Ok, Err, IfErr, IsErrAnd}
 use Rattle.std.proofs.lemmas.List.{map-append}
 use Rattle.std.specs.List.{slice_index_or}
 use Rattle.romfs_format.specs.Profiles.{reads_attributes}
@@ -14,6 +14,7 @@ use Rattle.stack_model.specs.Numbers.{Place}
 use Rattle.stack_model.specs.Attributes.{row_in, row_of, attr_of}
 use Rattle.stack_model.proofs.Modes.{as_without}
 use Rattle.table_reader.specs.Stacked.{IsTableWith}
+use Rattle.stack_prepare.specs.declared.refusal.Refusal.{Refusal}
 use Rattle.stack_prepare.specs.Checking.{seen, seen_by, AreSeen, AreApart, AreHeld}
 use Rattle.stack_prepare.specs.Preparing.{AreStacked}
 
@@ -101,3 +102,9 @@ unasked profile images stack p e s =
     let rows : slice_index_or (map (rows_shown profile) images) p.0 [] ≡ [] = none_in (rows_shown profile) (λ b. rw e refl) images p.0 in
     let none : row_of stack p ≡ None = ap (λ r. row_in r p) s.rows_are ∙ ap (λ r. row_at r p.1) rows in
     as_without stack p none s.owner_is
+
+-- a refusal that is passed on is what it was
+pub passed_on : {X : Type 0} (result : Result X Refusal) (P : Refusal → Type 0) (refusal : Refusal)
+    → IsErrAnd result (λ told. told ≡ refusal) → P refusal → IfErr result P
+passed_on (Ok x) P refusal told p = tt
+passed_on (Err e) P refusal told p = subst P (sym told) p

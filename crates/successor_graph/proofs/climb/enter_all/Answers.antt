@@ -65,3 +65,12 @@ returns-clause-entered g c =
 
 pub loop-turn-smaller : goal.loop-turn-smaller
 loop-turn-smaller g c = falls _ _ c.loop-turn-test.true
+
+pub loop-turn-init : goal.loop-turn-init
+loop-turn-init g c = record { found = c.in_ok-cycle.ensures.gathered.right; kept = record { each = λ x m. m } }
+
+pub climb-requires-clause-found : goal.climb-requires-clause-found
+climb-requires-clause-found g c = rw c.deref-in-loop-turn.ensures.value c.loop-turn.invariant.found
+
+pub climb-requires-clause-cycle : goal.climb-requires-clause-cycle
+climb-requires-clause-cycle g c = rw c.deref-in-loop-turn.ensures.value c.in_ok-cycle.ensures.gathered.is
