@@ -11,7 +11,7 @@ bounds-layers-layer g c = layer_within c.args.rows.now c.args.layers.now c.args.
 pub offset_bounds-layers-layer : goal.offset_bounds-layers-layer
 offset_bounds-layers-layer g c =
     let within : c.args.node.now.place.layer < length c.args.layers.now = layer_within c.args.rows.now c.args.layers.now
-        c.args.node.now.place c.in-Some.position [] c.args.stamps.now.items c.requires (sym c.in-Some.ensures) in
+    c.args.node.now.place c.in-Some.position [] c.args.stamps.now.items c.requires (sym c.in-Some.ensures) in
     search rules
 
 pub set_stamp-requires : goal.set_stamp-requires
