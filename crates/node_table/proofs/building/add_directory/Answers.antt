@@ -27,17 +27,20 @@ add_rows-requires g c =
 
 pub slice_bounds-add_keys-count : goal.slice_bounds-add_keys-count
 slice_bounds-add_keys-count g c =
-    let start : c.len-rows_start.result ≡ length c.into.inside.rows.items = omega (arith, c.len-rows_start.ensures, c.into.inside.rows.ok.0) in
+    let start : c.len-rows_start.result ≡ length c.into.inside.rows.items =
+    omega (arith, c.len-rows_start.ensures, c.into.inside.rows.ok.0) in
     start_within _ _ _ _ _ c.in_ok-directories.ensures.rows_are start c.deref.ensures.value
 
 pub offset_bounds-deref-rows_start : goal.offset_bounds-deref-rows_start
 offset_bounds-deref-rows_start g c =
-    let start : c.len-rows_start.result ≡ length c.into.inside.rows.items = omega (arith, c.len-rows_start.ensures, c.into.inside.rows.ok.0) in
+    let start : c.len-rows_start.result ≡ length c.into.inside.rows.items =
+    omega (arith, c.len-rows_start.ensures, c.into.inside.rows.ok.0) in
     start_within _ _ _ _ _ c.in_ok-directories.ensures.rows_are start c.deref.ensures.value
 
 pub slice_bounds-add_keys-start : goal.slice_bounds-add_keys-start
 slice_bounds-add_keys-start g c =
-    let start : c.len-rows_start.result ≡ length c.into.inside.rows.items = omega (arith, c.len-rows_start.ensures, c.into.inside.rows.ok.0) in
+    let start : c.len-rows_start.result ≡ length c.into.inside.rows.items =
+    omega (arith, c.len-rows_start.ensures, c.into.inside.rows.ok.0) in
     start_within _ _ _ _ _ c.in_ok-directories.ensures.rows_are start c.deref.ensures.value
 
 pub returns : goal.returns
