@@ -22,5 +22,6 @@ same o f g e m = subst (λ h. MatchOption o (h ≡ None) (λ x. h ≡ Some x)) (
 pub tells_first : {A : Type 0} (all xs ys : List A) (i : ℕ) (o : Option A) → all ≡ xs ++ ys → i < length xs → Tells xs i o → Tells all i o
 tells_first all xs ys i o e l m = subst (λ a. Tells a i o) (sym e) (same o _ _ (first xs ys i l) m)
 
-pub tells_behind : {A : Type 0} (all xs ys : List A) (i j : ℕ) (o : Option A) → all ≡ xs ++ ys → i ≡ length xs + j → Tells ys j o → Tells all i o
+pub tells_behind : {A : Type 0} (all xs ys : List A) (i j : ℕ) (o : Option A) → all ≡ xs ++ ys → i ≡ length xs + j → Tells ys j o
+    → Tells all i o
 tells_behind all xs ys i j o e p m = subst (λ a. Tells a i o) (sym e) (same o _ _ (behind xs ys i j p) m)

@@ -5,7 +5,7 @@ use Rattle.node_table.specs.Numbering.{number_among}
 use Rattle.table_reader.specs.Rows.{Line, names}
 use Rattle.node_table.specs.Building.{line_in}
 use Rattle.std.specs.Prelude.{map}
-use Rattle.node_table.proofs.Built.{fresh_lines, names_rise}
+use Rattle.node_table.proofs.Built.{fresh_lines, start_within, names_rise}
 use Rattle.node_table.proofs.building.add_directory.Goals as goal
 
 pub add_keys-requires : goal.add_keys-requires
@@ -17,6 +17,31 @@ add_keys-requires g c =
     let fresh = fresh_lines old c.add_rows.new.rows.items (map (line_in tell) cs) c.deref.result.now c.len-rows_start.result
     c.in_ok-directories.ensures.rows_are start c.deref.ensures.value in
     subst (λ (x : List Line). Rise (names x)) (sym fresh) (names_rise tell cs c.children-children.ensures.forest.names)
+
+pub overflow_add-first : goal.overflow_add-first
+overflow_add-first g c = omega (arith, c.requires.within)
+
+pub add_rows-requires : goal.add_rows-requires
+add_rows-requires g c =
+    c.requires.each c.children-children.result.now c.children-children.ensures.below c.children-children.ensures.forest
+
+pub slice_bounds-add_keys-count : goal.slice_bounds-add_keys-count
+slice_bounds-add_keys-count g c =
+    let start : c.len-rows_start.result ≡ length c.into.inside.rows.items =
+    omega (arith, c.len-rows_start.ensures, c.into.inside.rows.ok.0) in
+    start_within _ _ _ _ _ c.in_ok-directories.ensures.rows_are start c.deref.ensures.value
+
+pub offset_bounds-deref-rows_start : goal.offset_bounds-deref-rows_start
+offset_bounds-deref-rows_start g c =
+    let start : c.len-rows_start.result ≡ length c.into.inside.rows.items =
+    omega (arith, c.len-rows_start.ensures, c.into.inside.rows.ok.0) in
+    start_within _ _ _ _ _ c.in_ok-directories.ensures.rows_are start c.deref.ensures.value
+
+pub slice_bounds-add_keys-start : goal.slice_bounds-add_keys-start
+slice_bounds-add_keys-start g c =
+    let start : c.len-rows_start.result ≡ length c.into.inside.rows.items =
+    omega (arith, c.len-rows_start.ensures, c.into.inside.rows.ok.0) in
+    start_within _ _ _ _ _ c.in_ok-directories.ensures.rows_are start c.deref.ensures.value
 
 pub returns : goal.returns
 returns g c =

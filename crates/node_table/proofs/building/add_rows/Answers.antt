@@ -45,6 +45,15 @@ offset_bounds-children-child-index g c = omega arith
 pub bounds-children-child-index : goal.bounds-children-child-index
 bounds-children-child-index g c = omega arith
 
+pub overflow_add-at : goal.overflow_add-at
+overflow_add-at g c =
+    let lt : c.loop-child.child-index < length c.args.children.now = omega arith in
+    let f = follows (number_among c.args.walk.now.visits.items) c.args.numbers.now c.args.walk.now.sizes.items c.loop-child.at
+    c.args.children.now c.loop-child.child-index c.child-item.result lt c.child-item.is c.loop-child.invariant.1 in
+    let size = c.index-size.ensures ∙ get_or_default c.args.walk.now.sizes.items c.loop-child.at c.index-size.result.now 0 f.0.sized
+    ∙ f.0.size_is in
+    omega (arith, f.0.ends, size)
+
 pub overflow_add-directories : goal.overflow_add-directories
 overflow_add-directories g c = omega arith
 

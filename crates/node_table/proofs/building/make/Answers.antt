@@ -59,6 +59,12 @@ index-requires-in-loop-at g c =
     let above = c.index-above.ensures ∙ get_or_default c.args.walk.now.above.items _ c.index-above.result.now 0 within.placed in
     omega (arith, above, within.within, c.args.numbered.now.numbers.ok.0)
 
+pub index-requires-in-loop-at-2 : goal.index-requires-in-loop-at-2
+index-requires-in-loop-at-2 g c =
+    let all = branches g (goal.at.index-requires-in-loop-at-2 g c).In-loop-at in
+    let next = next_first all (has_start c.loop-at.at c.deref-start-items.ensures.value (omega arith)) _ c.index.ensures in
+    omega (arith, next.within, c.args.numbered.now.paths.ok.0)
+
 pub add_node-requires-clause-header : goal.add_node-requires-clause-header
 add_node-requires-clause-header g c =
     let all = branches g (goal.at.add_node-requires-clause-header g c).In-loop-at in

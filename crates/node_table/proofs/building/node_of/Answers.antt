@@ -1,9 +1,13 @@
 use Rattle.std.proofs.Common.{◌≡◌, ◌∙◌, ap, subst}
-use Rattle.std.proofs.lemmas.Option.{get_or_from_slice_get}
+use Rattle.std.proofs.lemmas.Option.{get_or_from_slice_get, slice_get_within}
 use Rattle.romfs_format.specs.declared.head.Head.{Head}
 use Rattle.romfs_format.specs.Fields.{exec, spec}
 use Rattle.romfs_reader.specs.Readers.{IsDataPart}
 use Rattle.node_table.proofs.building.node_of.Goals as goal
+
+pub bounds-images-place : goal.bounds-images-place
+bounds-images-place g c = slice_get_within c.args.images.now c.value-kind.result.place.layer c.requires.image
+    (rw c.value-kind.ensures c.requires.is)
 
 pub given-head-requires : goal.given-head-requires
 given-head-requires g c =

@@ -24,6 +24,18 @@ walk-requires g t c κs within =
     let above : c.len-at.result ≤ length c.loop-child.out.visits.items = omega (arith, at, level.1) in
     search (rules, f, above, level.0)
 
+pub index_mut-requires : goal.index_mut-requires
+index_mut-requires g t c =
+    let at : c.len-at.result ≡ length c.args.out.now.visits.items = omega (arith, c.len-at.ensures, c.args.out.now.visits.ok.0) in
+    let level = levels _ _ _ _ _ _ c.loop-child.invariant in
+    omega (arith, at, level, c.loop-child.out.sizes.ok.0)
+
+pub overflow_sub-len : goal.overflow_sub-len
+overflow_sub-len g t c =
+    let at : c.len-at.result ≡ length c.args.out.now.visits.items = omega (arith, c.len-at.ensures, c.args.out.now.visits.ok.0) in
+    let level = levels _ _ _ _ _ _ c.loop-child.invariant in
+    omega (arith, at, level, c.len.ensures, c.loop-child.out.visits.ok.0)
+
 pub returns : goal.returns
 returns g t c =
     let at : c.len-at.result ≡ length c.args.out.now.visits.items = omega (arith, c.len-at.ensures, c.args.out.now.visits.ok.0) in

@@ -1,4 +1,4 @@
-use Rattle.std.proofs.Common.{◌≡◌, ◌∙◌, ◌++◌, ◌∷◌, [], slice_index_or, slice_set, sym}
+use Rattle.std.proofs.Common.{◌≡◌, ◌∙◌, ◌++◌, ◌∷◌, ◌<◌, [], length, slice_index_or, slice_set, sym, rules}
 use Rattle.table_reader.specs.Held.{row_held, stamp_by}
 use Rattle.table_reader.specs.Stamps.{AreAllSlim}
 use Rattle.table_reader.proofs.Stamps.{all_still, keeps_push, layer_within, node_stamped, once_set, pushed, within}
@@ -7,6 +7,12 @@ use Rattle.table_reader.proofs.stamped_rows.stamp_node.Goals as goal
 pub bounds-layers-layer : goal.bounds-layers-layer
 bounds-layers-layer g c = layer_within c.args.rows.now c.args.layers.now c.args.node.now.place c.in-Some.position []
     c.args.stamps.now.items c.requires (sym c.in-Some.ensures)
+
+pub offset_bounds-layers-layer : goal.offset_bounds-layers-layer
+offset_bounds-layers-layer g c =
+    let within : c.args.node.now.place.layer < length c.args.layers.now = layer_within c.args.rows.now c.args.layers.now
+    c.args.node.now.place c.in-Some.position [] c.args.stamps.now.items c.requires (sym c.in-Some.ensures) in
+    search rules
 
 pub set_stamp-requires : goal.set_stamp-requires
 set_stamp-requires g c = within c.args.rows.now c.args.layers.now c.args.node.now.place c.in-Some.position c.index-layers-layer.result

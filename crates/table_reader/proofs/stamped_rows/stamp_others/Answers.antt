@@ -1,4 +1,4 @@
-use Rattle.std.proofs.Common.{◌≡◌, subst, refl, length, arith}
+use Rattle.std.proofs.Common.{rules, ◌≡◌, subst, refl, length, arith}
 use Rattle.std.proofs.lemmas.Option.{slice_get_read, slice_get-get_or}
 use Rattle.table_reader.specs.Stamps.{AreAllStamped}
 use Rattle.table_reader.proofs.Stamps.{keeps_same, layer_stamped}
@@ -13,6 +13,9 @@ loop-layer-init g c = record {
 
 pub bounds-layers-layer : goal.bounds-layers-layer
 bounds-layers-layer g c = let level = c.loop-layer.invariant.slim.level in omega arith
+
+pub offset_bounds-layers-layer : goal.offset_bounds-layers-layer
+offset_bounds-layers-layer g c = let level = c.loop-layer.invariant.slim.level in search rules
 
 pub stamp_others-requires : goal.stamp_others-requires
 stamp_others-requires g c =

@@ -14,7 +14,10 @@ loop-node-preserved g c = record {
 }
 
 pub loop-node-init : goal.loop-node-init
-loop-node-init g c = record { stamps = c.in_ok-stamps.ensures.items; slim = rw c.requires (all_bare c.in_ok-stamps.stamps.items c.args.rows.now) }
+loop-node-init g c = record {
+  stamps = c.in_ok-stamps.ensures.items;
+  slim = rw c.requires (all_bare c.in_ok-stamps.stamps.items c.args.rows.now);
+}
 
 pub returns-clause-stamps : goal.returns-clause-stamps
 returns-clause-stamps g c = c.loop-node.invariant.stamps

@@ -1,4 +1,4 @@
-use Rattle.std.proofs.Common.{◌∙◌, sym, ap, Some}
+use Rattle.std.proofs.Common.{◌∙◌, ◌<◌, sym, ap, length, Some, arith}
 use Rattle.table_reader.specs.Rows.{Line}
 use Rattle.table_reader.proofs.Names.{number_at, number_nowhere, place_within}
 use Rattle.table_reader.proofs.Nodes.{found, keys_end, child_is, child_none}
@@ -54,6 +54,12 @@ returns g c =
     ∙ rw (c.rows_of-rows.ensures, ← c.self.view_is)
     (child_is _ _ _ _ c.self.invariant.table c.args.number _ c.args.name.now
     (rw c.deref.ensures.value at c.in_ok-directory.ensures))
+
+pub offset_bounds-rows-at : goal.offset_bounds-rows-at
+offset_bounds-rows-at g c =
+    let within : c.in_ok-at.at < length c.rows_of-rows.result.now =
+    place_within c.args.name.now c.rows_of-rows.result.now c.in_ok-at.at (sym c.in_ok-at.ensures) in
+    omega arith
 
 pub bounds-rows-at : goal.bounds-rows-at
 bounds-rows-at g c = place_within c.args.name.now c.rows_of-rows.result.now c.in_ok-at.at (sym c.in_ok-at.ensures)
