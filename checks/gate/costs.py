@@ -1,4 +1,4 @@
-"""Where the time of a crate's proof goes, by function: python3 checks costs [--most N] CRATE
+"""Where the time of a crate's proof goes, by function and by goal: python3 checks costs [--most N] CRATE
 
 The crate is checked from nothing with one job, over what `make build` has proved of the crates below it, or `--proved
 FOLDER` holds of them; of a crate of tests, its tests. The prover writes a file for each part of a proof as it comes to
@@ -7,11 +7,16 @@ took longest, the seconds by the clock, and how much of them were its steps (`Lt
 path through it), its proof, and the tie of both. Where one function takes a tenth of its crate, fewer paths on which
 fewer things live are cheaper: split it where a `?` is passed while much is owned.
 
+Then a line of each of the N goals for which the prover took most steps. These it counts itself, so they are the same
+on every machine, whatever runs beside; a million of them takes about a second. A goal that `search` proves in millions
+of steps takes a few thousand where its answer is written out.
+
 The status is that of the check.
 """
 import argparse
 import collections
 import os
+import re
 import subprocess
 import sys
 import tempfile
@@ -21,38 +26,66 @@ from checks.gate.crates import crates_used
 from checks.gate.kit import Kit
 
 PARTS = {"Lts": "steps", "Proof": "proof", "Answers": "proof", "Goals": "proof", "Tie": "tie"}
+# a declaration in what the prover keeps of a part: its name, and the steps that it took by kind
+DECLARATION = re.compile(r'"name":"((?:[^"\\\\]|\\\\.)*)","notes":.*?"steps":\[(\d+),(\d+),(\d+)\]')
+# what stands for all members of a cycle, once each of them is proved
+OF_ALL = ("-passed", "_spec")
 
 
 def command(crate, proved, kept):
     """What checks the crate, and keeps the files of its parts below `kept`."""
     folder = "%s/crates/%s" % (ROOT, crate)
     words = Kit().build(crate, folder, crates_used()[crate], proved, 1)
-    end = words.index("--statements")
+    end = words.index("--statements" if "--statements" in words else "--toolchain")
     words[1] = "check"
     tests = ["--test"] if crate.endswith("_tests") else []
     return [*words[:end], "--incremental", kept, *tests, words[-1]], folder
 
 
+def files_of(kept):
+    """The files that were kept, by their folders: those of parts, and the records of these."""
+    for folder, _, names in os.walk(kept):
+        for name in names:
+            if name.endswith(".oantt"):
+                yield os.path.basename(folder) == "records", "%s/%s" % (folder, name)
+
+
+def place_of(crate, path):
+    """The words of the path of a part in the crate, and its kind."""
+    name = os.path.basename(path).removesuffix(".oantt").removesuffix(".decls")
+    words = name.removeprefix("Rattle-%s-" % crate).split(".")
+    return words, words[-1].partition("-")[0]
+
+
 def parts_of(kept):
     """The parts of the proof and the seconds that each took, in the order in which they came."""
-    files = []
-    for folder, _, names in os.walk(kept):
-        files += [(os.stat("%s/%s" % (folder, name)).st_mtime, name) for name in names if name.endswith(".oantt")]
-    files.sort()
-    return [(name, after - before) for (before, _), (after, name) in zip(files, files[1:])]
+    files = sorted((os.stat(path).st_mtime, path) for is_record, path in files_of(kept) if not is_record)
+    return [(path, after - before) for (before, _), (after, path) in zip(files, files[1:])]
 
 
 def by_function(crate, parts):
     """The seconds of each function, by its parts."""
     spent = collections.defaultdict(collections.Counter)
-    for name, seconds in parts:
-        words = name.removesuffix(".oantt").removesuffix(".decls").removeprefix("Rattle-%s-" % crate).split(".")
-        part = PARTS.get(words[-1].partition("-")[0])
-        if words[0] == "proofs" and part:
-            spent[".".join(words[1:-1])][part] += seconds
-        else:
-            spent["all else"]["all else"] += seconds
+    for path, seconds in parts:
+        words, kind = place_of(crate, path)
+        function = ".".join(words[1:-1]) if words[0] == "proofs" and len(words) > 2 else "all else"
+        spent[function][PARTS.get(kind, "rest")] += seconds
     return spent
+
+
+def goals_of(crate, kept):
+    """The goals of functions, each with the steps that the prover took, the most first."""
+    found = []
+    for is_record, path in files_of(kept):
+        words, kind = place_of(crate, path)
+        if not is_record or PARTS.get(kind) != "proof":
+            continue
+        with open(path, "rb") as file:
+            text = file.read().decode("utf-8", "replace")
+        for name, *steps in DECLARATION.findall(text):
+            if not name.endswith(OF_ALL):
+                found.append((sum(map(int, steps)), ".".join(words[1:-1]), name))
+    return sorted(found, reverse=True)
 
 
 def main():
@@ -66,7 +99,7 @@ def main():
     with tempfile.TemporaryDirectory() as kept:
         words, folder = command(given.crate, os.path.abspath(given.proved), kept)
         done = subprocess.run(words, cwd=folder, stdout=subprocess.PIPE, stderr=subprocess.STDOUT, text=True, check=False)
-        spent = by_function(given.crate, parts_of(kept))
+        spent, goals = by_function(given.crate, parts_of(kept)), goals_of(given.crate, kept)
     if done.returncode:
         print(done.stdout[-2000:])
     total = sum(sum(counts.values()) for counts in spent.values())
@@ -74,6 +107,9 @@ def main():
     for function, counts in sorted(spent.items(), key=lambda item: -sum(item[1].values()))[:given.most]:
         told = ", ".join("%s %.1f" % (part, seconds) for part, seconds in counts.most_common())
         print("%6.1f %s: %s" % (sum(counts.values()), function, told))
+    print("million steps of %.0f, by goal" % (sum(steps for steps, _, _ in goals) / 1e6))
+    for steps, function, goal in goals[:given.most]:
+        print("%6.1f %s: %s" % (steps / 1e6, function, goal))
     sys.exit(done.returncode)
 
 
