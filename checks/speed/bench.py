@@ -79,6 +79,19 @@ def cost(*words, output=os.devnull, packets=None):
     return min(runs_of)
 
 
+def costs(*words_of, output=os.devnull):
+    """The same of the words of each, which are run in turn: what disturbs one of them disturbs the others."""
+    runs_of = [[] for _ in words_of]
+    while len(runs_of[0]) < RUNS or len(runs_of[0]) < MANY_RUNS and min(map(seconds, runs_of)) < LONG:
+        for words, its in zip(words_of, runs_of):
+            its.append(run(words, output, None))
+    return [min(its) for its in runs_of]
+
+
+def seconds(its):
+    return sum(it.seconds for it in its)
+
+
 def apart(function, *arguments):
     """Calls a function in a process of its own, so that what it takes does not count as memory of the runs."""
     with multiprocessing.get_context("fork").Pool(1) as pool:
@@ -159,8 +172,8 @@ class Bench:
             print("%s: %d headers in %d layers" % (name, headers, len(hostile)))
             for command in commands:
                 output = self.folder + "/output"
-                costs = [cost(self.program, *command, *layers, output=output) for layers in (hostile, honest)]
-                self.held("  " + command[0], *costs)
+                words_of = [[self.program, *command, *layers] for layers in (hostile, honest)]
+                self.held("  " + command[0], *costs(*words_of, output=output))
             for path in {*hostile, *honest}:
                 os.remove(path)
 
@@ -168,7 +181,8 @@ class Bench:
         """Streams of dear requests, each against an honest one."""
         for name in inputs.STREAMS:
             image, *streams = apart(inputs.write_streams, name, self.folder)
-            honest, hostile = [cost(self.program, "serve", "--requests", it, "--replies", os.devnull, image) for it in streams]
+            words_of = [[self.program, "serve", "--requests", it, "--replies", os.devnull, image] for it in streams]
+            honest, hostile = costs(*words_of)
             self.held(name, hostile, honest)
 
     def pulls(self):
