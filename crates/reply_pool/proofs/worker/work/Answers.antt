@@ -1,4 +1,4 @@
-use Rattle.std.proofs.Common.{◌≡◌, ◌≤◌, ◌∙◌, ℕ, ◌^◌, List, [], ◌∷◌, ◌++◌, ap, arith, refl, sym, subst, append-nil, append_assoc}
+use Rattle.std.proofs.Common.{◌≡◌, ◌<◌, ◌≤◌, ◌∙◌, ℕ, ◌^◌, length, List, [], ◌∷◌, ◌++◌, ap, arith, refl, sym, subst, append-nil, append_assoc}
 use mathlib.Core.Logic.{dite}
 use native.Mathlib.Decide.{ℕ_discrete}
 use Rattle.std.specs.List.{All}
@@ -12,6 +12,7 @@ use Rattle.reply_pieces.specs.declared.pieces.Piece.{Piece}
 use Rattle.fuse_answer.specs.Puts.{sourced_by}
 use Rattle.reply_pieces.specs.Batches.{AreLight, IsPiece, numbers_of}
 use Rattle.reply_pieces.specs.Workers.{KeepsHand}
+use Rattle.reply_pieces.proofs.Batched.{begins_within}
 use Rattle.reply_pieces.proofs.Hands.{answered_below, numbers_miss, piece_of, told_more, unanswered}
 use Rattle.reply_pool.proofs.worker.work.Goals as goal
 
@@ -133,3 +134,8 @@ returns-in_err-push-clause-light g c = IfOk-from_err c.from_residual-in_err-push
 
 pub returns-clause-light : goal.returns-clause-light
 returns-clause-light g c = c.loop-number.invariant.light
+
+pub batch-requires : goal.batch-requires
+batch-requires g c =
+    begins_within (length c.args.jobs.now) c.args.size c.in-Some.number c.requires.size.0
+    (subst (λ (n : ℕ). c.in-Some.number < n) c.requires.total c.in-Some.ensures.number.0)
