@@ -56,8 +56,8 @@ pub fn replies_come_in_order<A: Allocator>()
         IsSplit (before t) messages rest → HaveReplies by messages (flushed_bytes t) }
 {}
 
-/// Where the session of a stream has begun, what was got does not say that it has not, if the stream
-/// began in a fresh session.
+/// Where the session of a stream has begun, what was got does not say that it has not, if the
+/// stream began in a fresh session.
 #[tactic(auto, using(crate::proofs::Openings::begun_or_not))]
 pub fn sessions_have_begun_or_not<A: Allocator>()
     ensures { (by : Answering) (n turns : ℕ) (t : Trace) (begun : Begun A) →

@@ -124,8 +124,8 @@ pub fn opened_images_are_judged_as_their_data()
         ↔ IsRefusal (profile_of line) bytes fault) }
 {}
 
-/// An image that is held whole, as one that comes through a pipe, is judged as all bytes of its file
-/// are, where these are known.
+/// An image that is held whole, as one that comes through a pipe, is judged as all bytes of its
+/// file are, where these are known.
 #[tactic(auto, using(crate::proofs::Rules::judged_whole))]
 pub fn whole_images_are_judged_as_their_files<A: Allocator>()
     ensures { (line : Line) (bytes : List ℕ) (image : HeldImage A) →
