@@ -4,12 +4,12 @@ The crate is checked from nothing with one job, over what `make build` has prove
 FOLDER` holds of them; of a crate of tests, its tests. The prover writes a file for each part of a proof as it comes to
 its end, so the time between two files is what the later one took. A line tells of each of the N functions (20) that
 took longest, the seconds by the clock, and how much of them were its steps (`Lts`: what may live and is dropped on each
-path through it), its proof, and the tie of both. Where one function takes a tenth of its crate, fewer paths on which
+path through it), its proof, the tie of both, and the rest. Where one function takes a tenth of its crate, fewer paths on which
 fewer things live are cheaper: split it where a `?` is passed while much is owned.
 
 Then a line of each of the N goals for which the prover took most steps. These it counts itself, so they are the same
-on every machine, whatever runs beside; a million of them takes about a second. A goal that `search` proves in millions
-of steps takes a few thousand where its answer is written out.
+on every machine, whatever runs beside; a million of them takes up to a second. A written answer may spare them, but
+not in a cycle of calls, where it has its statement made twice more: measure it.
 
 The status is that of the check.
 """

@@ -73,18 +73,15 @@ def feed(packets, pipe):
 def cost(*words, output=os.devnull, packets=None):
     """The least that some words cost, of a few runs; of many, where they are short: other programs on the machine
     disturb these most."""
-    runs_of = [run(words, output, packets) for _ in range(RUNS)]
-    while len(runs_of) < MANY_RUNS and sum(it.seconds for it in runs_of) < LONG:
-        runs_of.append(run(words, output, packets))
-    return min(runs_of)
+    return costs(words, output=output, packets=packets)[0]
 
 
-def costs(*words_of, output=os.devnull):
+def costs(*words_of, output=os.devnull, packets=None):
     """The same of the words of each, which are run in turn: what disturbs one of them disturbs the others."""
     runs_of = [[] for _ in words_of]
     while len(runs_of[0]) < RUNS or len(runs_of[0]) < MANY_RUNS and min(map(seconds, runs_of)) < LONG:
         for words, its in zip(words_of, runs_of):
-            its.append(run(words, output, None))
+            its.append(run(words, output, packets))
     return [min(its) for its in runs_of]
 
 

@@ -143,6 +143,18 @@ where
     (status, replies.taken.len())
 }
 
+/// The status of the program over a device that takes all replies, where it tells a failed read
+/// alone.
+fn end_at<R: Files + Net + Threads + Sync>(rt: &R, global: Global, words: &[&str]) -> Option<u8>
+where
+    R::File: FileExt + Send + Sync,
+    R::Dir: Send,
+{
+    let mut replies = replies_of(global, None, ENODEV);
+    let line = b"read fault\n";
+    status_of(rt, global, global, words, &mut replies, line)
+}
+
 /// The first replies have 80 and 120 bytes. Of a write ENODEV says that the mount was taken away,
 /// EIO and EINTR a fault.
 #[test]
@@ -168,5 +180,24 @@ fn a_mount_goes_on_where_nobody_waits(rt: HostRuntime) -> Result<(), Fail> {
     fs::remove_file(&rt, image.as_str())?;
     drop(image);
     assert_eq!(rt; ends, [(Some(0), 120), (Some(0), 80), (Some(0), 200)]);
+    Ok(())
+}
+
+/// The device is heard wherever it stands in the line: over these messages its reader is taken away
+/// at last, which ends well over a device alone.
+#[test]
+fn a_device_is_heard_anywhere(rt: HostRuntime) -> Result<(), Fail> {
+    let image = image_file(&rt, "anywhere")?;
+    let path = image.as_str();
+    let lines = [
+        ["serve", "--device", "--lasting", path],
+        ["serve", "--lasting", "--device", path],
+        ["serve", "--lasting", path, "--device"],
+        ["serve", path, "--lasting", "--strict"],
+    ];
+    let ends = lines.map(|words| end_at(&rt, rt.alloc(), &words));
+    fs::remove_file(&rt, path)?;
+    drop(image);
+    assert_eq!(rt; ends, [Some(0), Some(0), Some(0), Some(1)]);
     Ok(())
 }

@@ -25,7 +25,7 @@ fn is_given_up_over<R: Threads + Sync>(
 ) -> Option<bool> {
     let stream = script(alloc).ok()?;
     let requests = jobs_of(alloc, &stream).ok()?;
-    is_given_up_in(rt, alloc, table, requests.get(..jobs.min(256))?, plan, gate)
+    is_given_up_in(rt, alloc, table, requests.get(..jobs)?, plan, gate)
 }
 
 /// The same of these jobs.
