@@ -31,7 +31,7 @@ test: needed
 	$(CHECKS) links
 	$(CHECKS) crate_order
 	$(CHECKS) logic
-	rt ci
+	$(CHECKS) ci
 	$(CHECKS) wrong_bodies
 	@mkdir -p build
 	@cp crates/strata_main/out/strata_main build/strata

@@ -43,13 +43,13 @@ def chained(kind, names, first=0, spec=-1, extra=0):
             for at, name in enumerate(names)]
 
 
-def folders(count, files, extra=0, mark=b""):
-    """Headers of so many directories in the root with so many files each."""
+def folders(count, files, extra=0, mark=b"", end=b""):
+    """Headers of so many directories in the root with so many files each, whose names end with some bytes."""
     heads, each = [], files + 1
     for number in range(count):
         here = number * each
         heads.append(("directory", here + each if number < count - 1 else -1, here + 1, 0, b"d%s%d" % (mark, number), extra))
-        heads += chained("regular", [b"f%s%d" % (mark, file) for file in range(files)], here + 1, extra=extra)
+        heads += chained("regular", [b"f%s%d%s" % (mark, file, end) for file in range(files)], here + 1, extra=extra)
     return heads
 
 
@@ -110,13 +110,13 @@ def deep():
 IMAGES = {it.__name__: it for it in (honest, shared_tail, nested_merges, hard_links, one_directory, deep)}
 
 
-# --- stacks: the lowest layer first; how many headers a layer has, and how often it stands ---
+# --- stacks: the lowest layer first; how many headers a layer has, the bytes of its names, and how often it stands ---
 
-Layer = namedtuple("Layer", "image headers times")
+Layer = namedtuple("Layer", "image headers names times")
 
 
 def layer(heads, times=1):
-    return Layer(laid_out(heads), len(heads) + 1, times)
+    return Layer(laid_out(heads), len(heads) + 1, sum(len(head[4]) for head in heads), times)
 
 
 def in_folder(heads, times=1):
@@ -129,12 +129,15 @@ def names(form, count, kind="regular", first=0, spec=-1):
 
 
 def honest_stack(stack):
-    """As many layers, headers and bytes as another stack, each layer with directories of up to 1,000 files of its own."""
+    """As many layers, headers, bytes of names and bytes in all as another stack, each layer with directories of up to 1,000
+    files of its own. Names are read and kept, and data are not."""
     layers, headers = sum(it.times for it in stack), sum(it.headers * it.times for it in stack)
+    name = sum(it.names * it.times for it in stack) // headers
     each = headers // layers
     count = (each + 999) // 1000
-    extra = max(0, sum(len(it.image) * it.times for it in stack) // headers // 16 * 16 - 32)
-    return [layer(folders(count, each // count - 1, extra, mark=b"-%d-" % number)) for number in range(layers)]
+    extra = max(0, sum(len(it.image) * it.times for it in stack) // headers // 16 * 16 - 16 - padded(name + 1))
+    marks = [b"-%d-" % number for number in range(layers)]
+    return [layer(folders(count, each // count - 1, extra, mark, b"q" * (name - len(b"f%s999" % mark)))) for mark in marks]
 
 
 def names_and_markers(count=200_000):
