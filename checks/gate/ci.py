@@ -3,7 +3,7 @@
 Runs `rt ci`, tells what it tells, and reads what it says of each crates/CRATE/must-fail/NAME.edit. `rt ci` counts an edit
 that can't be applied or compiled for nothing, and one that was refused anywhere for refused. Here an edit counts where
 the first thing that the prover does not find proved stands in a file whose functions the edit changes, or in the
-written answers of that file's functions.
+written answers of that file's functions. One that changes no function but a constant counts wherever it was refused.
 
 `rt ci` tries an edit by a check of its whole crate. So an edit may leave out modules that its function does not stand
 on, by lines that put `#[cfg(test)]` before a `mod` or a `use`: what is left is checked sooner, and no contract of it is
@@ -19,23 +19,32 @@ import sys
 
 from checks import ROOT
 from checks.gate.judged import place_of
+from checks.gate.trial_edits import bodies_of
 
 TOLD = re.compile(r"rt: must-fail (\w+/[\w.-]+\.edit): (.*)")
 REFUSED = re.compile(r"refused, as it must be: (?:note: )?(?:\./)?((?:src|proofs|specs)/\S+?):\d+:\d+: ")
 LEFT_OUT = "#[cfg(test)] "
 
 
-def changed(path):
-    """The files in which an edit does more than to leave something out."""
+def is_in_body(text, old):
+    """Whether a piece of a file stands in one of its functions."""
+    line = text[:text.index(old)].count("\n")
+    return any(it.first <= line <= it.ends for it in bodies_of(text))
+
+
+def changed(crate, edit):
+    """The files of a crate in which an edit changes a function, and does more than to leave it out."""
     file, old, files = None, None, set()
-    with open(path, encoding="utf-8") as edit:
-        for line in edit.read().split("\n"):
+    with open("%s/crates/%s/must-fail/%s" % (ROOT, crate, edit), encoding="utf-8") as lines:
+        for line in lines.read().split("\n"):
             word, _, rest = line.partition(": ")
             if word == "file":
                 file = rest.strip()
+                with open("%s/crates/%s/%s" % (ROOT, crate, file), encoding="utf-8") as source:
+                    text = source.read()
             elif word == "old":
                 old = rest
-            elif line.startswith("new:") and rest != LEFT_OUT + old:
+            elif line.startswith("new:") and rest != LEFT_OUT + old and is_in_body(text, old):
                 files.add(file)
     return files
 
@@ -52,8 +61,10 @@ def fault(name, outcome):
     found = REFUSED.match(outcome)
     if not found:
         return outcome
-    files = changed("%s/crates/%s/must-fail/%s" % (ROOT, crate, file))
-    return None if stands_there(found[1], files) else "refused at %s, and changes %s" % (found[1], ", ".join(sorted(files)))
+    files = changed(crate, file)
+    if not files or stands_there(found[1], files):
+        return None
+    return "refused at %s, and changes %s" % (found[1], ", ".join(sorted(files)))
 
 
 def passed_on(words):
@@ -73,12 +84,12 @@ def main(words):
     there = glob.glob(ROOT + "/crates/*/must-fail/*.edit")
     names = {"%s/%s" % (path.split("/")[-3], os.path.basename(path)) for path in there}
     faults = {name: fault(name, told[name]) for name in sorted(names & told.keys())}
-    if not words:
+    if not words and not status:
         faults.update({name: "rt ci told nothing of it" for name in sorted(names - told.keys())})
     faults = {name: why for name, why in faults.items() if why}
     for name, why in faults.items():
         print("%s does not count: %s" % (name, why))
-    print("wrong bodies of must-fail/: %d refused where they stand, %d not" % (len(told) - len(faults.keys() & told.keys()), len(faults)))
+    print("wrong bodies of must-fail/: %d refused where they stand, %d not" % (len(told.keys() - faults.keys()), len(faults)))
     return status or (1 if faults else 0)
 
 

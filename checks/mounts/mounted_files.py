@@ -99,10 +99,11 @@ def overwritten(room):
     data = laid_out(b"v", others)
 
     def change(image):
+        first = data.index(others[1].data)
         with open(image, "r+b") as out:
-            out.write(bytes(512))
-            out.seek(512)
-            out.write(data[512:])
+            out.write(bytes(first))
+            out.seek(first)
+            out.write(data[first:])
     mount, _ = while_read(room, change, others)
     hold("data", others[5].data[PAGE:2 * PAGE], part(mount.path(b"d", b"04"), PAGE, PAGE))
     mount.end()
