@@ -1,9 +1,13 @@
 //! Readers and writers that fail.
 
 use super::program::{image_file, status_of};
-use std::fs;
+use std::alloc::Global;
+use std::fs::{self, Files};
 use std::io::{self, Error, ErrorKind, Read, Write};
+use std::net::Net;
+use std::os::unix::fs::FileExt;
 use std::test::Fail;
+use std::thread::Threads;
 use test_kit::messages::{REPLIES, REQUESTS};
 
 /// A reader that gives its bytes, then fails once, and is then at its end.
@@ -69,21 +73,33 @@ fn writers_that_fail_are_told(rt: HostRuntime) -> Result<(), Fail> {
     Ok(())
 }
 
-#[test]
-fn a_reader_that_fails_is_told(rt: HostRuntime) -> Result<(), Fail> {
-    let image = image_file(&rt, "reader")?;
-    let words = ["serve", image.as_str()];
+/// The status of the program over requests behind which a read fails, and whether it writes the
+/// replies.
+fn end_of_broken<R: Files + Net + Threads + Sync>(
+    rt: &R,
+    global: Global,
+    words: &[&str],
+) -> (Option<u8>, bool)
+where
+    R::File: FileExt + Send + Sync,
+    R::Dir: Send,
+{
     let broken = Broken {
         bytes: &REQUESTS,
         has_failed: false,
     };
-    let (global, line) = (rt.alloc(), b"read fault\n");
+    let line = b"read fault\n";
     let mut output = Vec::new(global);
-    let status = status_of(&rt, global, global, &words, broken, &mut output, line);
-    let are_replies = output.as_slice() == REPLIES.as_slice();
-    drop(output);
+    let status = status_of(rt, global, global, words, broken, &mut output, line);
+    (status, output.as_slice() == REPLIES.as_slice())
+}
+
+#[test]
+fn a_reader_that_fails_is_told(rt: HostRuntime) -> Result<(), Fail> {
+    let image = image_file(&rt, "reader")?;
+    let end = end_of_broken(&rt, rt.alloc(), &["serve", image.as_str()]);
     fs::remove_file(&rt, image.as_str())?;
     drop(image);
-    assert!(rt; status == Some(1) && are_replies);
+    assert!(rt; end == (Some(1), true));
     Ok(())
 }

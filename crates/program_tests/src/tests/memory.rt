@@ -48,20 +48,32 @@ where
     refuse_in_turn(global, |memories| is_told(rt, memories, words, whole))
 }
 
+/// How many requests for memory the check and the list of an image over itself make, each of which
+/// is refused once and told.
+fn refusals_of_lines<R: Files + Net + Threads + Sync>(
+    rt: &R,
+    global: Global,
+    path: &str,
+) -> [Result<u64, u64>; 2]
+where
+    R::File: FileExt + Send + Sync,
+    R::Dir: Send,
+{
+    let sizes = b"layer 0: 96 bytes\nlayer 1: 96 bytes\n";
+    let paths = b"1 040755 2 0 1 /\n";
+    [
+        told_refusals(rt, global, &["check", path, path], Some(sizes)),
+        told_refusals(rt, global, &["list", path, path], Some(paths)),
+    ]
+}
+
 #[test]
 fn refused_memory_is_told_of_lines(rt: HostRuntime) -> Result<(), Fail> {
     let image = image_file(&rt, "lines")?;
-    let path = image.as_str();
-    let sizes = b"layer 0: 96 bytes\nlayer 1: 96 bytes\n";
-    let paths = b"1 040755 2 0 1 /\n";
-    let checking = told_refusals(&rt, rt.alloc(), &["check", path, path], Some(sizes));
-    let listing = told_refusals(&rt, rt.alloc(), &["list", path, path], Some(paths));
-    fs::remove_file(&rt, path)?;
+    let refusals = refusals_of_lines(&rt, rt.alloc(), image.as_str());
+    fs::remove_file(&rt, image.as_str())?;
     drop(image);
-    assert!(rt;
-        matches!((checking, listing), (Ok(6..), Ok(6..))),
-        "{checking:?} {listing:?}"
-    );
+    assert!(rt; matches!(refusals, [Ok(6..), Ok(6..)]), "{refusals:?}");
     Ok(())
 }
 
@@ -72,17 +84,37 @@ fn refused_memory_is_told_of_the_version(rt: HostRuntime) -> Result<(), Fail> {
     Ok(())
 }
 
+/// Whether a file has these bytes.
+fn is_in_file(rt: &HostRuntime, path: &str, bytes: &[u8]) -> bool {
+    fs::read(rt, path).is_ok_and(|read| read.as_slice() == bytes)
+}
+
+/// Whether the refused requests for memory of a stream that is served over an image are told.
+fn is_told_of_a_stream<R: Files + Net + Threads + Sync>(
+    rt: &R,
+    global: Global,
+    image: &str,
+    balances: &str,
+) -> bool
+where
+    R::File: FileExt + Send + Sync,
+    R::Dir: Send,
+{
+    let words = ["serve", "--balances", balances, image];
+    let requests = told_refusals(rt, global, &words, Some(&REPLIES));
+    matches!(requests, Ok(11..))
+}
+
 #[test]
 fn refused_memory_is_told_of_a_stream(rt: HostRuntime) -> Result<(), Fail> {
     let image = image_file(&rt, "stream")?;
     let balances = file_path(&rt, "stream", "balances")?;
-    let words = ["serve", "--balances", balances.as_str(), image.as_str()];
-    let requests = told_refusals(&rt, rt.alloc(), &words, Some(&REPLIES));
-    let lines = fs::read(&rt, balances.as_str())?;
-    let are_told = lines.as_slice() == b"1 0\n".as_slice();
-    drop(lines);
+    let is_told = is_told_of_a_stream(&rt, rt.alloc(), image.as_str(), balances.as_str());
+    let is_written = is_in_file(&rt, balances.as_str(), b"1 0\n");
     fs::remove_file(&rt, balances.as_str())?;
+    drop(balances);
     fs::remove_file(&rt, image.as_str())?;
-    assert!(rt; matches!(requests, Ok(11..)) && are_told);
+    drop(image);
+    assert!(rt; is_told && is_written);
     Ok(())
 }

@@ -11,27 +11,38 @@ use test_kit::script::{script, script_replies};
 /// written.
 type Ended = (Result<(u64, u128), Stop>, usize);
 
+/// How many messages and bytes of replies a stream over the sample image has, in so many pulls, or
+/// why it stops.
+fn served<R: Threads + Sync>(
+    rt: &R,
+    memories: &Memories,
+    turns: u32,
+    stream: &[u8],
+    output: &mut Vec<u8>,
+) -> Option<Result<(u64, u128), Stop>> {
+    let plan = Plan::new(2, 3)?;
+    let images = samples(&memories.plain, 1)?;
+    let terms = Terms {
+        first: Session::Fresh,
+        plan,
+        turns: u64::from(turns),
+        gate: &FreePass,
+    };
+    let (mut tap, mut spout) = (Tap::new(stream), Spout::new(output));
+    match serve(rt, &memories.refusing, images, &mut tap, &mut spout, &terms) {
+        Ok(done) => Some(Ok((done.messages, done.written))),
+        Err(stop) => Some(Err(stop)),
+    }
+}
+
 /// How the script over the sample image ends, in so many pulls, where what is written is the first
 /// of the replies.
 fn end_of<R: Threads + Sync>(rt: &R, memories: &Memories, turns: u32) -> Option<Ended> {
     let stream = script(memories.global).ok()?;
-    let replies = script_replies(memories.global).ok()?;
-    let images = samples(&memories.plain, 1)?;
     let mut output = Vec::new(memories.global);
-    let mut tap = Tap::new(stream.as_slice());
-    let mut spout = Spout::new(&mut output);
-    let terms = Terms {
-        first: Session::Fresh,
-        plan: Plan::new(2, 3)?,
-        turns: u64::from(turns),
-        gate: &FreePass,
-    };
-    let done = serve(rt, &memories.refusing, images, &mut tap, &mut spout, &terms);
-    drop(spout);
-    let end = match done {
-        Ok(done) => Ok((done.messages, done.written)),
-        Err(stop) => Err(stop),
-    };
+    let end = served(rt, memories, turns, &stream, &mut output)?;
+    drop(stream);
+    let replies = script_replies(memories.global).ok()?;
     replies.starts_with(&output).then_some((end, output.len()))
 }
 

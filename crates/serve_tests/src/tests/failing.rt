@@ -81,9 +81,8 @@ impl Script {
     }
 }
 
-#[test]
-fn a_source_fails_at_each_byte(rt: HostRuntime) -> Result<(), Fail> {
-    let script = Script::new(&rt, rt.alloc()).ok_or("the script")?;
+/// The first byte at which a source fails and the script does not end as it is to.
+fn wrong_source<R: Threads + Sync>(rt: &R, global: Global, script: &Script) -> Option<usize> {
     for given in 0..=652 {
         let row = Run {
             given,
@@ -92,15 +91,24 @@ fn a_source_fails_at_each_byte(rt: HostRuntime) -> Result<(), Fail> {
             ..WHOLE
         };
         let wanted = (Err(Stop::Read), replies_to(given), None);
-        assert!(rt; script.ends(&rt, rt.alloc(), row, wanted), "{given}");
+        if !script.ends(rt, global, row, wanted) {
+            return Some(given);
+        }
     }
+    None
+}
+
+#[test]
+fn a_source_fails_at_each_byte(rt: HostRuntime) -> Result<(), Fail> {
+    let script = Script::new(&rt, rt.alloc()).ok_or("the script")?;
+    let wrong = wrong_source(&rt, rt.alloc(), &script);
+    drop(script);
+    assert_eq!(rt; wrong, None);
     Ok(())
 }
 
-/// All 1,531 bytes of the replies have room, or fewer.
-#[test]
-fn a_sink_fails_at_each_byte(rt: HostRuntime) -> Result<(), Fail> {
-    let script = Script::new(&rt, rt.alloc()).ok_or("the script")?;
+/// The first size of a sink's room with which the script does not end as it is to.
+fn wrong_room<R: Threads + Sync>(rt: &R, global: Global, script: &Script) -> Option<usize> {
     for room in 0..=1531 {
         let row = Run {
             room,
@@ -112,11 +120,20 @@ fn a_sink_fails_at_each_byte(rt: HostRuntime) -> Result<(), Fail> {
         } else {
             Err(Stop::Write)
         };
-        assert!(rt;
-            script.ends(&rt, rt.alloc(), row, (end, room, None)),
-            "{room}"
-        );
+        if !script.ends(rt, global, row, (end, room, None)) {
+            return Some(room);
+        }
     }
+    None
+}
+
+/// All 1,531 bytes of the replies have room, or fewer.
+#[test]
+fn a_sink_fails_at_each_byte(rt: HostRuntime) -> Result<(), Fail> {
+    let script = Script::new(&rt, rt.alloc()).ok_or("the script")?;
+    let wrong = wrong_room(&rt, rt.alloc(), &script);
+    drop(script);
+    assert_eq!(rt; wrong, None);
     Ok(())
 }
 
@@ -136,26 +153,38 @@ const FLUSHES: [(u64, usize); 11] = [
     (10, 1531),
 ];
 
-/// Of ten flushes each is the last, behind a write, and then none.
-#[test]
-fn each_flush_fails_alone(rt: HostRuntime) -> Result<(), Fail> {
-    let script = Script::new(&rt, rt.alloc()).ok_or("the script")?;
+/// How the script ends and how many writes and flushes are made, where so many flushes succeed.
+fn end_behind(flushes: u64) -> (End, u64) {
+    if flushes == 10 {
+        (Ok((12, 1531)), 20)
+    } else {
+        let writes = flushes.saturating_mul(2).saturating_add(2);
+        (Err(Stop::Write), writes)
+    }
+}
+
+/// The first number of flushes behind which the script does not end as it is to.
+fn wrong_flush<R: Threads + Sync>(rt: &R, global: Global, script: &Script) -> Option<u64> {
     for (flushes, put) in FLUSHES {
         let row = Run {
             piece: 7,
             flushes,
             ..WHOLE
         };
-        let (end, writes) = if flushes == 10 {
-            (Ok((12, 1531)), 20)
-        } else {
-            (
-                Err(Stop::Write),
-                flushes.saturating_mul(2).saturating_add(2),
-            )
-        };
-        let wanted = (end, put, Some(writes));
-        assert!(rt; script.ends(&rt, rt.alloc(), row, wanted), "{flushes}");
+        let (end, writes) = end_behind(flushes);
+        if !script.ends(rt, global, row, (end, put, Some(writes))) {
+            return Some(flushes);
+        }
     }
+    None
+}
+
+/// Of ten flushes each is the last, behind a write, and then none.
+#[test]
+fn each_flush_fails_alone(rt: HostRuntime) -> Result<(), Fail> {
+    let script = Script::new(&rt, rt.alloc()).ok_or("the script")?;
+    let wrong = wrong_flush(&rt, rt.alloc(), &script);
+    drop(script);
+    assert_eq!(rt; wrong, None);
     Ok(())
 }

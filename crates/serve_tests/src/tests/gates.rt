@@ -12,8 +12,16 @@ use test_kit::long::{Long, stream};
 use test_kit::sample_images::{alone, empties, sample};
 use test_kit::script::script;
 
-/// How many nodes a table has over so many empty images and, where that is asked, the sample image
-/// on them.
+/// So many empty images and, where that is asked, the sample image on them.
+fn images_of(alloc: Global, count: usize, with_sample: bool) -> Option<Vec<Vec<u8>>> {
+    let mut images = empties(alloc, count)?;
+    if with_sample {
+        images.push(sample(alloc).ok()?).ok()?;
+    }
+    Some(images)
+}
+
+/// How many nodes a table has over these images.
 fn nodes_over<R: Threads + Sync, G: Gate + Sync>(
     rt: &R,
     alloc: Global,
@@ -21,11 +29,8 @@ fn nodes_over<R: Threads + Sync, G: Gate + Sync>(
     with_sample: bool,
     gate: &G,
 ) -> Option<u64> {
-    let mut images = empties(alloc, count)?;
-    if with_sample {
-        images.push(sample(alloc).ok()?).ok()?;
-    }
-    Some(prepare(rt, alloc, images, gate).ok()?.len())
+    let table = prepare(rt, alloc, images_of(alloc, count, with_sample)?, gate).ok()?;
+    Some(table.len())
 }
 
 #[test]

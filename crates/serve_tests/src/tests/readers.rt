@@ -176,7 +176,22 @@ fn served<R: Threads + Sync, A: Allocator + Copy + Send + Sync, G: Gate + Sync>(
     (ended.end, counted(&ended))
 }
 
-/// The same over the empty image, with what is answered.
+/// The same of a new device, with what is answered.
+fn seen_over<R: Threads + Sync, A: Allocator + Copy + Send + Sync, G: Gate + Sync>(
+    rt: &R,
+    alloc: A,
+    table: &Table<A>,
+    readers: u32,
+    fails: Fails,
+    gate: &G,
+) -> Option<Seen> {
+    let plan = Plan::new(2, 3)?;
+    let device = Device::new(fails);
+    let (end, done) = served(rt, alloc, table, &device, readers, plan, gate);
+    Some((end, done, device.answered.load(Ordering::SeqCst)))
+}
+
+/// The same over the empty image.
 fn seen_of<R: Threads + Sync, G: Gate + Sync>(
     rt: &R,
     memories: &Memories,
@@ -184,11 +199,8 @@ fn seen_of<R: Threads + Sync, G: Gate + Sync>(
     fails: Fails,
     gate: &G,
 ) -> Option<Seen> {
-    let plan = Plan::new(2, 3)?;
-    let device = Device::new(fails);
     let table = empty_table(rt, &memories.plain)?;
-    let (end, done) = served(rt, &memories.refusing, &table, &device, readers, plan, gate);
-    Some((end, done, device.answered.load(Ordering::SeqCst)))
+    seen_over(rt, &memories.refusing, &table, readers, fails, gate)
 }
 
 /// Of each message one reply, by one reader, two or sixteen. Each stream comes to its end, and

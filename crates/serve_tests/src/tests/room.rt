@@ -32,7 +32,6 @@ fn the_longest_round_has_room(rt: HostRuntime) -> Result<(), Fail> {
     let table = table_of(&rt, &plain, alone(&plain, mebibyte(&plain)?)?).ok_or("a table")?;
     let ends = ends_in_two_writes(&rt, global, &counting, &table);
     drop(table);
-    assert!(rt; ends == Some(true));
-    assert_eq!(rt; counting.requests(), 3);
+    assert!(rt; ends == Some(true) && counting.requests() == 3);
     Ok(())
 }
