@@ -6,8 +6,8 @@ the first thing that the prover does not find proved stands in a file whose func
 written answers of that file's functions. One that changes no function but a constant counts wherever it was refused.
 
 `rt ci` tries an edit by a check of its whole crate. So an edit may leave out modules that its function does not stand
-on, by lines that put `#[cfg(test)]` before a `mod` or a `use`: what is left is checked sooner, and no contract of it is
-another. Where something that is left wants what was left out, the edit is told here.
+on, by lines that put `#[cfg(test)]` before a `mod`, a `use` or a `fn`: what is left is checked sooner, and no contract
+of it is another. Where what is left does not compile without it, the edit is told here.
 
 The status is that of `rt ci`; 1, too, where an edit does not count.
 """
