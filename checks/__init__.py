@@ -11,6 +11,6 @@ sys.path.insert(1, TOOLS)
 STARTED = (
     "cases/cases", "fuzz/fuzz", "mounts/mounted", "installed/installed", "layers/layers_test", "layers/layers_umoci",
     "registry/registry", "speed/bench", "speed/growth",
-    "soak/soak", "threads/threads", "gate/ci", "gate/prove", "gate/costs", "gate/trials", "gate/wrong_bodies",
+    "soak/soak", "threads/threads", "gate/ci", "gate/prove", "gate/costs", "gate/trials", "gate/wrong_bodies", "gate/leave_out",
     "gate/plant", "gate/doors", "gate/links", "gate/crate_order",
     "gate/logic", "demo/demo_files", "demo/demo_layout", "demo/record")

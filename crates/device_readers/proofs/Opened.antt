@@ -2,7 +2,6 @@
 use Rattle.std.proofs.Common.{◌≡◌, ◌∙◌, ap, subst, refl, ℕ, List, length, map, Result, Ok, Err, IsErrAnd}
 use Rattle.devices.specs.States.{Devices}
 use Rattle.stack_model.specs.Listing.{Stacked}
-use Rattle.stack_model.specs.Numbers.{nodes}
 use Rattle.image_bytes.specs.Sources.{Source}
 use Rattle.reply_model.specs.declared.session.Session.{Session}
 use Rattle.reply_model.specs.Readings.{Sourced, sourced}
@@ -13,6 +12,7 @@ use Rattle.serve_loop.specs.declared.stream_fault.StreamFault.{StreamFault}
 use Rattle.serve_loop.specs.Serving.{Does}
 use Rattle.serve_loop.specs.Opening.{IsOpened}
 use Rattle.serve_core.specs.declared.stop.Stop.{Stop}
+use Rattle.serve_core.specs.Headline.{Bounds, bounds}
 use Rattle.serve_core.specs.Stops.{stop_of_fault}
 use Rattle.device_readers.specs.Readers.{IsOpenedOver}
 
@@ -23,21 +23,28 @@ same_served source stack other files more e f =
     ap (λ s. sourced s (map source files)) e ∙ ap (λ fs. sourced other (map source fs)) f
 
 -- what the loop says of a stream that begins in this session, over a stack and its sources
-abbrev pub Opened : {A : Type 0} → ℕ → Result (Opening A) StreamFault → Devices → Devices → Session → Sourced → Type 0
-Opened turns result old new first by =
-    Does (λ t. IsOpened (answering_from first by) (length (nodes by.stack.entries)) turns t result) old new
+abbrev pub Opened : {A : Type 0} → Bounds → Result (Opening A) StreamFault → Devices → Devices → Session → Sourced → Type 0
+Opened within result old new first by =
+    Does (λ t. IsOpened (answering_from first by) within.counted within.turns t result) old new
 
-module _ {A : Type 0} (turns : ℕ) (old new : Devices) where
-  -- the same of the session and the stack that a pool was made of
-  pub opened_by : (result : Result (Opening A) StreamFault) (first second : Session) (over by : Sourced) → first ≡ second → over ≡ by
-      → Opened turns result old new first over → Opened turns result old new second by
-  opened_by result first second over by e same o =
-      subst (λ b. Opened turns result old new second b) same (subst (λ s. Opened turns result old new s over) e o)
+-- with lookups of so many nodes counted
+abbrev counting : Bounds → ℕ → Bounds
+counting within counted = bounds within.turns counted
+
+module _ {A : Type 0} (within : Bounds) (old new : Devices) where
+  -- the same of the session, the stack and the number of nodes that a pool was made of
+  pub opened_by : (result : Result (Opening A) StreamFault) (first second : Session) (over by : Sourced) (counted : ℕ) → first ≡ second
+      → over ≡ by → counted ≡ within.counted → Opened (counting within counted) result old new first over
+      → Opened within result old new second by
+  opened_by result first second over by counted e same as_many o =
+      subst (λ n. Opened (counting within n) result old new second by) as_many
+      (subst (λ b. Opened (counting within counted) result old new second b) same
+      (subst (λ s. Opened (counting within counted) result old new s over) e o))
 
   -- it stopped
   pub open_stopped : (first : Session) (by : Sourced) (fault : StreamFault) (result : Result (Opening A) Stop)
       → IsErrAnd result (λ said. said ≡ stop_of_fault fault)
-      → Opened {A = A} turns (Err fault) old new first by → Does (λ t. IsOpenedOver first by turns t result) old new
+      → Opened {A = A} within (Err fault) old new first by → Does (λ t. IsOpenedOver first by within t result) old new
   open_stopped first by fault (Ok opening) e o = absurd e
   open_stopped first by fault (Err said) e (got, put, took, held, run) = (
     got,
@@ -51,8 +58,8 @@ module _ {A : Type 0} (turns : ℕ) (old new : Devices) where
   )
 
   -- the session has begun, or the stream came to its end before
-  pub opened_well : (first : Session) (by : Sourced) (opening : Opening A) → Opened turns (Ok opening) old new first by
-      → Does (λ t. IsOpenedOver first by turns t (Ok opening)) old new
+  pub opened_well : (first : Session) (by : Sourced) (opening : Opening A) → Opened within (Ok opening) old new first by
+      → Does (λ t. IsOpenedOver first by within t (Ok opening)) old new
   opened_well first by (openings.Begun begun) o = o
   opened_well first by (openings.Ended done) (got, put, took, held, run) =
       (got, put, took, held, record { run = record { ended = Ok done; result_is = refl; run = run.run }; not_begun = run.not_begun })

@@ -5,7 +5,6 @@ use Rattle.std.specs.List.{AllByRecursion}
 use Rattle.devices.specs.Counting.{no_pulls, no_pushes}
 use Rattle.devices.specs.States.{Devices}
 use Rattle.devices.specs.declared.limits.TheConstants.{MAX_TURNS}
-use Rattle.stack_model.specs.Numbers.{nodes}
 use Rattle.reply_model.specs.declared.session.Session.{Session}
 use Rattle.reply_model.specs.Readings.{Sourced}
 use Rattle.reply_pool.specs.Answers.{answering_from}
@@ -18,7 +17,7 @@ use Rattle.serve_loop.proofs.Runs.{no_memory}
 use Rattle.serve_core.specs.declared.stop.Stop.{Stop}
 use Rattle.serve_core.specs.declared.stop.Stop.TheVariants.{Memory}
 use Rattle.serve_loop.specs.declared.stream_fault.StreamFault.TheVariants as faults
-use Rattle.serve_core.specs.Headline.{IsRunFrom}
+use Rattle.serve_core.specs.Headline.{Bounds, IsRunWithin}
 use Rattle.device_readers.specs.declared.ends.Ended.{Ended}
 use Rattle.device_readers.specs.Crews.{IsOfEach, IsOfLed, alone, by_itself, halves, with_others}
 use Rattle.device_readers.specs.Ends.{IsBehind, IsOfBoth, done_of, end_of}
@@ -33,14 +32,14 @@ all_both P (x ∷ xs) ys a b = (a.0, all_both P xs ys a.1 b)
 abbrev pub Both : {A : Type 0} → Ended A → Ended A → Ended A → Type 0
 Both = λ low high all. IsOfBoth low high all
 
-module _ {A : Type 0} (first : Session) (by : Sourced) (turns : ℕ) where
+module _ {A : Type 0} (first : Session) (by : Sourced) (within : Bounds) where
   -- a reader by what its devices were before and are, and what they say at last
   pub by_devices_with : (result : Result (Done A) Stop) (old new : Devices) (input output in_said out_said : Bool) (ended : Ended A)
       → input ≡ in_said → output ≡ out_said
-      → Does (λ t. IsRunFrom first by turns t result) old new → (IsTrue input → 0 < new.source.counts.failures)
+      → Does (λ t. IsRunWithin first by within t result) old new → (IsTrue input → 0 < new.source.counts.failures)
       → (IsTrue output → 0 < new.sink.counts.failures) → ended.end ≡ end_of result input output
       → IfOk ended.done (λ v. v.items ≡ done_of result)
-      → IsAloneWith first by turns (counts_of old) in_said out_said ended
+      → IsAloneWith first by within (counts_of old) in_said out_said ended
   by_devices_with result old new input output in_said out_said ended e f (got, put, took, held, run) i o end done =
       let r : Reader A = record {
         trace = trace got put old.source.counts new.source.counts old.sink.counts new.sink.counts;
@@ -57,17 +56,17 @@ module _ {A : Type 0} (first : Session) (by : Sourced) (turns : ℕ) where
       }
 
   -- whatever they say, it was alone
-  pub alone_with : (from : Counts) (input output : Bool) (ended : Ended A) → IsAloneWith first by turns from input output ended
-      → IsAlone first by turns from ended
+  pub alone_with : (from : Counts) (input output : Bool) (ended : Ended A) → IsAloneWith first by within from input output ended
+      → IsAlone first by within from ended
   alone_with from input output ended a = record { reader = a.reader; is = a.is; told = a.told }
 
   -- a reader whose devices were new, and whose session had not begun
   pub by_new_devices : (result : Result (Done A) Stop) (old new : Devices) (input output : Bool) (ended : Ended A)
       → old.source.counts ≡ no_pulls → old.sink.counts ≡ no_pushes
-      → Does (λ t. IsNotOpenedOver first by turns t result) old new → (IsTrue input → 0 < new.source.counts.failures)
+      → Does (λ t. IsNotOpenedOver first by within t result) old new → (IsTrue input → 0 < new.source.counts.failures)
       → (IsTrue output → 0 < new.sink.counts.failures) → ended.end ≡ end_of result input output
       → IfOk ended.done (λ v. v.items ≡ done_of result)
-      → IsServedByOne first by turns ended
+      → IsServedByOne first by within ended
   by_new_devices result old new input output ended p q (got, put, took, held, opened) i o end done =
       let r : Reader A = record {
         trace = trace got put old.source.counts new.source.counts old.sink.counts new.sink.counts;
@@ -84,7 +83,7 @@ module _ {A : Type 0} (first : Session) (by : Sourced) (turns : ℕ) where
 
   -- a reader that had no memory for its room
   pub roomless : (ended : Ended A) → ended.end ≡ end_of {A = A} (Err Memory) false false → IfOk ended.done (λ v. v.items ≡ [])
-      → IsServedByOne first by turns ended
+      → IsServedByOne first by within ended
   roomless ended end done =
       let r : Reader A = record {
         trace = trace [] [] no_pulls no_pulls no_pushes no_pushes;
@@ -98,7 +97,7 @@ module _ {A : Type 0} (first : Session) (by : Sourced) (turns : ℕ) where
           run = record {
             ended = Err faults.Memory;
             result_is = refl;
-            run = no_memory (answering_from first by) (length (nodes by.stack.entries)) turns no_pulls no_pushes;
+            run = no_memory (answering_from first by) within.counted within.turns no_pulls no_pushes;
           };
           first_pull = refl;
           first_push = refl;
@@ -110,11 +109,11 @@ module _ {A : Type 0} (first : Session) (by : Sourced) (turns : ℕ) where
       }
 
   -- whether or not the session had begun, it was alone
-  pub one_alone : (ended : Ended A) → IsServedByOne first by turns ended → IsAlone first by turns unused ended
+  pub one_alone : (ended : Ended A) → IsServedByOne first by within ended → IsAlone first by within unused ended
   one_alone ended s = record { reader = s.reader; is = s.is; told = s.told }
 
   -- one new reader
-  one_new : (ended : Ended A) (count : ℕ) → count ≡ 1 → IsAlone first by turns unused ended → AreServedNew first by turns count ended
+  one_new : (ended : Ended A) (count : ℕ) → count ≡ 1 → IsAlone first by within unused ended → AreServedNew first by within count ended
   one_new ended count one a = record {
     readers = a.reader ∷ [];
     new = record { count_is = sym one; each = (a.is, tt) };
@@ -122,8 +121,8 @@ module _ {A : Type 0} (first : Session) (by : Sourced) (turns : ℕ) where
   }
 
   -- new readers in two groups
-  both_new : (m n count : ℕ) (low high all : Ended A) → m + n ≡ count → AreServedNew first by turns m low
-      → AreServedNew first by turns n high → IsOfBoth low high all → AreServedNew first by turns count all
+  both_new : (m n count : ℕ) (low high all : Ended A) → m + n ≡ count → AreServedNew first by within m low
+      → AreServedNew first by within n high → IsOfBoth low high all → AreServedNew first by within count all
   both_new m n count low high all sum l h both = record {
     readers = l.readers ++ h.readers;
     new = record {
@@ -133,17 +132,17 @@ module _ {A : Type 0} (first : Session) (by : Sourced) (turns : ℕ) where
     told = both_told l.readers h.readers low high all l.told h.told both;
   }
 
-  module _ (is : Ended A → Type 0) (each : (ended : Ended A) → is ended → IsAlone first by turns unused ended) where
+  module _ (is : Ended A → Type 0) (each : (ended : Ended A) → is ended → IsAlone first by within unused ended) where
     -- so many new readers, each of which came to its end by itself
-    all_new : (count : ℕ) (all : Ended A) → IsOfEach Both is count all → AreServedNew first by turns count all
+    all_new : (count : ℕ) (all : Ended A) → IsOfEach Both is count all → AreServedNew first by within count all
     all_new count all (alone one i) = one_new all count one (each all i)
     all_new count all (halves {m} {n} {low} {high} sum l h both) =
         both_new m n count low high all sum (all_new m low l) (all_new n high h) both
 
   -- one that goes on, and so many others
   pub led : (leads is : Ended A → Type 0) (from : Counts) (others : ℕ) (all : Ended A) → IsOfLed Both leads is others all
-      → ((ended : Ended A) → leads ended → IsAlone first by turns from ended)
-      → ((ended : Ended A) → is ended → IsAlone first by turns unused ended) → AreServed first by turns from (1 + others) all
+      → ((ended : Ended A) → leads ended → IsAlone first by within from ended)
+      → ((ended : Ended A) → is ended → IsAlone first by within unused ended) → AreServed first by within from (1 + others) all
   led leads is from others all (by_itself none l) on each = let a = on all l in record {
     readers = a.reader ∷ [];
     are = record {
@@ -171,8 +170,8 @@ module _ {A : Type 0} (first : Session) (by : Sourced) (turns : ℕ) where
       }
 
   -- where the session has begun, the devices may be used on
-  pub ready_on : (old new : Devices) (begun : Begun A) → old.source.counts ≡ no_pulls → old.sink.counts ≡ no_pushes → turns ≤ MAX_TURNS
-      → Does (λ t. IsOpenedOver first by turns t (Ok (openings.Begun begun))) old new → AreReady turns new
+  pub ready_on : (old new : Devices) (begun : Begun A) → old.source.counts ≡ no_pulls → old.sink.counts ≡ no_pushes → within.turns ≤ MAX_TURNS
+      → Does (λ t. IsOpenedOver first by within t (Ok (openings.Begun begun))) old new → AreReady within.turns new
   ready_on old new begun p q few (got, put, took, held, b) =
       let a = ap (λ c. c.pulls) p in let e = ap (λ c. c.ends) p in let f = ap (λ c. c.failures) p in let g = ap (λ c. c.failures) q in
       let c = b.counted in
@@ -182,9 +181,9 @@ module _ {A : Type 0} (first : Session) (by : Sourced) (turns : ℕ) where
   -- all of them, behind the opening
   pub served_by_all : (old new : Devices) (begun : Begun A) (count others : ℕ) (rest all : Ended A) → old.source.counts ≡ no_pulls
       → old.sink.counts ≡ no_pushes
-      → Does (λ t. IsOpenedOver first by turns t (Ok (openings.Begun begun))) old new → 1 + others ≡ count
-      → AreServed begun.session by turns (counts_of new) (1 + others) rest → all.end ≡ rest.end
-      → IfOk all.done (λ v. IsBehind begun.done rest.done v.items) → IsServedBy first by turns count all
+      → Does (λ t. IsOpenedOver first by within t (Ok (openings.Begun begun))) old new → 1 + others ≡ count
+      → AreServed begun.session by within (counts_of new) (1 + others) rest → all.end ≡ rest.end
+      → IfOk all.done (λ v. IsBehind begun.done rest.done v.items) → IsServedBy first by within count all
   served_by_all old new begun count others rest all p q (got, put, took, held, b) sum s end done = inl (record {
     opening = trace got put old.source.counts new.source.counts old.sink.counts new.sink.counts;
     first_pull = p;
@@ -192,6 +191,6 @@ module _ {A : Type 0} (first : Session) (by : Sourced) (turns : ℕ) where
     begun = begun;
     opened = b;
     readers = s.readers;
-    are = subst (λ n. AreReaders begun.session by turns (counts_of new) n s.readers) sum s.are;
+    are = subst (λ n. AreReaders begun.session by within (counts_of new) n s.readers) sum s.are;
     told = behind_told begun.done s.readers rest all s.told end done;
   })

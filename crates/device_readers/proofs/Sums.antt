@@ -18,10 +18,9 @@ use Rattle.serve_loop.specs.declared.done.Done.{Done}
 use Rattle.serve_loop.specs.Rounds.{Answering}
 use Rattle.serve_loop.specs.Serving.{moves_of}
 use Rattle.serve_core.specs.declared.stop.Stop.{Stop}
-use Rattle.serve_core.specs.Headline.{IsRunFrom}
+use Rattle.serve_core.specs.Headline.{Bounds, IsRunWithin}
 use Rattle.serve_core.proofs.Stops.{ended_well}
 use Rattle.serve_loop.specs.Serving.{IsRun, Trace}
-use Rattle.stack_model.specs.Numbers.{nodes}
 use Rattle.device_readers.specs.Ends.{done_of}
 use Rattle.device_readers.specs.Readers.{AreReaders, Counts, IsReader, Reader, done_of_all}
 use Rattle.device_readers.specs.Laws.{CameOf, KeepsSession, sum_at}
@@ -117,45 +116,45 @@ together by nodes done parts all c p k place there =
     omega (arith, ints)
 
 -- the stream of a reader that came to its end left what its messages moved
-module _ {A : Type 0} (session : Session) (over : Sourced) (turns : ℕ) where
-  came_one : (t : Trace) (result : Result (Done A) Stop) → IsRunFrom session over turns t result
-      → (parts : List (List (List ℕ))) × CameOf (answering_from session over) (length (nodes over.stack.entries)) (done_of result) parts
+module _ {A : Type 0} (session : Session) (over : Sourced) (within : Bounds) where
+  came_one : (t : Trace) (result : Result (Done A) Stop) → IsRunWithin session over within t result
+      → (parts : List (List (List ℕ))) × CameOf (answering_from session over) within.counted (done_of result) parts
   came_one t (Ok done) run =
-      let r = subst (IsRun (answering_from session over) (length (nodes over.stack.entries)) turns t)
+      let r = subst (IsRun (answering_from session over) within.counted within.turns t)
       (ended_well done run.ended run.result_is) run.run in
       (r.messages ∷ [], (r.served.balanced, tt))
   came_one t (Err stop) run = ([], tt)
 
   came_append : (xs ys : List (Done A)) (ps qs : List (List (List ℕ)))
-      → CameOf (answering_from session over) (length (nodes over.stack.entries)) xs ps
-      → CameOf (answering_from session over) (length (nodes over.stack.entries)) ys qs
-      → CameOf (answering_from session over) (length (nodes over.stack.entries)) (xs ++ ys) (ps ++ qs)
+      → CameOf (answering_from session over) within.counted xs ps
+      → CameOf (answering_from session over) within.counted ys qs
+      → CameOf (answering_from session over) within.counted (xs ++ ys) (ps ++ qs)
   came_append [] ys [] qs c d = d
   came_append [] ys (p ∷ ps) qs c d = absurd c
   came_append (x ∷ xs) ys [] qs c d = absurd c
   came_append (x ∷ xs) ys (p ∷ ps) qs c d = (c.0, came_append xs ys ps qs c.1 d)
 
-  came_with : (r : Reader A) (readers : List (Reader A)) → IsRunFrom session over turns r.trace r.result
+  came_with : (r : Reader A) (readers : List (Reader A)) → IsRunWithin session over within r.trace r.result
       → (parts : List (List (List ℕ)))
-      × CameOf (answering_from session over) (length (nodes over.stack.entries)) (done_of_all readers) parts
+      × CameOf (answering_from session over) within.counted (done_of_all readers) parts
       → (parts : List (List (List ℕ)))
-      × CameOf (answering_from session over) (length (nodes over.stack.entries)) (done_of_all (r ∷ readers)) parts
+      × CameOf (answering_from session over) within.counted (done_of_all (r ∷ readers)) parts
   came_with r readers run (qs, d) =
       let (ps, c) = came_one r.trace r.result run in
       (ps ++ qs, came_append (done_of r.result) (done_of_all readers) ps qs c d)
 
-  came_all : (from : Counts) (readers : List (Reader A)) → AllByRecursion (IsReader session over turns from) readers
+  came_all : (from : Counts) (readers : List (Reader A)) → AllByRecursion (IsReader session over within from) readers
       → (parts : List (List (List ℕ)))
-      × CameOf (answering_from session over) (length (nodes over.stack.entries)) (done_of_all readers) parts
+      × CameOf (answering_from session over) within.counted (done_of_all readers) parts
   came_all from [] each = ([], tt)
   came_all from (r ∷ readers) each = came_with r readers each.0.run (came_all from readers each.1)
 
-  pub came : (from : Counts) (count : ℕ) (readers : List (Reader A)) → AreReaders session over turns from count readers
+  pub came : (from : Counts) (count : ℕ) (readers : List (Reader A)) → AreReaders session over within from count readers
       → (parts : List (List (List ℕ)))
-      × CameOf (answering_from session over) (length (nodes over.stack.entries)) (done_of_all readers) parts
+      × CameOf (answering_from session over) within.counted (done_of_all readers) parts
   came from count readers are =
       subst (λ rs. (parts : List (List (List ℕ)))
-      × CameOf (answering_from session over) (length (nodes over.stack.entries)) (done_of_all rs) parts)
+      × CameOf (answering_from session over) within.counted (done_of_all rs) parts)
       (sym are.readers_are) (came_with are.leader are.others are.goes_on.run (came_all _ are.others are.new.each))
 
 -- both of them, for the goals of the law

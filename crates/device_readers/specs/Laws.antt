@@ -13,7 +13,7 @@ use Rattle.serve_loop.specs.Opening.{HasNotBegun}
 use Rattle.serve_loop.specs.Rounds.{Answering}
 use Rattle.serve_loop.specs.Serving.{AreBalances, moves_of}
 use Rattle.serve_core.specs.declared.stop.Stop.TheVariants.{Read}
-use Rattle.serve_core.specs.Headline.{IsRunFrom}
+use Rattle.serve_core.specs.Headline.{Bounds, IsRunWithin}
 use Rattle.device_readers.specs.declared.ends.End.{End}
 use Rattle.device_readers.specs.Ends.{end_of, place_of_end}
 use Rattle.device_readers.specs.Readers.{Reader}
@@ -33,19 +33,20 @@ HasReader end (r ∷ readers) = (end ≡ own_end r) ⊎ HasReader end readers
 
 -- a reader's messages were served over a stack as a stream that begins in this session; where they
 -- ended, or a read failed, they are no whole messages after which it has begun
-pub record HasServedBefore {A : Type 0} (first : Session) (by : Sourced) (turns : ℕ)
+pub record HasServedBefore {A : Type 0} (first : Session) (by : Sourced) (within : Bounds)
     (r : Reader A) : Type 0 where
-  pub run : IsRunFrom first by turns r.trace r.result
+  pub run : IsRunWithin first by within r.trace r.result
   pub ended : (done : Done A) → r.result ≡ Ok done
       → HasNotBegun (answering_from first by) r.trace.got
   pub failed : r.result ≡ Err Read → HasNotBegun (answering_from first by) r.trace.got
 
--- how many lookups these streams leave with the client together, of the node at a place
+-- how many lookups these streams leave with the client together, of the node at a place, if they
+-- count these
 abbrev pub sum_at : {A : Type 0} → ℕ → List (Done A) → ℤ
 sum_at place [] = pos 0
 sum_at place (done ∷ more) = balance_at done.balances.items place +ℤ sum_at place more
 
--- each of these streams left what its messages moved
+-- each of these streams left what its messages moved, of so many of the first nodes
 abbrev pub CameOf : {A : Type 0} → Answering → ℕ → List (Done A) → List (List (List ℕ)) → Type 0
 CameOf by nodes [] [] = ⊤
 CameOf by nodes (done ∷ more) (messages ∷ others) =

@@ -1,12 +1,11 @@
 -- What the readers of one open /dev/fuse do, each a stream of its own over one stack and the
--- sources of its data.
+-- sources of its data. Each counts lookups of as many nodes as its bounds say.
 use Rattle.std.specs.Prelude.{◌≡◌, ℕ, ◌+◌, ◌<◌, ◌⊎◌, Bool, IsTrue, List, [], ◌∷◌, ◌++◌, length, Result, Ok, Err, IfOk}
 use Rattle.std.specs.List.{AllByRecursion}
 use Rattle.devices.specs.Counting.{no_pulls, no_pushes}
 use Rattle.devices.specs.declared.counts.Pulls.{Pulls}
 use Rattle.devices.specs.declared.counts.Pushes.{Pushes}
 use Rattle.devices.specs.States.{Devices}
-use Rattle.stack_model.specs.Numbers.{nodes}
 use Rattle.reply_model.specs.declared.session.Session.{Session}
 use Rattle.reply_model.specs.Readings.{Sourced}
 use Rattle.reply_pool.specs.Answers.{answering_from}
@@ -17,7 +16,7 @@ use Rattle.serve_loop.specs.declared.opening.Opening.TheVariants as openings
 use Rattle.serve_loop.specs.Serving.{Trace}
 use Rattle.serve_loop.specs.Opening.{HasBegun, WasNotBegun}
 use Rattle.serve_core.specs.declared.stop.Stop.{Stop}
-use Rattle.serve_core.specs.Headline.{IsRunFrom}
+use Rattle.serve_core.specs.Headline.{Bounds, IsRunWithin}
 use Rattle.device_readers.specs.declared.ends.End.{End}
 use Rattle.device_readers.specs.declared.ends.End.TheVariants.{AtEnd}
 use Rattle.device_readers.specs.declared.ends.Ended.{Ended}
@@ -49,9 +48,9 @@ pub record Reader (A : Type 0) : Type 0 where
 
 -- its messages were served over a stack as a stream that begins in this session, between devices
 -- that had these counts; a side is gone only after a failure of its own
-pub record IsReader {A : Type 0} (first : Session) (by : Sourced) (turns : ℕ) (from : Counts)
+pub record IsReader {A : Type 0} (first : Session) (by : Sourced) (within : Bounds) (from : Counts)
     (r : Reader A) : Type 0 where
-  pub run : IsRunFrom first by turns r.trace r.result
+  pub run : IsRunWithin first by within r.trace r.result
   pub first_pull : r.trace.source_before ≡ from.pulls
   pub first_push : r.trace.sink_before ≡ from.pushes
   pub input : IsTrue r.input_gone → 0 < r.trace.source.failures
@@ -69,20 +68,20 @@ done_of_all [] = []
 done_of_all (r ∷ readers) = done_of r.result ++ done_of_all readers
 
 -- a stream was served over a stack to its end, or until it stopped, and its session had not begun
-pub record IsNotOpenedOver {A : Type 0} (first : Session) (by : Sourced) (turns : ℕ) (t : Trace)
-    (result : Result (Done A) Stop) : Type 0 where
-  pub run : IsRunFrom first by turns t result
+pub record IsNotOpenedOver {A : Type 0} (first : Session) (by : Sourced) (within : Bounds)
+    (t : Trace) (result : Result (Done A) Stop) : Type 0 where
+  pub run : IsRunWithin first by within t result
   pub not_begun : WasNotBegun (answering_from first by) t run.ended
 
 -- a stream was served over a stack until its session had begun, or before that to its end, or until
 -- it stopped
-abbrev pub IsOpenedOver : {A : Type 0} → Session → Sourced → ℕ → Trace → Result (Opening A) Stop
-    → Type 0
-IsOpenedOver first by turns t (Ok (openings.Begun begun)) =
-    HasBegun (answering_from first by) (length (nodes by.stack.entries)) turns t begun
-IsOpenedOver first by turns t (Ok (openings.Ended done)) =
-    IsNotOpenedOver first by turns t (Ok done)
-IsOpenedOver {A} first by turns t (Err stop) = IsNotOpenedOver {A = A} first by turns t (Err stop)
+abbrev pub IsOpenedOver : {A : Type 0} → Session → Sourced → Bounds → Trace
+    → Result (Opening A) Stop → Type 0
+IsOpenedOver first by within t (Ok (openings.Begun begun)) =
+    HasBegun (answering_from first by) within.counted within.turns t begun
+IsOpenedOver first by within t (Ok (openings.Ended done)) =
+    IsNotOpenedOver first by within t (Ok done)
+IsOpenedOver {A} first by within t (Err stop) = IsNotOpenedOver {A = A} first by within t (Err stop)
 
 -- what is told of readers, behind what came of a stream before them
 pub record TellsOf {A : Type 0} (before : List (Done A)) (readers : List (Reader A))
@@ -91,73 +90,73 @@ pub record TellsOf {A : Type 0} (before : List (Done A)) (readers : List (Reader
   pub done : IfOk ended.done (λ done. done.items ≡ before ++ done_of_all readers)
 
 -- one reader between devices that had these counts came to this
-pub record IsAlone {A : Type 0} (first : Session) (by : Sourced) (turns : ℕ) (from : Counts)
+pub record IsAlone {A : Type 0} (first : Session) (by : Sourced) (within : Bounds) (from : Counts)
     (ended : Ended A) : Type 0 where
   pub reader : Reader A
-  pub is : IsReader first by turns from reader
+  pub is : IsReader first by within from reader
   pub told : TellsOf [] (reader ∷ []) ended
 
 -- the same of one of which either side says at last that it is gone, or that it is not
-pub record IsAloneWith {A : Type 0} (first : Session) (by : Sourced) (turns : ℕ) (from : Counts)
-    (input output : Bool) (ended : Ended A) : Type 0 where
+pub record IsAloneWith {A : Type 0} (first : Session) (by : Sourced) (within : Bounds)
+    (from : Counts) (input output : Bool) (ended : Ended A) : Type 0 where
   pub reader : Reader A
-  pub is : IsReader first by turns from reader
+  pub is : IsReader first by within from reader
   pub input_is : reader.input_gone ≡ input
   pub output_is : reader.output_gone ≡ output
   pub told : TellsOf [] (reader ∷ []) ended
 
 -- so many readers with devices of their own, each in a stream that begins in this session
-pub record AreNew {A : Type 0} (first : Session) (by : Sourced) (turns count : ℕ)
+pub record AreNew {A : Type 0} (first : Session) (by : Sourced) (within : Bounds) (count : ℕ)
     (readers : List (Reader A)) : Type 0 where
   pub count_is : length readers ≡ count
-  pub each : AllByRecursion (IsReader first by turns unused) readers
+  pub each : AllByRecursion (IsReader first by within unused) readers
 
 -- so many readers: the first between devices that had these counts, the others new
-pub record AreReaders {A : Type 0} (first : Session) (by : Sourced) (turns : ℕ)
+pub record AreReaders {A : Type 0} (first : Session) (by : Sourced) (within : Bounds)
     (from : Counts) (count : ℕ) (readers : List (Reader A)) : Type 0 where
   pub leader : Reader A
   pub others : List (Reader A)
   pub readers_are : readers ≡ leader ∷ others
   pub count_is : count ≡ 1 + length others
-  pub goes_on : IsReader first by turns from leader
-  pub new : AreNew first by turns (length others) others
+  pub goes_on : IsReader first by within from leader
+  pub new : AreNew first by within (length others) others
 
 -- so many new readers came to this
-pub record AreServedNew {A : Type 0} (first : Session) (by : Sourced) (turns count : ℕ)
+pub record AreServedNew {A : Type 0} (first : Session) (by : Sourced) (within : Bounds) (count : ℕ)
     (ended : Ended A) : Type 0 where
   pub readers : List (Reader A)
-  pub new : AreNew first by turns count readers
+  pub new : AreNew first by within count readers
   pub told : TellsOf [] readers ended
 
 -- so many readers came to this, the first of them between devices that had these counts
-pub record AreServed {A : Type 0} (first : Session) (by : Sourced) (turns : ℕ) (from : Counts)
+pub record AreServed {A : Type 0} (first : Session) (by : Sourced) (within : Bounds) (from : Counts)
     (count : ℕ) (ended : Ended A) : Type 0 where
   pub readers : List (Reader A)
-  pub are : AreReaders first by turns from count readers
+  pub are : AreReaders first by within from count readers
   pub told : TellsOf [] readers ended
 
 -- one reader served until the session had begun; from then on so many, it among them, served in
 -- that session
-pub record IsServedByAll {A : Type 0} (first : Session) (by : Sourced) (turns count : ℕ)
+pub record IsServedByAll {A : Type 0} (first : Session) (by : Sourced) (within : Bounds) (count : ℕ)
     (ended : Ended A) : Type 0 where
   pub opening : Trace
   pub first_pull : opening.source_before ≡ no_pulls
   pub first_push : opening.sink_before ≡ no_pushes
   pub begun : Begun A
-  pub opened : IsOpenedOver first by turns opening (Ok (openings.Begun begun))
+  pub opened : IsOpenedOver first by within opening (Ok (openings.Begun begun))
   pub readers : List (Reader A)
-  pub are : AreReaders begun.session by turns (left_by opening) count readers
+  pub are : AreReaders begun.session by within (left_by opening) count readers
   pub told : TellsOf (begun.done ∷ []) readers ended
 
 -- one reader came to this, and the session had not begun
-pub record IsServedByOne {A : Type 0} (first : Session) (by : Sourced) (turns : ℕ)
+pub record IsServedByOne {A : Type 0} (first : Session) (by : Sourced) (within : Bounds)
     (ended : Ended A) : Type 0 where
   pub reader : Reader A
-  pub is : IsReader first by turns unused reader
+  pub is : IsReader first by within unused reader
   pub not_begun : WasNotBegun (answering_from first by) reader.trace is.run.ended
   pub told : TellsOf [] (reader ∷ []) ended
 
 -- readers served a stack and its sources; or one alone, which ended before the session had begun
-abbrev pub IsServedBy : {A : Type 0} → Session → Sourced → ℕ → ℕ → Ended A → Type 0
-IsServedBy first by turns count ended =
-    IsServedByAll first by turns count ended ⊎ IsServedByOne first by turns ended
+abbrev pub IsServedBy : {A : Type 0} → Session → Sourced → Bounds → ℕ → Ended A → Type 0
+IsServedBy first by within count ended =
+    IsServedByAll first by within count ended ⊎ IsServedByOne first by within ended

@@ -6,12 +6,11 @@ ghost use Rattle.reply_model.specs.declared.session.Session.{Session};
 ghost use Rattle.reply_model.specs.Moves.{balance};
 ghost use Rattle.reply_model.specs.Readings.{Sourced};
 ghost use Rattle.reply_model.specs.Sessions.{is_fresh};
-ghost use Rattle.serve_core.specs.Headline.{IsRunFrom};
+ghost use Rattle.serve_core.specs.Headline.{Bounds, IsRunWithin};
 ghost use Rattle.reply_pool.specs.Answers.{answering_from};
 ghost use Rattle.serve_loop.specs.declared.done.Done.{Done};
 ghost use Rattle.serve_loop.specs.Rounds.{Answering};
 ghost use Rattle.serve_loop.specs.Serving.{moves_of};
-ghost use Rattle.stack_model.specs.Numbers.{nodes};
 ghost use Rattle.device_readers.specs.declared.ends.End.TheVariants.{AtEnd};
 ghost use Rattle.device_readers.specs.declared.ends.Ended.{Ended};
 ghost use Rattle.device_readers.specs.Readers.{AreReaders, Counts, IsServedByAll, IsServedByOne, Reader, TellsOf, done_of_all, end_of_all};
@@ -32,29 +31,30 @@ pub fn first_fault_is_told<A: Allocator>()
 /// Where readers served, their session had begun, and they are as many as were asked for: each
 /// one's messages were served in that session.
 pub fn readers_go_on_in_the_session<A: Allocator>()
-    ensures { (first : Session) (over : Sourced) (turns count : ℕ) (ended : Ended A) →
-        IsServedByAll first over turns count ended → (session : Session)
+    ensures { (first : Session) (over : Sourced) (within : Bounds) (count : ℕ) (ended : Ended A) →
+        IsServedByAll first over within count ended → (session : Session)
         × (is_fresh session ≡ false) × (readers : List (Reader A)) × (length readers ≡ count)
-        × AllByRecursion (λ r. IsRunFrom session over turns r.trace r.result) readers
+        × AllByRecursion (λ r. IsRunWithin session over within r.trace r.result) readers
         × (ended.end ≡ end_of_all readers) }
 {}
 
 /// Where one reader served alone, and its stream ended or a read failed, its session had not begun:
 /// what it got is no whole messages after which it has.
 pub fn one_ends_before_the_session<A: Allocator>()
-    ensures { (first : Session) (over : Sourced) (turns : ℕ) (ended : Ended A) →
-        IsServedByOne first over turns ended → (r : Reader A) × HasServedBefore first over turns r
+    ensures { (first : Session) (over : Sourced) (within : Bounds) (ended : Ended A) →
+        IsServedByOne first over within ended → (r : Reader A) × HasServedBefore first over within r
         × (ended.end ≡ end_of_all (r ∷ [])) }
 {}
 
-/// The streams of readers leave what their own messages moved. In a session that none of these
-/// changes, that is together what one stream of all of them leaves, in whatever order.
+/// The streams of readers leave what their own messages moved, of the nodes whose lookups they
+/// count. In a session that none of these messages changes, that is together what one stream of all
+/// of them leaves, in whatever order.
 #[tactic(auto, using(crate::proofs::Sums::summed))]
 pub fn moves_are_summed<A: Allocator>()
-    ensures each { (session : Session) (over : Sourced) (turns : ℕ) (from : Counts) (count : ℕ)
-        (readers : List (Reader A)) → AreReaders session over turns from count readers →
-        (parts : List (List (List ℕ))) × CameOf (answering_from session over)
-        (length (nodes over.stack.entries)) (done_of_all readers) parts }
+    ensures each { (session : Session) (over : Sourced) (within : Bounds) (from : Counts)
+        (count : ℕ) (readers : List (Reader A)) → AreReaders session over within from count readers →
+        (parts : List (List (List ℕ))) × CameOf (answering_from session over) within.counted
+        (done_of_all readers) parts }
     ensures together { (by : Answering) (nodes : ℕ) (done : List (Done A))
         (parts : List (List (List ℕ))) (all : List (List ℕ)) → CameOf by nodes done parts →
         IsPermutation (flat_map (λ part. part) parts) all → KeepsSession by.first all →

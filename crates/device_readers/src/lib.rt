@@ -2,7 +2,7 @@
 //!
 //! [`serve_by_readers`] begins with one reader, which serves until INIT is answered. The others
 //! begin in the session that it leaves: each in a thread of its own, with a room of its own, by a
-//! `run_from` of its own over the same table and files, on the same descriptor. The kernel gives
+//! `run_counting` of its own over the same table and files, on the same descriptor. The kernel gives
 //! each message to one read; no contract says so. Readers share nothing but what they borrow, and
 //! wait for nothing but, at last, for one another. What they came to is an [`Ended`]: the [`End`]
 //! that is told of all of them, and what each came to whose stream ended. [`laws`] say what that
@@ -18,4 +18,4 @@ mod reader;
 mod readers;
 
 pub use ends::{End, Ended};
-pub use readers::serve_by_readers;
+pub use readers::{Crew, serve_by_readers};

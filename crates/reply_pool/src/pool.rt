@@ -33,36 +33,42 @@ pub struct Pool<'a, A: Allocator, D, G: Gate, F> {
     gate: &'a G,
     // Answers so many of the first messages of a stream, by workers.
     workers: F,
+    // Of how many of the first nodes balances are kept.
+    counted: u64,
 }
 
 impl<'a, A: Allocator, G: Gate, F> Pool<'a, A, InMemory<'a>, G, F> {
     /// Answers over this table, which holds all data, by this plan, with these workers. Streams
-    /// begin in the session `first`.
+    /// begin in the session `first`. Balances are kept of all nodes.
     pub fn new(table: &'a Table<A>, first: Session, plan: Plan, gate: &'a G, workers: F) -> Self
         ensures table { result.served.table.now ≡ table.now }
         ensures files { result.served.files.now ≡ [] }
         ensures first { result.first ≡ first }
         ensures plan { result.plan ≡ plan }
         ensures workers { result.workers ≡ workers }
+        ensures counted { result.counted ≡ length (nodes table.now.entries) }
     {
-        Pool::over(Served::held(table), first, plan, gate, workers)
+        Pool::over(Served::held(table), first, plan, gate, workers, table.len())
     }
 }
 
 impl<'a, A: Allocator, D: Contents, G: Gate, F> Pool<'a, A, D, G, F> {
-    /// The same over a table and the files of its layers.
+    /// The same over a table and the files of its layers. Balances are kept of so many of the first
+    /// nodes.
     pub fn over(
         served: Served<'a, A, D>,
         first: Session,
         plan: Plan,
         gate: &'a G,
         workers: F,
+        counted: u64,
     ) -> Self
         ensures table { result.served.table.now ≡ served.entry.table.now }
         ensures files { result.served.files.now ≡ served.entry.files.now }
         ensures first { result.first ≡ first }
         ensures plan { result.plan ≡ plan }
         ensures workers { result.workers ≡ workers }
+        ensures counted { result.counted ≡ counted }
     {
         Pool {
             served,
@@ -70,6 +76,7 @@ impl<'a, A: Allocator, D: Contents, G: Gate, F> Pool<'a, A, D, G, F> {
             plan,
             gate,
             workers,
+            counted,
         }
     }
 
@@ -103,8 +110,6 @@ struct CallersThread<'r, A: Allocator, D, G: Gate> {
 impl<'r, A: Allocator, D: Contents, G: Gate> AnswersOne for CallersThread<'r, A, D, G> {
     ghost answering = { λ round. answering_from round.first (sourced_by D.source round.served) };
 
-    ghost nodes = { λ round. length (nodes round.served.table.now.entries) };
-
     fn answer<B: Allocator>(
         &self,
         number: u32,
@@ -131,7 +136,7 @@ impl<
 > AnswersRounds for Pool<'a, A, D, G, F> {
     ghost answering = { λ pool. answering_from pool.first (sourced_by D.source pool.served) };
 
-    ghost nodes = { λ pool. length (nodes pool.served.table.now.entries) };
+    ghost nodes = { λ pool. pool.counted };
 
     ghost ready = { λ pool. SpreadsRounds F.Fn pool.workers (λ p. P.whole p)
         (λ p session stream. P.answers p
@@ -142,7 +147,7 @@ impl<
     }
 
     fn nodes(&self) -> u64 {
-        self.served.table.len()
+        self.counted
     }
 
     fn answer_round<B: Allocator>(

@@ -172,7 +172,10 @@ fn end_of<A: Allocator>(row: &Row<A>) -> u8 {
 // Reads a node and its balance.
 fn read_node<A: Allocator>(table: &Table<A>, number: u64, balances: &[i128]) -> Option<u64> {
     let attr = table.attr(number)?;
-    let balance = balances.get(number.wrapping_sub(1) as usize)?;
+    let held = match balances.get(number.wrapping_sub(1) as usize) {
+        Some(balance) => *balance == 0,
+        None => false,
+    };
     let told = attr.size ^ attr.seconds ^ u64::from(attr.mode ^ attr.nlink);
-    Some(told ^ u64::from(*balance == 0))
+    Some(told ^ u64::from(held))
 }

@@ -30,7 +30,7 @@ use Rattle.serve_loop.proofs.Ends.{served}
 use Rattle.serve_core.specs.declared.stop.Stop.{Stop}
 use Rattle.serve_core.specs.declared.stop.Stop.TheVariants.{Layer, Layers}
 use Rattle.serve_core.specs.Stops.{IsRefusal, stop_of_fault, stop_of_refusal}
-use Rattle.serve_core.specs.Headline.{Call, HasServedAll, HasServedOver, IsAtOnce, IsNotBegun, IsRefusedFor, RunsFrom, ServesBetween}
+use Rattle.serve_core.specs.Headline.{Bounds, Call, HasServedAll, HasServedOver, IsAtOnce, IsNotBegun, IsRefusedFor, RunsWithin, ServesBetween}
 use Rattle.serve_core.proofs.Stops.{broken_told, ended_well, many_told, never_broken, never_many, same_stop}
 
 -- two results that are faults of a stream are so of one
@@ -46,12 +46,12 @@ spread_answers first over by s stream (Ok spread) same out = (first, over, refl,
 spread_answers first over by s stream (Err e) same out = tt
 
 -- where the stream of a run was not served to its end, the run tells so
-pub run_stopped : {A : Type 0} (first : Session) (by : Sourced) (turns : ℕ) (fault : StreamFault) (result : Result (Done A) Stop)
+pub run_stopped : {A : Type 0} (first : Session) (by : Sourced) (within : Bounds) (fault : StreamFault) (result : Result (Done A) Stop)
     (old new : Devices) → IsErrAnd result (λ said. said ≡ stop_of_fault fault)
-    → Does (λ t. IsRun {A = A} (answering_from first by) (length (nodes by.stack.entries)) turns t (Err fault)) old new
-    → (turns ≡ 0 → fault ≡ Turns) → RunsFrom first by turns result old new
-run_stopped first by turns fault (Ok done) old new e run once = absurd e
-run_stopped first by turns fault (Err said) old new e (got, put, took, held, run) once = record {
+    → Does (λ t. IsRun {A = A} (answering_from first by) within.counted within.turns t (Err fault)) old new
+    → (within.turns ≡ 0 → fault ≡ Turns) → RunsWithin first by within result old new
+run_stopped first by within fault (Ok done) old new e run once = absurd e
+run_stopped first by within fault (Err said) old new e (got, put, took, held, run) once = record {
   run = (got, put, took, held, record { ended = Err fault; result_is = ap Err e; run = run });
   end = tt;
   at_once = λ none. ap Err (e ∙ ap stop_of_fault (once none));

@@ -24,21 +24,44 @@ use Rattle.serve_core.specs.Stops.{IsRefusal, told}
 
 -- ---- run
 
+-- how a stream is served: in at most so many turns, and lookups are counted of so many of the first
+-- nodes
+pub record Bounds : Type 0 where
+  pub turns : ℕ
+  pub counted : ℕ
+
+-- the same, of its parts
+abbrev pub bounds : ℕ → ℕ → Bounds
+bounds turns counted = record { turns = turns; counted = counted }
+
+-- lookups of all nodes are counted
+abbrev pub counting_all : Sourced → ℕ → Bounds
+counting_all by turns = bounds turns (length (nodes by.stack.entries))
+
 -- a stream that begins in this session was served over a stack of layers and the sources of their
 -- data, each message as FUSE has it over the paths that they show, and its end is told
-pub record IsRunFrom {A : Type 0} (first : Session) (by : Sourced) (turns : ℕ) (t : Trace)
+pub record IsRunWithin {A : Type 0} (first : Session) (by : Sourced) (within : Bounds) (t : Trace)
     (result : Result (Done A) Stop) : Type 0 where
   pub ended : Result (Done A) StreamFault
   pub result_is : result ≡ told ended
-  pub run : IsRun (answering_from first by) (length (nodes by.stack.entries)) turns t ended
+  pub run : IsRun (answering_from first by) within.counted within.turns t ended
 
 -- it was served so between a source and a sink; at `Ok` nothing is left of the source, and with no
 -- turns the call answers `Turns`
-pub record RunsFrom {A : Type 0} (first : Session) (by : Sourced) (turns : ℕ)
+pub record RunsWithin {A : Type 0} (first : Session) (by : Sourced) (within : Bounds)
     (result : Result (Done A) Stop) (old new : Devices) : Type 0 where
-  pub run : Does (λ t. IsRunFrom first by turns t result) old new
+  pub run : Does (λ t. IsRunWithin first by within t result) old new
   pub end : OnOk result (IsAtEnd new.source.left)
-  pub at_once : turns ≡ 0 → result ≡ Err Turns
+  pub at_once : within.turns ≡ 0 → result ≡ Err Turns
+
+-- both, where lookups of all nodes are counted
+abbrev pub IsRunFrom : {A : Type 0} → Session → Sourced → ℕ → Trace → Result (Done A) Stop → Type 0
+IsRunFrom first by turns t result = IsRunWithin first by (counting_all by turns) t result
+
+abbrev pub RunsFrom : {A : Type 0} → Session → Sourced → ℕ → Result (Done A) Stop → Devices
+    → Devices → Type 0
+RunsFrom first by turns result old new =
+    RunsWithin first by (counting_all by turns) result old new
 
 -- both, where all layers are held
 abbrev pub IsRunOver : {A : Type 0} → Session → Stacked → ℕ → Trace → Result (Done A) Stop

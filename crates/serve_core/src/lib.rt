@@ -23,7 +23,7 @@ pub use preparing::{prepare, prepare_as, prepare_owned};
 pub use reply_model::Session;
 pub use reply_pool::{Plan, Served};
 pub use romfs_format::Profile;
-pub use running::{Terms, run, run_from};
+pub use running::{Terms, run, run_counting, run_from};
 pub use serve_loop::Done;
 pub use serving::{serve, serve_as, serve_owned};
 pub use stack_prepare::{Owner, SharedAllocator};

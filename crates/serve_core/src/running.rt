@@ -7,7 +7,7 @@ ghost use Rattle.devices.specs.States.{devices};
 ghost use Rattle.fuse_answer.specs.Puts.{sourced_by};
 ghost use Rattle.reply_pool.specs.Spread.{IsSpreadable, SpreadsFrom};
 ghost use Rattle.serve_loop.specs.Serving.{AreReady};
-ghost use Rattle.serve_core.specs.Headline.{RunsBetween, RunsFrom};
+ghost use Rattle.serve_core.specs.Headline.{RunsBetween, RunsFrom, RunsWithin, bounds};
 
 use crate::stop::Stop;
 use devices::{Sink, Source};
@@ -87,6 +87,33 @@ pub fn run_from<
         (devices (S.state source.old) (K.state sink.old))
         (devices (S.state source.new) (K.state sink.new)) }
 {
+    run_counting(rt, alloc, served, source, sink, terms, served.table.len())
+}
+
+/// The same, where lookups are counted of so many of the first nodes alone: with 0 of none, and
+/// no memory is taken for their balances.
+pub fn run_counting<
+    R: Threads + Sync,
+    A: SharedAllocator,
+    D: Contents + Sync,
+    S: Source,
+    K: Sink,
+    G: Gate + Sync,
+>(
+    rt: &R,
+    alloc: A,
+    served: Served<'_, A, D>,
+    source: &mut S,
+    sink: &mut K,
+    terms: &Terms<'_, G>,
+    counted: u64,
+) -> Result<Done<A>, Stop>
+    requires { AreReady terms.now.turns (devices (S.state source.old) (K.state sink.old)) }
+    ensures { RunsWithin terms.now.first (sourced_by D.source served.entry)
+        (bounds terms.now.turns counted) result
+        (devices (S.state source.old) (K.state sink.old))
+        (devices (S.state source.new) (K.state sink.new)) }
+{
     let (plan, gate) = (terms.plan, terms.gate);
     let workers = move |stream: &[u8], session: Session, messages: usize| -> Result<
         RoundPieces<A>,
@@ -97,6 +124,6 @@ pub fn run_from<
         ensures { IfOk result (λ spread.
             SpreadsFrom (sourced_by D.source served.entry) session stream.now spread) }
     { spread_out_from(rt, alloc, served, stream, session, messages, plan, gate) };
-    let pool = Pool::over(served, terms.first, plan, gate, workers);
+    let pool = Pool::over(served, terms.first, plan, gate, workers, counted);
     Ok(run_by(alloc, &pool, source, sink, terms.turns)?)
 }

@@ -1,6 +1,6 @@
 //! One message, whoever answers it.
 
-ghost use Rattle.std.specs.Prelude.{◌≡◌, ◌^◌, ◌++◌, ℕ, List, length, IfOk};
+ghost use Rattle.std.specs.Prelude.{◌≡◌, ◌^◌, ◌++◌, ℕ, List, IfOk};
 ghost use Rattle.fuse_wire.specs.Stream.{IsMessage};
 ghost use Rattle.reply_model.specs.declared.session.Session.{Session};
 ghost use Rattle.lookup_balances.specs.Balances.{AreWithin};
@@ -14,12 +14,9 @@ use std::alloc::{AllocError, Allocator};
 pub trait AnswersOne {
     ghost answering: { Self → Answering };
 
-    // How many nodes there are. They are numbered from 1 on.
-    ghost nodes: { Self → ℕ };
-
     /// Answers the message that has this number in its round, from 0 on, and says the session after
     /// it. Appends the reply, and adds what the message moves to the balances, in which node n has
-    /// the place n - 1.
+    /// the place n - 1. What it moves of a node that has none is not counted.
     ///
     /// Where memory is refused, the replies and the balances may hold a part of the answer.
     fn answer<A: Allocator>(
@@ -31,7 +28,6 @@ pub trait AnswersOne {
         balances: &mut [i128],
     ) -> Result<Session, AllocError>
         requires message { IsMessage message.now }
-        requires nodes { length balances.old ≡ nodes self.now }
         requires within { AreWithin (2 ^ 123) balances.old }
         ensures { IfOk result (λ after. AppendsAnswer (answering self.now) session message.now after
             (output replies.old.items balances.old) (output replies.new.items balances.new)) };

@@ -33,13 +33,13 @@ pub trait AnswersRounds {
     /// What a round asks for: where it calls workers, that they do what they are to do.
     ghost ready: { Self → Type 0 };
 
-    /// How many nodes there are. They are numbered from 1 on.
+    /// Of how many nodes balances are kept: the first ones, which are numbered from 1 on.
     fn nodes(&self) -> u64
         ensures { result ≡ nodes self.now };
 
     /// Answers some of the first messages of the stream's bytes in the session, and at least one,
     /// if one is whole. Appends their replies, and adds what they move to the balances, in which
-    /// node n has the place n - 1.
+    /// node n has the place n - 1. What they move of a node that has none is not counted.
     ///
     /// Where memory is refused, the replies and the balances may hold a part of the round.
     fn answer_round<A: Allocator>(
@@ -50,7 +50,6 @@ pub trait AnswersRounds {
         balances: &mut [i128],
     ) -> Result<RoundEnd, AllocError>
         requires ready { ready self.now }
-        requires nodes { length balances.old ≡ nodes self.now }
         requires within { AreWithin (2 ^ 122) balances.old }
         requires short { length stream.now ≤ 2 ^ 57 }
         ensures { IfOk result (λ round. AppendsRound (answering self.now) session stream.now round

@@ -23,7 +23,6 @@ pub fn walk<T: AnswersOne, A: Allocator>(
     replies: &mut Replies<A>,
     balances: &mut [i128],
 ) -> Result<RoundEnd, AllocError>
-    requires nodes { length balances.old ≡ T.nodes answers.now }
     requires within { AreWithin (2 ^ 122) balances.old }
     requires short { length stream.now ≤ 2 ^ 57 }
     ensures { IfOk result (λ round. AppendsRound (T.answering answers.now) session stream.now round

@@ -7,6 +7,7 @@ use Rattle.device_readers.specs.declared.ends.End.TheVariants.{AtEnd, TakenAway,
 use Rattle.device_readers.specs.declared.ends.Ended.{Ended}
 use Rattle.device_readers.specs.Readers.{IsServedBy}
 use Rattle.reply_model.specs.Readings.{Sourced}
+use Rattle.serve_core.specs.Headline.{bounds}
 use Rattle.strata.specs.declared.faults.Fault.{Fault}
 use Rattle.strata.specs.declared.faults.Fault.TheVariants as faults
 use Rattle.strata.specs.Faults.{out_of_memory, status_of, stop_status}
@@ -19,14 +20,15 @@ status_of_end (Stopped stop) = stop_status stop
 status_of_end TakenAway = 0
 status_of_end AtEnd = 0
 
--- the images that the line names are good, readers served their stack, and this is told of them
+-- the images that the line names are good, readers served their stack and counted no lookups, and
+-- this is told of them
 pub record IsShared (A : Type 0) (line : Line) (end : End) : Type 0 where
   pub images : List (List ℕ)
   pub named : NamesAsMany line images
   pub by : Sourced
   pub prepared : ArePrepared line images by
   pub ended : Ended A
-  pub served : IsServedBy (first_of line) by MAX_TURNS line.readers ended
+  pub served : IsServedBy (first_of line) by (bounds MAX_TURNS 0) line.readers ended
   pub end_is : end ≡ ended.end
 
 -- one of the images that the line names could not be read, or they are not stacked, or memory ran

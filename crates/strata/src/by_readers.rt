@@ -9,7 +9,7 @@ use crate::images::open_all;
 use crate::preparing::prepare;
 use crate::settings::{first_of, plan_of};
 use command_line::Line;
-use device_readers::{End, serve_by_readers};
+use device_readers::{Crew, End, serve_by_readers};
 use serve_core::{FreePass, MAX_TURNS, Served, Terms};
 use std::alloc::Allocator;
 use std::fs::Files;
@@ -69,7 +69,12 @@ where
         turns: MAX_TURNS,
         gate: &FreePass,
     };
-    let ended = serve_by_readers(rt, alloc, served, reader, writer, line.readers, &terms);
+    // No line asks for balances of a device.
+    let crew = Crew {
+        readers: line.readers,
+        counted: 0,
+    };
+    let ended = serve_by_readers(rt, alloc, served, reader, writer, crew, &terms);
     Ok(ended.end)
 }
 

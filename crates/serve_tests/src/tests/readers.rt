@@ -1,6 +1,6 @@
 //! Several readers of one device, which gives each message to one of them.
 
-use device_readers::{End, Ended, serve_by_readers};
+use device_readers::{Crew, End, Ended, serve_by_readers};
 use serve_core::{FreePass, Gate, MAX_TURNS, Plan, Served, Session, Stop, Terms, Work};
 use serve_test_kit::runs::table_of;
 use std::alloc::Allocator;
@@ -172,7 +172,11 @@ fn served<R: Threads + Sync, A: Allocator + Copy + Send + Sync, G: Gate + Sync>(
         gate,
     };
     let over = Served::held(table);
-    let ended = serve_by_readers(rt, alloc, over, device, device, readers.max(1), &terms);
+    let crew = Crew {
+        readers: readers.max(1),
+        counted: table.len(),
+    };
+    let ended = serve_by_readers(rt, alloc, over, device, device, crew, &terms);
     (ended.end, counted(&ended))
 }
 

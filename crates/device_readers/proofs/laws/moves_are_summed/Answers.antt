@@ -2,4 +2,4 @@ use Rattle.device_readers.proofs.Sums.{came}
 use Rattle.device_readers.proofs.laws.moves_are_summed.Goals as goal
 
 pub returns-clause-each : goal.returns-clause-each
-returns-clause-each g c = λ session over turns from count readers are. came session over turns from count readers are
+returns-clause-each g c = λ session over within from count readers are. came session over within from count readers are

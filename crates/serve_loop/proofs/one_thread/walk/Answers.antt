@@ -64,9 +64,6 @@ slice_bounds-answer-end g c = as_long _ c.in-Whole.len c.in-Whole.ensures
 pub answer-requires-clause-message : goal.answer-requires-clause-message
 answer-requires-clause-message g c = (one_first _ c.in-Whole.len c.in-Whole.ensures).each.0
 
-pub answer-requires-clause-nodes : goal.answer-requires-clause-nodes
-answer-requires-clause-nodes g c = c.loop-round.auto.balances ∙ c.requires.nodes
-
 pub overflow_add-round : goal.overflow_add-round
 overflow_add-round g c =
     let (put, e, f) = c.loop-round.invariant in

@@ -93,9 +93,6 @@ returns g c =
 pub answer_round-requires-clause-ready : goal.answer_round-requires-clause-ready
 answer_round-requires-clause-ready g c = c.requires.ready
 
-pub answer_round-requires-clause-nodes : goal.answer_round-requires-clause-nodes
-answer_round-requires-clause-nodes g c = ap length c.as_mut_slice.ensures.value ∙ c.requires.in_order.small.nodes_are
-
 pub answer_round-requires-clause-short : goal.answer_round-requires-clause-short
 answer_round-requires-clause-short g c =
     let rest = ap length c.rest.ensures in
