@@ -32,8 +32,10 @@ def plain(text):
 class Piece:
     """A function, or a block that implements a trait for a type: what may be left out by itself."""
 
-    def __init__(self, lines, kind, first, head, ends):
+    def __init__(self, lines, kind, first, head, ends, opens):
         self.kind, self.first, self.ends, self.head = kind, first, ends, lines[head].strip()
+        # the compiler can't pass over clauses with quotes
+        self.is_fixed = any('"' in it for it in lines[head:opens])
         self.text = "\n".join(lines[first:ends + 1])
         self.name = self.trait = None
         if kind == "impl":
@@ -68,12 +70,12 @@ class Source:
         for word, first, head, ends in blocks:
             is_of_trait = word == "impl" and re.search(r"\bfor\b", re.sub(r"for<", "", "\n".join(self.lines[head:ends + 1]).split("{\n")[0]))
             if is_of_trait:
-                self.pieces.append(Piece(self.lines, "impl", first, head, ends))
+                self.pieces.append(Piece(self.lines, "impl", first, head, ends, head))
         for it in bodies_of(self.text):
             within = [(word, ends) for word, first, _, ends in blocks if first <= it.first < ends]
             if not within or within[0][0] == "impl" and not any(p.first <= it.first <= p.ends for p in self.pieces):
                 head = next(at for at in range(it.first, it.ends + 1) if re.match(r" *%s(?:\w+ )*fn %s\b" % (VISIBLE, it.name), self.lines[at]))
-                self.pieces.append(Piece(self.lines, "method" if within else "fn", it.first, head, it.ends))
+                self.pieces.append(Piece(self.lines, "method" if within else "fn", it.first, head, it.ends, it.opens))
         own = {at for it in self.pieces for at in range(it.first, it.ends + 1)}
         used = r"\s*(ghost use|%suse)\b" % VISIBLE
         self.rest = plain("\n".join(line for at, line in enumerate(self.lines) if at not in own and not re.match(used, line)))
@@ -87,7 +89,7 @@ class Source:
                 first = head
                 while first and self.lines[first - 1].startswith(("#", "//")):
                     first -= 1
-                ends = next(at for at in range(head, len(self.lines)) if self.lines[at] == "}" or self.lines[at].endswith("{}"))
+                ends = next(at for at in range(head, len(self.lines)) if re.match(r"\}$|\S.*\{\}$", self.lines[at]))
                 yield word[1], first, head, ends
 
     def begins(self, piece):
@@ -132,7 +134,7 @@ class Crate:
             more = {it for path in self.files for it in self.files[path].pieces if it not in stays and (
                 it.is_named(code) or it.kind != "impl" and it.is_named(calls)
                 or path in live and it.trait in OF_TYPES and it.is_named(code + rest)
-                or path in live and not self.files[path].begins(it))}
+                or path in live and (it.is_fixed or not self.files[path].begins(it)))}
             if not more:
                 return stays, live
             stays |= more
@@ -145,10 +147,10 @@ class Crate:
 
     def lines(self, path, stays, live):
         """What stands in a file, and what is written in its place."""
-        source = self.files[path]
+        source, within = self.files[path], "" if path in ("src/lib.rt", "src/main.rt") else path[4:-3] + "/"
         for line in source.lines:
             module = re.match(VISIBLE + r"mod (\w+);", line)
-            if module and self.modules.get(module[1], path) not in live | {path}:
+            if module and self.modules.get(within + module[1], path) not in live | {path}:
                 yield line, OUT + line
         for at, ends, module, names in source.uses():
             it = self.modules.get(module)
