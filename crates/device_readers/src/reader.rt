@@ -72,15 +72,7 @@ pub(crate) fn serve_alone<
     match MessageTap::new(alloc, reader) {
         Ok(mut input) => {
             let mut output = ReplySpout::new(writer);
-            serve_on(
-                rt,
-                alloc,
-                served,
-                terms,
-                &mut input,
-                &mut output,
-                counted,
-            )
+            serve_on(rt, alloc, served, terms, &mut input, &mut output, counted)
         }
         Err(_) => ended_alone(alloc, Err(Stop::Memory), false, false),
     }
