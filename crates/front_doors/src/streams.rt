@@ -3,8 +3,7 @@
 use node_table::Table;
 pub use serve_core::{
     Done, Failed, FreePass, Gate, Owner, Plan, Profile, Session, Sink, Source, Spout, Stop, Tap,
-    Terms, Work, prepare, prepare_as, prepare_owned, run, run_counting, run_from, serve, serve_as,
-    serve_owned,
+    Terms, Work, prepare, prepare_as, prepare_owned, run, run_from, serve, serve_as, serve_owned,
 };
 use std::alloc::Allocator;
 use std::io::{Read, Write};
