@@ -1,8 +1,11 @@
 //! Trees of layers are made at the same time, but of no more than 16 parts, each after its gate.
 
 use super::stacks::wrong_of;
+use romfs_image::Image;
 use stack_core::{Gate, Work, stack};
+use std::alloc::Global;
 use std::test::Fail;
+use std::thread::Threads;
 use test_kit::gates::{Crowd, Holding, MANY, Noting, Recording};
 use test_kit::refusing::Refusing;
 use test_kit::sample_images::layers;
@@ -46,16 +49,30 @@ fn sixteen_parts_are_stacked_at_a_time(rt: HostRuntime) {
     assert!(rt; wrong == Ok(None) && gate.seen() == (128, 16));
 }
 
+/// Whether these layers have a tree that shows something.
+fn is_made<'a, R: Threads + Sync>(
+    rt: &R,
+    memory: &'a Refusing<Global>,
+    images: &[Image<&'a Refusing<Global>>],
+    gate: &Noting<'_>,
+) -> bool {
+    if images.is_empty() || 128 < images.len() {
+        return false;
+    }
+    match stack(rt, memory, images, gate) {
+        Ok(tree) => !tree.children(&[]).is_empty(),
+        Err(_) => false,
+    }
+}
+
 #[test]
 fn a_tree_is_made_behind_its_gate(rt: HostRuntime) -> Result<(), Fail> {
     let memory = Refusing::new(rt.alloc(), 0);
-    let images = layers(&memory, "1/a 2-c")?;
-    if images.is_empty() || 128 < images.len() {
-        return Err(Fail::new("one layer"));
-    }
-    let begun = memory.requests();
     let gate = Noting::new(&memory);
-    let is_made = stack(&rt, &memory, &images, &gate).is_ok_and(|it| !it.children(&[]).is_empty());
+    let images = layers(&memory, "1/a 2-c")?;
+    let begun = memory.requests();
+    let is_made = is_made(&rt, &memory, &images, &gate);
+    drop(images);
     // The list of the images that are lent is taken before.
     let listed = begun.wrapping_add(1);
     assert!(rt; is_made && listed < memory.requests() && gate.before() == listed);
