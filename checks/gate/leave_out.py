@@ -18,9 +18,7 @@ from checks.gate.trial_edits import applied, bodies_of, written_in
 
 OUT = "#[cfg(test)] "
 VISIBLE = r"(?:pub(?:\([a-z]+\))? )?"
-# what the language calls by itself
-UNCALLED = {"Add", "AddAssign", "Clone", "Copy", "Default", "Deref", "DerefMut", "Display", "Drop", "Eq", "Error", "From", "Index",
-            "IndexMut", "IntoIterator", "Iterator", "Model", "Ord", "PartialEq", "PartialOrd"}
+# traits of which a type that is only named may be asked
 OF_TYPES = {"Clone", "Copy", "Drop", "Eq", "Model", "Ord", "PartialEq", "PartialOrd"}
 
 
@@ -30,7 +28,8 @@ def plain(text):
 
 
 class Piece:
-    """A function, or a block that implements a trait for a type: what may be left out by itself."""
+    """A function, or a block that implements a trait for a type: what may be left out by itself. `opens` is the line in which
+    a function's body opens."""
 
     def __init__(self, lines, kind, first, head, ends, opens):
         self.kind, self.first, self.ends, self.head = kind, first, ends, lines[head].strip()
@@ -38,6 +37,8 @@ class Piece:
         self.is_fixed = any('"' in it for it in lines[head:opens])
         self.text = "\n".join(lines[first:ends + 1])
         self.name = self.trait = None
+        # whether its trait is one of another crate, which calls it by no name
+        self.is_foreign = False
         if kind == "impl":
             heading = re.sub(r"\{[^{}]*\}", "", " ".join(it.strip() for it in lines[head:ends + 1]).split("{ ")[0])
             while re.search(r"<[^<>]*>", heading):
@@ -53,7 +54,7 @@ class Piece:
             return re.search(r"(?<![.\w])%s\b" % self.name, text)
         if self.kind == "method":
             return re.search(r"(\.|::)\s*%s\b" % self.name, text)
-        called = self.trait in UNCALLED or re.search(r"\b%s\b" % self.trait, text)
+        called = self.is_foreign or re.search(r"\b%s\b" % self.trait, text)
         called = called or any(re.search(r"(\.|::)\s*%s\b" % it, text) for it in self.methods)
         return called and re.search(r"\b%s\b" % self.name, text)
 
@@ -115,6 +116,9 @@ class Crate:
         self.folder = folder
         self.paths = {os.path.relpath(it, folder): it for it in glob.glob(folder + "/src/**/*.rt", recursive=True)}
         self.files = {path: Source(it) for path, it in sorted(self.paths.items())}
+        types = {it for source in self.files.values() for it in source.types}
+        for piece in (it for source in self.files.values() for it in source.pieces if it.kind == "impl"):
+            piece.is_foreign = piece.trait not in types
         said = ""
         for path in glob.glob(folder + "/specs/**/*.antt", recursive=True) + glob.glob(folder + "/proofs/**/*.antt", recursive=True):
             with open(path, encoding="utf-8") as it:
@@ -153,7 +157,7 @@ class Crate:
             if module and self.modules.get(within + module[1], path) not in live | {path}:
                 yield line, OUT + line
         for at, ends, module, names in source.uses():
-            it = self.modules.get(module)
+            it = self.modules.get(within + module, self.modules.get(module))
             if it and it not in live:
                 yield source.lines[at], OUT + source.lines[at]
             elif it:
