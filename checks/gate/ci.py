@@ -2,12 +2,12 @@
 
 Runs `rt ci`, tells what it tells, and reads what it says of each crates/CRATE/must-fail/NAME.edit. `rt ci` counts an edit
 that can't be applied or compiled for nothing, and one that was refused anywhere for refused. Here an edit counts where
-the first thing that the prover does not find proved stands in a file whose functions the edit changes, or in the
-written answers of that file's functions. One that changes no function but a constant counts wherever it was refused.
+the first goal that is not proved stands in a file whose functions the edit changes, or the first error in the written
+answers of that file's functions. One that changes no function but a constant counts wherever it was refused.
 
-`rt ci` tries an edit by a check of its whole crate. So an edit may leave out modules that its function does not stand
-on, by lines that put `#[cfg(test)]` before a `mod`, a `use` or a `fn`: what is left is checked sooner, and no contract
-of it is another. Where what is left does not compile without it, the edit is told here.
+`rt ci` tries an edit by a check of its whole crate. So an edit may leave out what its function does not stand on
+(`leave_out`): what is left is checked sooner, and no contract of it is another. Where what is left does not compile
+without it, the edit is told here.
 
 The status is that of `rt ci`; 1, too, where an edit does not count.
 """
@@ -22,7 +22,7 @@ from checks.gate.judged import place_of
 from checks.gate.trial_edits import bodies_of
 
 TOLD = re.compile(r"rt: must-fail (\w+/[\w.-]+\.edit): (.*)")
-REFUSED = re.compile(r"refused, as it must be: (?:note: )?(?:\./)?((?:src|proofs|specs)/\S+?):\d+:\d+: ")
+REFUSED = re.compile(r"refused, as it must be: (?:note: )?(?:\./)?((?:src|proofs|specs)/\S+?):\d+:\d+: (?:it is not proved|error)")
 LEFT_OUT = "#[cfg(test)] "
 
 

@@ -4,7 +4,8 @@
 `#[cfg(test)]` before a `mod`, a `use`, an `impl` or a `fn` that its functions do not stand on, and take names out of a
 `use`. This writes these lines behind those of the edit's own: out go all functions that are named neither in what the
 edit changes nor in what that names in turn, and all modules of which nothing is left, unless a definition or a proof
-names a type of theirs. It goes by names, so functions of one name stay together; where it took too much the rest does
+names a type of theirs. The prover then misses functions that have written answers, and says so; that is no goal, and
+`python3 checks ci` counts goals alone. It goes by names, so functions of one name stay together; where it took too much the rest does
 not compile, and `python3 checks ci` tells that. Of a crate with several edits in must-fail/ each is tried over a proof
 of the whole crate, so there nothing is left out.
 """
@@ -126,18 +127,20 @@ class Crate:
         self.modules = {path[4:-3]: path for path in self.files if path not in ("src/lib.rt", "src/main.rt")}
         self.named = {self.modules[it] for it in self.modules if "declared.%s." % it.replace("/", ".") in said}
 
-    def left(self, texts):
-        """The pieces that stay where an edit has made these texts, and the files of which something stays."""
+    def left(self, lines):
+        """The pieces that stay where an edit has these lines, and the files of which something stays."""
+        texts = applied("\n".join(lines) + "\n", self.folder)
+        written = plain("\n".join(it[4:] for it in lines if it.startswith("new:")))
         stays = {it for path, text in texts.items() if path in self.files for it in self.files[path].pieces if it.text not in text}
         while True:
-            code = "\n".join(plain(it.text) for it in stays)
+            code = "\n".join([written, *(plain(it.text) for it in stays)])
             live = {path for path in self.modules.values() if path in self.named or self.is_live(path, stays, code)}
             rest = "\n".join(self.files[path].rest for path in live)
             live |= {path for path in self.modules.values() if self.has_type(path, rest)}
             calls = "\n".join(re.findall(r"\b\w+\s*\(|::\s*\w+", rest))
             more = {it for path in self.files for it in self.files[path].pieces if it not in stays and (
                 it.is_named(code) or it.kind != "impl" and it.is_named(calls)
-                or path in live and it.trait in OF_TYPES and it.is_named(code + rest)
+                or path in live and (it.is_foreign or it.trait in OF_TYPES) and it.is_named(code + rest)
                 or path in live and (it.is_fixed or not self.files[path].begins(it)))}
             if not more:
                 return stays, live
@@ -208,7 +211,7 @@ def left_out(crate, written):
     """The edit with the lines that leave out what it does not stand on."""
     own_lines = own(written)
     lines = list(own_lines)
-    stays, live = crate.left(applied("\n".join(lines) + "\n", crate.folder))
+    stays, live = crate.left(own_lines)
     for path in crate.files:
         if path not in crate.modules.values() or path in live:
             pairs = [it for it in crate.lines(path, stays, live) if "old: " + it[0] not in own_lines]
