@@ -126,8 +126,8 @@ def table(calls):
     """The rows of the table, and the calls for other layers alone."""
     text = read(PROMISES).partition("## Every public call returns")[2].partition("\n## ")[0]
     rows = [Row(line, calls) for line in text.splitlines() if line.startswith("| `")]
-    beside = re.search(r"^For other layers alone: (.*)$", text, re.M)
-    return rows, set(re.findall(r"`([\w:]+)`", beside.group(1)) if beside else ())
+    beside = re.findall(r"^For other layers alone, .*$", text, re.M)
+    return rows, set(re.findall(r"`([\w:]+)`", "\n".join(beside)))
 
 
 def wrong(calls, rows, beside):
