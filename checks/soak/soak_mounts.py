@@ -1,15 +1,20 @@
-"""Parts of checks/soak/soak.py with many mounts: of one image at once, and one after another."""
+"""Parts of checks/soak/soak.py with many mounts: of one image at once, and one after another; and with several readers."""
 import os
 import random
+import signal
 import subprocess
+import time
 
 from checks.shared import mounting
 from checks.shared.images import Item, flat
 from checks.shared.mounting import Failed, LeftOut, Room, apart, children, hold, places, try_mount
+from checks.soak.soak_streams import Memory, call_once
 from mount import DEVICE
 
 # the processes that read in each mount, and how often each reads all files
 READERS, ROUNDS = 8, 4
+# the processes that use a mount of several readers, and how many readers that has
+BUSY, SERVING = 16, 4
 # KiB of memory of its own that a mount of this image may hold: its names are few
 MOST_EACH = 6 << 10
 
@@ -112,3 +117,46 @@ def mounted_again(room, count):
     hold("descriptors", own, descriptors(os.getpid()))
     hold("processes", set(), children())
     return "%d mounts one after another, none left" % count
+
+
+# --- several readers ---
+
+def readers(program, folder, seconds):
+    """Processes that read, walk and ask in a mount of several readers, and are killed in all they do."""
+    return inside(program, folder, int(seconds) + 60, lambda room: killed_in(room, seconds))
+
+
+def killed_in(room, seconds):
+    files, rng, killed = files_of(random.Random(21)), random.Random(22), 0
+    mounted = room.mount(image_of(room, files), "-o", "readers=%d" % SERVING)
+    opened, memory = descriptors(mounted.server), Memory(mounted.server, seconds)
+    busy = [user(mounted, files, number) for number in range(BUSY)]
+    while not memory.is_over():
+        time.sleep(rng.uniform(0, 0.05))
+        end_user(busy.pop(rng.randrange(BUSY)))
+        killed += 1
+        busy.append(user(mounted, files, BUSY + killed))
+    for child in busy:
+        end_user(child)
+    hold("the data behind all of them", True, all(is_right(mounted, name, data) for name, data in files.items()))
+    hold("descriptors", opened, descriptors(mounted.server))
+    mounted.end()
+    return "%d processes killed over %d readers; %s" % (killed, SERVING, memory.told())
+
+
+def user(mounted, files, number):
+    """A process that calls a mount at random until it is killed; what is wrong ends it before."""
+    child = os.fork()
+    if child == 0:
+        try:
+            rng = random.Random(number)
+            while True:
+                call_once(rng, mounted, files)
+        finally:
+            os._exit(2)
+    return child
+
+
+def end_user(child):
+    os.kill(child, signal.SIGKILL)
+    hold("a process that is killed", -signal.SIGKILL, os.waitstatus_to_exitcode(os.waitpid(child, 0)[1]))
