@@ -38,7 +38,8 @@ serving_state p = record {
   balances = p.balances.items;
 }
 
--- nothing is answered yet of a stream that begins in this session, and balances are kept of so many nodes
+-- nothing is answered yet of a stream that begins in this session, and balances are kept of so many
+-- nodes
 abbrev pub beginning : Session → ℕ → ServingState
 beginning first nodes = record {
   rest = [];

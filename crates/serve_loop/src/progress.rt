@@ -35,7 +35,8 @@ pub(crate) struct Progress<A: Allocator> {
 }
 
 impl<A: Allocator + Copy> Progress<A> {
-    // Nothing is answered yet of a stream that begins in this session, and balances are kept of so many nodes.
+    // Nothing is answered yet of a stream that begins in this session. Balances are kept of so many
+    // nodes.
     pub(crate) fn new(alloc: A, first: Session, nodes: u64) -> Result<Progress<A>, AllocError>
         ensures { IfOk result (λ p. IsWithinBytes p.buffer
             × (serving_state p ≡ beginning first nodes)) }

@@ -21,7 +21,8 @@ returns-in-Ok-Ended g c =
     let new = (ends g.I.Read.remaining c.open.new.source c.open.new.sink).devices in
     let by = sourced_by g.D.Contents.source c.args.served in
     let within = bounds c.args.terms.now.turns c.args.crew.counted in
-    let does = subst (λ (o : Opening g.row.A.Denot). Does (λ t. IsOpenedOver c.args.terms.now.first by within t (Ok o)) old new) c.in-Ok-Ended.field-0-is c.in-Ok-Ended.ensures in
+    let opened_so = λ (o : Opening g.row.A.Denot). Does (λ t. IsOpenedOver c.args.terms.now.first by within t (Ok o)) old new in
+    let does = subst opened_so c.in-Ok-Ended.field-0-is c.in-Ok-Ended.ensures in
     inr (by_new_devices {A = g.row.A.Denot} c.args.terms.now.first by within (Ok c.in-Ok-Ended.done) old new
     c.is_gone.result c.is_gone-in-Ok-Ended.result c.ended_alone-in-Ok-Ended.result (ap (λ s. s.counts) c.in-Ok.ensures.state)
     (ap (λ s. s.counts) c.new-output.ensures.state) does c.is_gone.ensures.failed c.is_gone-in-Ok-Ended.ensures.failed
@@ -45,7 +46,8 @@ returns g c =
     let new = (ends g.I.Read.remaining c.open.new.source c.open.new.sink).devices in
     let by = sourced_by g.D.Contents.source c.args.served in
     let within = bounds c.args.terms.now.turns c.args.crew.counted in
-    let does = subst (λ (o : Opening g.row.A.Denot). Does (λ t. IsOpenedOver c.args.terms.now.first by within t (Ok o)) old new) c.in-Ok-Begun.field-0-is c.in-Ok-Begun.ensures in
+    let opened_so = λ (o : Opening g.row.A.Denot). Does (λ t. IsOpenedOver c.args.terms.now.first by within t (Ok o)) old new in
+    let does = subst opened_so c.in-Ok-Begun.field-0-is c.in-Ok-Begun.ensures in
     served_by_all {A = g.row.A.Denot} c.args.terms.now.first by within old new c.in-Ok-Begun.begun
     c.args.crew.readers (c.args.crew.readers - 1) c.serve_with-all.result c.behind.result (ap (λ s. s.counts) c.in-Ok.ensures.state)
     (ap (λ s. s.counts) c.new-output.ensures.state) does (omega (arith, c.requires.some)) c.serve_with-all.ensures
