@@ -52,7 +52,8 @@ pub fn one_ends_before_the_session<A: Allocator>()
 #[tactic(auto, using(crate::proofs::Sums::summed))]
 pub fn moves_are_summed<A: Allocator>()
     ensures each { (session : Session) (over : Sourced) (within : Bounds) (from : Counts)
-        (count : ℕ) (readers : List (Reader A)) → AreReaders session over within from count readers →
+        (count : ℕ) (readers : List (Reader A)) →
+        AreReaders session over within from count readers →
         (parts : List (List (List ℕ))) × CameOf (answering_from session over) within.counted
         (done_of_all readers) parts }
     ensures together { (by : Answering) (nodes : ℕ) (done : List (Done A))

@@ -36,9 +36,9 @@ pub struct Crew {
 ///
 /// One reader serves alone until the session has begun. Then the others begin in that session, and
 /// each answers what it reads as [`serve_core::run_counting`] does, with a room of 135,168 bytes
-/// and buffers and balances of its own. One that ends, or stops for a fault or for want of memory, ends
-/// alone: the others serve on. Where no thread can be started for a reader, it begins once another
-/// has ended. Where the first one ends before the session has begun, no other begins.
+/// and buffers and balances of its own. One that ends, or stops for a fault or for want of memory,
+/// ends alone: the others serve on. Where no thread can be started for a reader, it begins once
+/// another has ended. Where the first one ends before the session has begun, no other begins.
 pub fn serve_by_readers<
     R: Threads + Sync,
     A: SharedAllocator,

@@ -9,7 +9,8 @@ returns g c =
     let old = (ends g.I.Read.remaining c.args.input.now c.args.output.now).devices in
     let new = (ends g.I.Read.remaining c.run_counting-ended.new.source c.run_counting-ended.new.sink).devices in
     let by = sourced_by g.D.Contents.source c.args.served in
-    by_devices_with {A = g.row.A.Denot} c.args.terms.now.first by (bounds c.args.terms.now.turns c.args.counted) c.run_counting-ended.result old new
+    let within = bounds c.args.terms.now.turns c.args.counted in
+    by_devices_with {A = g.row.A.Denot} c.args.terms.now.first by within c.run_counting-ended.result old new
     c.is_gone-input_gone.result c.is_gone-output_gone.result _ _ c.ended_alone.result c.is_gone-input_gone.ensures.gone
     c.is_gone-output_gone.ensures.gone c.run_counting-ended.ensures.run
     c.is_gone-input_gone.ensures.failed c.is_gone-output_gone.ensures.failed c.ended_alone.ensures.end c.ended_alone.ensures.done

@@ -7,6 +7,8 @@ use Rattle.device_readers.proofs.readers.serve_with.Goals as goal
 
 pub returns : goal.returns
 returns g c =
-    led {A = g.row.A.Denot} c.args.terms.now.first (sourced_by g.D.Contents.source c.args.served) (bounds c.args.terms.now.turns c.args.counted) _ _
+    let by = sourced_by g.D.Contents.source c.args.served in
+    let within = bounds c.args.terms.now.turns c.args.counted in
+    led {A = g.row.A.Denot} c.args.terms.now.first by within _ _
     (counts_of (ends g.I.Read.remaining c.args.input.now c.args.output.now).devices) c.args.others c.lead_others.result
     c.lead_others.ensures (λ end served. served.1.1) (λ end served. served)
