@@ -171,7 +171,8 @@ module _ {A : Type 0} (first : Session) (by : Sourced) (within : Bounds) where
 
   -- where the session has begun, the devices may be used on
   pub ready_on : (old new : Devices) (begun : Begun A) → old.source.counts ≡ no_pulls → old.sink.counts ≡ no_pushes
-      → within.turns ≤ MAX_TURNS → Does (λ t. IsOpenedOver first by within t (Ok (openings.Begun begun))) old new → AreReady within.turns new
+      → within.turns ≤ MAX_TURNS → Does (λ t. IsOpenedOver first by within t (Ok (openings.Begun begun))) old new
+      → AreReady within.turns new
   ready_on old new begun p q few (got, put, took, held, b) =
       let a = ap (λ c. c.pulls) p in let e = ap (λ c. c.ends) p in let f = ap (λ c. c.failures) p in let g = ap (λ c. c.failures) q in
       let c = b.counted in
