@@ -5,7 +5,7 @@
 # make crate_order: crates.txt stands in the order of layers. make logic: the program names the logic of this prover. None of these wants
 # a proof.
 # make cases: the cases alone, on build/strata. make plant: sees that the cases notice wrong lines.
-# make mounted [STRATA=PROGRAM]: real mounts, looked at through the kernel.
+# make mounted [STRATA=PROGRAM]: real mounts, looked at through the kernel; with STRATA_READERS=N in the environment, each by N readers.
 # make layers: tools/layers.py on layouts made on the spot, and, where umoci stands, on images that umoci makes.
 # make registry: layers on many machines: a store, and, where the programs are, a registry on the loopback and sandboxes.
 # make wrong_bodies: tries the wrong bodies of trials/gate, over what is proved. The gate tries them, too.

@@ -15,6 +15,9 @@ from mount import DEVICE, called, libc
 SCRIPT = TOOLS + "/mount.py"
 # a check that does not end is ended after so many seconds; STRATA_SLOWER says how many times as many
 SECONDS = 60 * int(os.environ.get("STRATA_SLOWER", "1"))
+# how many readers serve a mount for which a check says nothing of that; and the most memory that each but the first takes
+READERS = int(os.environ.get("STRATA_READERS", "1"))
+READER_SIZE = 400 << 10
 CLONE_NEWNS, CLONE_NEWUSER = 0x20000, 0x10000000
 MS_REC, MS_PRIVATE = 0x4000, 0x40000
 PR_SET_CHILD_SUBREAPER = 36
@@ -161,6 +164,14 @@ def try_mount(folder):
         return "%s can't be mounted here: %s" % (DEVICE, fault.strerror)
 
 
+def with_readers(words):
+    """The words of a mount, with as many readers as STRATA_READERS says where they say nothing of that."""
+    options = words[words.index("-o") + 1] if "-o" in words else ""
+    if READERS == 1 or "readers=" in options:
+        return words
+    return *words, "-o", ",".join([*filter(None, [options]), "readers=%d" % READERS])
+
+
 class Room:
     """The program, and a folder for images and mounts."""
 
@@ -191,7 +202,8 @@ class Room:
     def start(self, images, *words):
         """A mount that is waited for: where it is, and the process of mount.py."""
         at = self.place()
-        process = subprocess.Popen([*self.words(), *words, *images, at], stdin=subprocess.DEVNULL, stderr=subprocess.PIPE)
+        process = subprocess.Popen([*self.words(), *with_readers(words), *images, at], stdin=subprocess.DEVNULL,
+                                   stderr=subprocess.PIPE)
         wait_for(process, at)
         os.statvfs(at)
         return at, process
@@ -202,8 +214,8 @@ class Mount:
 
     def __init__(self, room, images, words):
         self.at, before = room.place(), children()
-        done = subprocess.run([*room.words(), "--background", *words, *images, self.at], stdin=subprocess.DEVNULL,
-                              stderr=subprocess.PIPE)
+        done = subprocess.run([*room.words(), "--background", *with_readers(words), *images, self.at],
+                              stdin=subprocess.DEVNULL, stderr=subprocess.PIPE)
         hold("mount.py", (0, b""), (done.returncode, done.stderr))
         servers = children() - before
         hold("processes that serve", 1, len(servers))

@@ -1,5 +1,5 @@
 -- The opening of a session over a table: what the serving loop says of it, as what serving came to.
-use Rattle.std.proofs.Common.{◌≡◌, ◌∙◌, ap, subst, refl, ℕ, List, length, map, Result, Ok, Err, IsErrAnd}
+use Rattle.std.proofs.Common.{◌≡◌, ◌∙◌, ap, subst, refl, ℕ, List, map, Result, Ok, Err, IsErrAnd}
 use Rattle.devices.specs.States.{Devices}
 use Rattle.stack_model.specs.Listing.{Stacked}
 use Rattle.image_bytes.specs.Sources.{Source}

@@ -1,6 +1,6 @@
 -- What readers moved together. The sums of what messages move one by one do not go by their order
--- (`sums_shuffled`); in a session that no message changes a stream moves just that (`moves_one_by_one`).
-use Rattle.std.proofs.Common.{◌≡◌, ◌∙◌, sym, ap, subst, refl, ℕ, suc, ◌+◌, ◌<◌, ℤ, pos, negsuc, ◌+ℤ◌, ◌-ℤ◌, List, [], ◌∷◌, ◌++◌, length, map, flat_map, sum_by, IsPermutation, Result, Ok, Err, arith}
+-- (`total_shuffled`); in a session that no message changes a stream moves just that (`kept`).
+use Rattle.std.proofs.Common.{◌≡◌, ◌∙◌, sym, ap, subst, refl, ℕ, suc, ◌+◌, ◌<◌, ℤ, pos, negsuc, ◌+ℤ◌, ◌-ℤ◌, List, [], ◌∷◌, ◌++◌, map, flat_map, sum_by, IsPermutation, Result, Ok, Err, arith}
 use Rattle.std.specs.List.{AllByRecursion}
 use Rattle.std.proofs.lemmas.Int.{ints}
 use Rattle.std.proofs.lemmas.List.Elements.{All-from_recursion, recursion_from_All}
@@ -23,7 +23,7 @@ use Rattle.serve_core.proofs.Stops.{ended_well}
 use Rattle.serve_loop.specs.Serving.{IsRun, Trace}
 use Rattle.device_readers.specs.Ends.{done_of}
 use Rattle.device_readers.specs.Readers.{AreReaders, Counts, IsReader, Reader, done_of_all}
-use Rattle.device_readers.specs.Laws.{CameOf, KeepsSession, sum_at}
+use Rattle.device_readers.specs.Laws.{CameOf, HasRead, HaveRead, KeepsSession, moved_at, sum_at}
 
 -- what a number has above 0, and below
 abbrev above : ℤ → ℕ
@@ -78,18 +78,14 @@ module _ (by : Answering) (node : ℕ) where
       let d = total_cons m ms in
       omega (arith, ints)
 
-module _ {A : Type 0} (by : Answering) (nodes : ℕ) (place : ℕ) (there : place < nodes) where
-  -- the streams leave together what their messages move one by one
-  sums : (done : List (Done A)) (parts : List (List (List ℕ))) → CameOf by nodes done parts
-      → AllByRecursion (KeepsSession by.first) parts → sum_at place done ≡ total by (place + 1) (flat_map (λ part. part) parts)
-  sums [] [] c k = omega (arith, ints)
-  sums [] (messages ∷ others) c k = absurd c
-  sums (done ∷ more) [] c k = absurd c
-  sums (done ∷ more) (messages ∷ others) c k =
-      let a = c.0.each place there in
-      let b = kept by (place + 1) by.first messages refl k.0 in
-      let d = sums more others c.1 k.1 in
-      let e = total_append by (place + 1) messages (flat_map (λ part. part) others) in
+  -- parts move together what their messages move one by one
+  parts_sum : (parts : List (List (List ℕ))) → AllByRecursion (KeepsSession by.first) parts
+      → moved_at by node parts ≡ total (flat_map (λ part. part) parts)
+  parts_sum [] k = omega (arith, ints)
+  parts_sum (messages ∷ others) k =
+      let a = kept by.first messages refl k.0 in
+      let b = parts_sum others k.1 in
+      let c = total_append messages (flat_map (λ part. part) others) in
       omega (arith, ints)
 
 parts_keep : (s : Session) (parts : List (List (List ℕ))) → KeepsSession s (flat_map (λ part. part) parts)
@@ -102,17 +98,28 @@ parts_keep s (part ∷ parts) k = let both = apart part k in (both.0, parts_keep
     apart [] k = (tt, k)
     apart (m ∷ part) k = let rest = apart part k.1 in ((k.0, rest.0), rest.1)
 
--- what they leave is what one stream of all messages leaves, in whatever order
-pub together : {A : Type 0} (by : Answering) (nodes : ℕ) (done : List (Done A)) (parts : List (List (List ℕ))) (all : List (List ℕ))
-    → CameOf by nodes done parts → IsPermutation (flat_map (λ part. part) parts) all → KeepsSession by.first all → (place : ℕ)
-    → place < nodes → sum_at place done ≡ balance (place + 1) (moves_of by all)
-together by nodes done parts all c p k place there =
+-- what they move is what one stream of all messages moves, in whatever order
+pub together : (by : Answering) (parts : List (List (List ℕ))) (all : List (List ℕ))
+    → IsPermutation (flat_map (λ part. part) parts) all → KeepsSession by.first all → (node : ℕ)
+    → moved_at by node parts ≡ balance node (moves_of by all)
+together by parts all p k node =
     let P : List ℕ → Type 0 = λ m. session_after by.first (asked m).op ≡ by.first in
     let joined = flat_map (λ part. part) parts in
     let keep = recursion_from_All P joined (All-permutation P all joined (IsPermutation-sym joined all p) (All-from_recursion P all k)) in
-    let a = sums by nodes place there done parts c (parts_keep by.first parts keep) in
-    let b = kept by (place + 1) by.first all refl k in
-    let d = total_shuffled by (place + 1) joined all p in
+    let a = parts_sum by node parts (parts_keep by.first parts keep) in
+    let b = kept by node by.first all refl k in
+    let d = total_shuffled by node joined all p in
+    omega (arith, ints)
+
+-- streams that count a node's lookups leave what their messages move of it
+pub counted : {A : Type 0} (by : Answering) (nodes : ℕ) (done : List (Done A)) (parts : List (List (List ℕ)))
+    → CameOf by nodes done parts → (place : ℕ) → place < nodes → sum_at place done ≡ moved_at by (place + 1) parts
+counted by nodes [] [] c place there = refl
+counted by nodes [] (messages ∷ others) c place there = absurd c
+counted by nodes (done ∷ more) [] c place there = absurd c
+counted by nodes (done ∷ more) (messages ∷ others) c place there =
+    let a = c.0.each place there in
+    let b = counted by nodes more others c.1 place there in
     omega (arith, ints)
 
 -- the stream of a reader that came to its end left what its messages moved
@@ -157,5 +164,26 @@ module _ {A : Type 0} (session : Session) (over : Sourced) (within : Bounds) whe
       × CameOf (answering_from session over) within.counted (done_of_all rs) parts)
       (sym are.readers_are) (came_with are.leader are.others are.goes_on.run (came_all _ are.others are.new.each))
 
--- both of them, for the goals of the law
-pub ruleset summed = (came, together)
+-- the messages of readers are those of their runs
+module _ {A : Type 0} (session : Session) (over : Sourced) (within : Bounds) where
+  read_with : (r : Reader A) (readers : List (Reader A)) → IsRunWithin session over within r.trace r.result
+      → (parts : List (List (List ℕ))) × HaveRead (answering_from session over) readers parts
+      → (parts : List (List (List ℕ))) × HaveRead (answering_from session over) (r ∷ readers) parts
+  read_with r readers run (parts, h) =
+      let one : HasRead (answering_from session over) r run.run.messages =
+      record { rest = run.run.rest; split = run.run.split; begun = run.run.begun } in
+      (run.run.messages ∷ parts, (one, h))
+
+  read_all : (from : Counts) (readers : List (Reader A)) → AllByRecursion (IsReader session over within from) readers
+      → (parts : List (List (List ℕ))) × HaveRead (answering_from session over) readers parts
+  read_all from [] each = ([], tt)
+  read_all from (r ∷ readers) each = read_with r readers each.0.run (read_all from readers each.1)
+
+  pub read : (from : Counts) (count : ℕ) (readers : List (Reader A)) → AreReaders session over within from count readers
+      → (parts : List (List (List ℕ))) × HaveRead (answering_from session over) readers parts
+  read from count readers are =
+      subst (λ rs. (parts : List (List (List ℕ))) × HaveRead (answering_from session over) rs parts)
+      (sym are.readers_are) (read_with are.leader are.others are.goes_on.run (read_all _ are.others are.new.each))
+
+-- those of messages alone, for the goals of the law
+pub ruleset summed = (together, counted)

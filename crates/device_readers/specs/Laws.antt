@@ -3,7 +3,9 @@
 use Rattle.std.specs.Prelude.{◌≡◌, ◌≤◌, ◌⊎◌, ⊤, ℕ, ℤ, pos, ◌+ℤ◌, List, [], ◌∷◌, Ok, Err}
 use Rattle.std.specs.List.{AllByRecursion}
 use Rattle.fuse_wire.specs.Requests.{asked}
+use Rattle.fuse_wire.specs.Stream.{IsSplit}
 use Rattle.lookup_balances.specs.Balances.{balance_at}
+use Rattle.reply_model.specs.Moves.{balance}
 use Rattle.reply_model.specs.declared.session.Session.{Session}
 use Rattle.reply_model.specs.Sessions.{session_after}
 use Rattle.reply_model.specs.Readings.{Sourced}
@@ -11,7 +13,7 @@ use Rattle.reply_pool.specs.Answers.{answering_from}
 use Rattle.serve_loop.specs.declared.done.Done.{Done}
 use Rattle.serve_loop.specs.Opening.{HasNotBegun}
 use Rattle.serve_loop.specs.Rounds.{Answering}
-use Rattle.serve_loop.specs.Serving.{AreBalances, moves_of}
+use Rattle.serve_loop.specs.Serving.{AreBalances, BeginReplies, moves_of}
 use Rattle.serve_core.specs.declared.stop.Stop.TheVariants.{Read}
 use Rattle.serve_core.specs.Headline.{Bounds, IsRunWithin}
 use Rattle.device_readers.specs.declared.ends.End.{End}
@@ -39,6 +41,27 @@ pub record HasServedBefore {A : Type 0} (first : Session) (by : Sourced) (within
   pub ended : (done : Done A) → r.result ≡ Ok done
       → HasNotBegun (answering_from first by) r.trace.got
   pub failed : r.result ≡ Err Read → HasNotBegun (answering_from first by) r.trace.got
+
+-- a reader read these messages whole, and what it put begins the replies to them
+pub record HasRead {A : Type 0} (by : Answering) (r : Reader A) (messages : List (List ℕ))
+    : Type 0 where
+  pub rest : List ℕ
+  pub split : IsSplit r.trace.got messages rest
+  pub begun : BeginReplies by messages r.trace.put
+
+-- each of the readers read these messages
+abbrev pub HaveRead : {A : Type 0} → Answering → List (Reader A) → List (List (List ℕ)) → Type 0
+HaveRead by [] [] = ⊤
+HaveRead by (r ∷ readers) (messages ∷ others) =
+    HasRead by r messages × HaveRead by readers others
+HaveRead by [] (messages ∷ others) = ⊥
+HaveRead by (r ∷ readers) [] = ⊥
+
+-- what these parts of messages give to a node, less what they take, each part a stream of its own
+abbrev pub moved_at : Answering → ℕ → List (List (List ℕ)) → ℤ
+moved_at by node [] = pos 0
+moved_at by node (messages ∷ others) =
+    balance node (moves_of by messages) +ℤ moved_at by node others
 
 -- how many lookups these streams leave with the client together, of the node at a place, if they
 -- count these

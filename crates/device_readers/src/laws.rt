@@ -14,7 +14,7 @@ ghost use Rattle.serve_loop.specs.Serving.{moves_of};
 ghost use Rattle.device_readers.specs.declared.ends.End.TheVariants.{AtEnd};
 ghost use Rattle.device_readers.specs.declared.ends.Ended.{Ended};
 ghost use Rattle.device_readers.specs.Readers.{AreReaders, Counts, IsServedByAll, IsServedByOne, Reader, TellsOf, done_of_all, end_of_all};
-ghost use Rattle.device_readers.specs.Laws.{CameOf, HasReader, HasServedBefore, IsToldFirst, KeepsSession, sum_at};
+ghost use Rattle.device_readers.specs.Laws.{CameOf, HasReader, HasServedBefore, HaveRead, IsToldFirst, KeepsSession, moved_at, sum_at};
 
 use std::alloc::Allocator;
 
@@ -46,18 +46,25 @@ pub fn one_ends_before_the_session<A: Allocator>()
         × (ended.end ≡ end_of_all (r ∷ [])) }
 {}
 
-/// The streams of readers leave what their own messages moved, of the nodes whose lookups they
-/// count. In a session that none of these messages changes, that is together what one stream of all
-/// of them leaves, in whatever order.
+/// Each reader answers messages of its own. What the messages of all readers move is, of each node,
+/// what one stream of all of them moves, in whatever order, where they are in a session that none of
+/// them changes. Streams that end leave just what their messages moved, of the nodes whose lookups
+/// they count.
 #[tactic(auto, using(crate::proofs::Sums::summed))]
 pub fn moves_are_summed<A: Allocator>()
+    ensures read { (session : Session) (over : Sourced) (within : Bounds) (from : Counts)
+        (count : ℕ) (readers : List (Reader A)) →
+        AreReaders session over within from count readers →
+        (parts : List (List (List ℕ))) × HaveRead (answering_from session over) readers parts }
+    ensures together { (by : Answering) (parts : List (List (List ℕ))) (all : List (List ℕ)) →
+        IsPermutation (flat_map (λ part. part) parts) all → KeepsSession by.first all →
+        (node : ℕ) → moved_at by node parts ≡ balance node (moves_of by all) }
     ensures each { (session : Session) (over : Sourced) (within : Bounds) (from : Counts)
         (count : ℕ) (readers : List (Reader A)) →
         AreReaders session over within from count readers →
         (parts : List (List (List ℕ))) × CameOf (answering_from session over) within.counted
         (done_of_all readers) parts }
-    ensures together { (by : Answering) (nodes : ℕ) (done : List (Done A))
-        (parts : List (List (List ℕ))) (all : List (List ℕ)) → CameOf by nodes done parts →
-        IsPermutation (flat_map (λ part. part) parts) all → KeepsSession by.first all →
-        (place : ℕ) → place < nodes → sum_at place done ≡ balance (place + 1) (moves_of by all) }
+    ensures counted { (by : Answering) (nodes : ℕ) (done : List (Done A))
+        (parts : List (List (List ℕ))) → CameOf by nodes done parts →
+        (place : ℕ) → place < nodes → sum_at place done ≡ moved_at by (place + 1) parts }
 {}

@@ -1,6 +1,5 @@
 -- What is decided about a request at a node is what is decided about it in a session that was begun.
-use Rattle.std.proofs.Common.{◌≡◌, List, false, Option, Some, None, Result, Ok, Err, MatchOption, refl}
-use Rattle.image_bytes.specs.Sources.{Source}
+use Rattle.std.proofs.Common.{◌≡◌, false, Option, Some, None, Result, Ok, Err, MatchOption, refl}
 use Rattle.fuse_wire.specs.declared.errno.Errno.{Errno}
 use Rattle.fuse_wire.specs.declared.errno.Errno.TheVariants.{ESTALE}
 use Rattle.fuse_wire.specs.Requests.{NodeOp, Asked, at_node}

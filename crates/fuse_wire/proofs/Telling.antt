@@ -1,6 +1,6 @@
 -- Data that are held are told as they are: the reply is the one that is defined (held_told). A reply whose data are read behind its header
 -- (told_whole), or that of EIO, set over it (told_unread).
-use Rattle.std.proofs.Common.{◌≡◌, ◌∙◌, sym, ap, subst, ℕ, ◌+◌, ◌-◌, ◌<◌, ◌≤◌, List, ◌++◌, length, take, drop, Some, arith, inl, inr, Bool, true, false, refl, append_assoc, take-append-drop, length-append, length-drop}
+use Rattle.std.proofs.Common.{◌≡◌, ◌∙◌, sym, ap, subst, ℕ, ◌+◌, ◌-◌, ◌<◌, ◌≤◌, List, ◌++◌, length, take, drop, Some, arith, inl, inr, true, false, refl, append_assoc, take-append-drop, length-append, length-drop}
 use Rattle.std.proofs.lemmas.List.{take_at, drop_at, take-take, length-take}
 use Rattle.image_bytes.specs.Sources.{Source, MayGive, MayLack, held}
 use Rattle.image_bytes.proofs.Held.{held_only}
@@ -8,7 +8,7 @@ use Rattle.image_bytes.proofs.Given.{held_lacks}
 use Rattle.fuse_wire.specs.declared.errno.Errno.TheVariants.{EIO}
 use Rattle.fuse_wire.specs.declared.limits.TheConstants.{OUT_HEADER_SIZE}
 use Rattle.fuse_wire.specs.Replies.{reply_head, reply_with, error_reply}
-use Rattle.fuse_wire.specs.Told.{Reading, IsTold, Fills, TakesTold, read_from}
+use Rattle.fuse_wire.specs.Told.{IsTold, Fills, TakesTold, read_from}
 use Rattle.fuse_wire.proofs.Sizes.{length-head, length-reply_with}
 
 pub held_told : (xs : List ℕ) (place unique : ℕ) (defined bytes : List ℕ)

@@ -1,6 +1,6 @@
 -- Data that are read from sources which hold just the layers' bytes are those that are defined: they stand in the layer where they begin
 -- (window, data_there), so what may be told of them is the reply (held_layers_told).
-use Rattle.std.proofs.Common.{◌≡◌, ◌∙◌, sym, ap, subst, ℕ, ◌+◌, ◌-◌, ◌≤◌, ◌<◌, List, [], ◌∷◌, ◌++◌, length, take, drop, map, min, Bool, true, false, cond, Option, Some, None, refl, arith, lt_of_not-le}
+use Rattle.std.proofs.Common.{◌≡◌, ◌∙◌, sym, ap, subst, ℕ, ◌+◌, ◌-◌, List, [], ◌∷◌, length, take, drop, map, Option, Some, None, refl, arith, lt_of_not-le}
 use Rattle.std.specs.Prelude.{slice_get}
 use Rattle.std.specs.Option.{option_map, option_map_or, option_and_then}
 use mathlib.Core.Logic.{dite}

@@ -96,7 +96,8 @@ fn to_front<A: Allocator>(bytes: &mut Vec<u8, A>, start: usize, end: usize)
     bytes.copy_within(start..end, 0);
 }
 
-// Makes the vector long enough for a pull behind the first `filled` bytes, and then for one more.
+// Makes the vector long enough for a pull behind the first `filled` bytes. What is left of one pull
+// before the next may grow to twice as much, or by a pull, before this is done again.
 fn grow<A: Allocator>(bytes: &mut Vec<u8, A>, filled: usize) -> Result<(), AllocError>
     requires { filled ≤ length bytes.old.items }
     ensures same { take filled bytes.new.items ≡ take filled bytes.old.items }
@@ -105,8 +106,9 @@ fn grow<A: Allocator>(bytes: &mut Vec<u8, A>, filled: usize) -> Result<(), Alloc
 {
     let len = bytes.len();
     if len - filled < PULL_SIZE {
-        bytes.reserve_exact(filled + 2 * PULL_SIZE - len)?;
-        bytes.resize(filled + 2 * PULL_SIZE, 0)?;
+        let wanted = filled + filled.min(PULL_SIZE) + PULL_SIZE;
+        bytes.reserve_exact(wanted - len)?;
+        bytes.resize(wanted, 0)?;
     }
     Ok(())
 }

@@ -1,5 +1,8 @@
-use Rattle.device_readers.proofs.Sums.{came}
+use Rattle.device_readers.proofs.Sums.{came, read}
 use Rattle.device_readers.proofs.laws.moves_are_summed.Goals as goal
+
+pub returns-clause-read : goal.returns-clause-read
+returns-clause-read g c = λ session over within from count readers are. read session over within from count readers are
 
 pub returns-clause-each : goal.returns-clause-each
 returns-clause-each g c = λ session over within from count readers are. came session over within from count readers are

@@ -1,4 +1,4 @@
-use Rattle.std.proofs.Common.{◌≡◌, subst, ◌+◌, ◌≤◌, length, take, List, ℕ, Bool, true, false, arith}
+use Rattle.std.proofs.Common.{subst, ◌+◌, take, ℕ, Bool, true, false, arith}
 use Rattle.fuse_wire.specs.Told.{Fills}
 use Rattle.fuse_wire.proofs.Telling.{told_whole, told_unread}
 use Rattle.fuse_wire.proofs.read.set_read.Goals as goal

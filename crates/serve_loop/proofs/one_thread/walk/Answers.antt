@@ -1,4 +1,4 @@
-use Rattle.std.proofs.Common.{◌<◌, ◌++◌, ◌∙◌, append-nil, ap, arith, inl, length, length-append, sym, []}
+use Rattle.std.proofs.Common.{◌<◌, ◌++◌, append-nil, ap, arith, inl, length, length-append, sym, []}
 use Rattle.std.proofs.lemmas.List.{take_rest}
 use Rattle.std.proofs.lemmas.Result.{IfOk-from_err}
 use Rattle.serve_loop.proofs.Walking.{appended, as_long, first_within, full_round, is_round, last_round, nothing_so_far, one_first, one_more, so_far_within}

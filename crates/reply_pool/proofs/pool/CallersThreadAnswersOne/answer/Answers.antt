@@ -1,6 +1,5 @@
 use Rattle.std.proofs.Common.{◌∙◌, ap, subst}
 use Rattle.std.proofs.Math.Facts.{Fits-lt-pow}
-use Rattle.fuse_wire.specs.Reads.{asked_of}
 use Rattle.fuse_wire.specs.Requests.{Asked}
 use Rattle.reply_model.specs.Moves.{moves}
 use Rattle.reply_model.specs.Readings.{IsReplyOver}

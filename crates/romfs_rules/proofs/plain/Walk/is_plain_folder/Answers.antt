@@ -1,4 +1,4 @@
-use Rattle.std.proofs.Common.{◌≡◌, ◌∙◌, ap, subst, IfOk}
+use Rattle.std.proofs.Common.{◌∙◌, ap, subst}
 use Rattle.std.proofs.lemmas.Result.{IfOk-weaker}
 use Rattle.romfs_rules.specs.Names.{HaveNamesApart}
 use Rattle.romfs_rules.proofs.plain.Walk.is_plain_folder.Goals as goal
