@@ -4,6 +4,7 @@ use Rattle.std.proofs.Common.{◌≡◌, sym, ap, subst, refl, ℕ, ◌+◌, ◌
 use Rattle.std.specs.List.{AllByRecursion}
 use Rattle.devices.specs.Counting.{no_pulls, no_pushes}
 use Rattle.devices.specs.States.{Devices}
+use Rattle.fuse_device.specs.Ends.{MountEnds}
 use Rattle.devices.specs.declared.limits.TheConstants.{MAX_TURNS}
 use Rattle.reply_model.specs.declared.session.Session.{Session}
 use Rattle.reply_model.specs.Readings.{Sourced}
@@ -21,7 +22,7 @@ use Rattle.serve_core.specs.Headline.{Bounds, IsRunWithin}
 use Rattle.device_readers.specs.declared.ends.Ended.{Ended}
 use Rattle.device_readers.specs.Crews.{IsOfEach, IsOfLed, alone, by_itself, halves, with_others}
 use Rattle.device_readers.specs.Ends.{IsBehind, IsOfBoth, done_of, end_of}
-use Rattle.device_readers.specs.Readers.{AreReaders, AreServed, AreServedNew, Counts, IsAlone, IsAloneWith, IsNotOpenedOver, IsOpenedOver, IsServedBy, IsServedByOne, Reader, counts_of, unused}
+use Rattle.device_readers.specs.Readers.{AreReaders, AreServed, AreServedNew, Counts, IsAlone, IsAloneOn, IsNotOpenedOver, IsOpenedOver, IsReader, IsServedBy, IsServedByOne, Reader, counts_of, unused}
 use Rattle.device_readers.proofs.Told.{behind_told, both_told, one_told}
 
 all_both : {X : Type 0} (P : X → Type 0) (xs ys : List X) → AllByRecursion P xs → AllByRecursion P ys → AllByRecursion P (xs ++ ys)
@@ -33,16 +34,17 @@ abbrev pub Both : {A : Type 0} → Ended A → Ended A → Ended A → Type 0
 Both = λ low high all. IsOfBoth low high all
 
 module _ {A : Type 0} (first : Session) (by : Sourced) (within : Bounds) where
-  -- a reader by what its devices were before and are, and what they say at last
-  pub by_devices_with : (result : Result (Done A) Stop) (old new : Devices) (input output in_said out_said : Bool) (ended : Ended A)
-      → input ≡ in_said → output ≡ out_said
-      → Does (λ t. IsRunWithin first by within t result) old new → (IsTrue input → 0 < new.source.counts.failures)
-      → (IsTrue output → 0 < new.sink.counts.failures) → ended.end ≡ end_of result input output
-      → IfOk ended.done (λ v. v.items ≡ done_of result)
-      → IsAloneWith first by within (counts_of old) in_said out_said ended
-  by_devices_with result old new input output in_said out_said ended e f (got, put, took, held, run) i o end done =
+  -- a reader by what the ends of its mount were before and are
+  pub by_ends : (result : Result (Done A) Stop) (old new : MountEnds) (input output : Bool) (ended : Ended A)
+      → input ≡ new.input_gone → output ≡ new.output_gone
+      → Does (λ t. IsRunWithin first by within t result) old.devices new.devices
+      → (IsTrue input → 0 < new.devices.source.counts.failures) → (IsTrue output → 0 < new.devices.sink.counts.failures)
+      → ended.end ≡ end_of result input output → IfOk ended.done (λ v. v.items ≡ done_of result)
+      → IsAloneOn first by within old new ended
+  by_ends result old new input output ended e f (got, put, took, held, run) i o end done =
+      let was = old.devices in let are = new.devices in
       let r : Reader A = record {
-        trace = trace got put old.source.counts new.source.counts old.sink.counts new.sink.counts;
+        trace = trace got put was.source.counts are.source.counts was.sink.counts are.sink.counts;
         result = result;
         input_gone = input;
         output_gone = output;
@@ -56,9 +58,10 @@ module _ {A : Type 0} (first : Session) (by : Sourced) (within : Bounds) where
       }
 
   -- whatever they say, it was alone
-  pub alone_with : (from : Counts) (input output : Bool) (ended : Ended A) → IsAloneWith first by within from input output ended
-      → IsAlone first by within from ended
-  alone_with from input output ended a = record { reader = a.reader; is = a.is; told = a.told }
+  pub alone_on : (from : Counts) (old new : MountEnds) (ended : Ended A) → counts_of old.devices ≡ from
+      → IsAloneOn first by within old new ended → IsAlone first by within from ended
+  alone_on from old new ended e a =
+      let is = subst (λ c. IsReader first by within c a.reader) e a.is in record { reader = a.reader; is = is; told = a.told }
 
   -- a reader whose devices were new, and whose session had not begun
   pub by_new_devices : (result : Result (Done A) Stop) (old new : Devices) (input output : Bool) (ended : Ended A)

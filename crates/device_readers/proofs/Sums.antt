@@ -23,7 +23,7 @@ use Rattle.serve_core.proofs.Stops.{ended_well}
 use Rattle.serve_loop.specs.Serving.{IsRun, Trace}
 use Rattle.device_readers.specs.Ends.{done_of}
 use Rattle.device_readers.specs.Readers.{AreReaders, Counts, IsReader, Reader, done_of_all}
-use Rattle.device_readers.specs.Laws.{CameOf, HasRead, HaveRead, KeepsSession, moved_at, sum_at}
+use Rattle.device_readers.specs.Laws.{CameOf, HasMessages, HaveMessages, KeepsSession, moved_at, sum_at}
 
 -- what a number has above 0, and below
 abbrev above : ℤ → ℕ
@@ -167,22 +167,22 @@ module _ {A : Type 0} (session : Session) (over : Sourced) (within : Bounds) whe
 -- the messages of readers are those of their runs
 module _ {A : Type 0} (session : Session) (over : Sourced) (within : Bounds) where
   read_with : (r : Reader A) (readers : List (Reader A)) → IsRunWithin session over within r.trace r.result
-      → (parts : List (List (List ℕ))) × HaveRead (answering_from session over) readers parts
-      → (parts : List (List (List ℕ))) × HaveRead (answering_from session over) (r ∷ readers) parts
+      → (parts : List (List (List ℕ))) × HaveMessages (answering_from session over) readers parts
+      → (parts : List (List (List ℕ))) × HaveMessages (answering_from session over) (r ∷ readers) parts
   read_with r readers run (parts, h) =
-      let one : HasRead (answering_from session over) r run.run.messages =
+      let one : HasMessages (answering_from session over) r run.run.messages =
       record { rest = run.run.rest; split = run.run.split; begun = run.run.begun } in
       (run.run.messages ∷ parts, (one, h))
 
   read_all : (from : Counts) (readers : List (Reader A)) → AllByRecursion (IsReader session over within from) readers
-      → (parts : List (List (List ℕ))) × HaveRead (answering_from session over) readers parts
+      → (parts : List (List (List ℕ))) × HaveMessages (answering_from session over) readers parts
   read_all from [] each = ([], tt)
   read_all from (r ∷ readers) each = read_with r readers each.0.run (read_all from readers each.1)
 
   pub read : (from : Counts) (count : ℕ) (readers : List (Reader A)) → AreReaders session over within from count readers
-      → (parts : List (List (List ℕ))) × HaveRead (answering_from session over) readers parts
+      → (parts : List (List (List ℕ))) × HaveMessages (answering_from session over) readers parts
   read from count readers are =
-      subst (λ rs. (parts : List (List (List ℕ))) × HaveRead (answering_from session over) rs parts)
+      subst (λ rs. (parts : List (List (List ℕ))) × HaveMessages (answering_from session over) rs parts)
       (sym are.readers_are) (read_with are.leader are.others are.goes_on.run (read_all _ are.others are.new.each))
 
 -- those of messages alone, for the goals of the law

@@ -43,19 +43,19 @@ pub record HasServedBefore {A : Type 0} (first : Session) (by : Sourced) (within
   pub failed : r.result ≡ Err Read → HasNotBegun (answering_from first by) r.trace.got
 
 -- a reader read these messages whole, and what it put begins the replies to them
-pub record HasRead {A : Type 0} (by : Answering) (r : Reader A) (messages : List (List ℕ))
+pub record HasMessages {A : Type 0} (by : Answering) (r : Reader A) (messages : List (List ℕ))
     : Type 0 where
   pub rest : List ℕ
   pub split : IsSplit r.trace.got messages rest
   pub begun : BeginReplies by messages r.trace.put
 
 -- each of the readers read these messages
-abbrev pub HaveRead : {A : Type 0} → Answering → List (Reader A) → List (List (List ℕ)) → Type 0
-HaveRead by [] [] = ⊤
-HaveRead by (r ∷ readers) (messages ∷ others) =
-    HasRead by r messages × HaveRead by readers others
-HaveRead by [] (messages ∷ others) = ⊥
-HaveRead by (r ∷ readers) [] = ⊥
+abbrev pub HaveMessages : {A : Type 0} → Answering → List (Reader A) → List (List (List ℕ)) → Type 0
+HaveMessages by [] [] = ⊤
+HaveMessages by (r ∷ readers) (messages ∷ others) =
+    HasMessages by r messages × HaveMessages by readers others
+HaveMessages by [] (messages ∷ others) = ⊥
+HaveMessages by (r ∷ readers) [] = ⊥
 
 -- what these parts of messages give to a node, less what they take, each part a stream of its own
 abbrev pub moved_at : Answering → ℕ → List (List (List ℕ)) → ℤ

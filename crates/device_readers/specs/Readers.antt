@@ -6,6 +6,7 @@ use Rattle.devices.specs.Counting.{no_pulls, no_pushes}
 use Rattle.devices.specs.declared.counts.Pulls.{Pulls}
 use Rattle.devices.specs.declared.counts.Pushes.{Pushes}
 use Rattle.devices.specs.States.{Devices}
+use Rattle.fuse_device.specs.Ends.{MountEnds}
 use Rattle.reply_model.specs.declared.session.Session.{Session}
 use Rattle.reply_model.specs.Readings.{Sourced}
 use Rattle.reply_pool.specs.Answers.{answering_from}
@@ -96,13 +97,13 @@ pub record IsAlone {A : Type 0} (first : Session) (by : Sourced) (within : Bound
   pub is : IsReader first by within from reader
   pub told : TellsOf [] (reader ∷ []) ended
 
--- the same of one of which either side says at last that it is gone, or that it is not
-pub record IsAloneWith {A : Type 0} (first : Session) (by : Sourced) (within : Bounds)
-    (from : Counts) (input output : Bool) (ended : Ended A) : Type 0 where
+-- one reader between the two ends of a mount, as they were and are, came to this
+pub record IsAloneOn {A : Type 0} (first : Session) (by : Sourced) (within : Bounds)
+    (old new : MountEnds) (ended : Ended A) : Type 0 where
   pub reader : Reader A
-  pub is : IsReader first by within from reader
-  pub input_is : reader.input_gone ≡ input
-  pub output_is : reader.output_gone ≡ output
+  pub is : IsReader first by within (counts_of old.devices) reader
+  pub input_is : reader.input_gone ≡ new.input_gone
+  pub output_is : reader.output_gone ≡ new.output_gone
   pub told : TellsOf [] (reader ∷ []) ended
 
 -- so many readers with devices of their own, each in a stream that begins in this session

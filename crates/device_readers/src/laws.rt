@@ -14,7 +14,7 @@ ghost use Rattle.serve_loop.specs.Serving.{moves_of};
 ghost use Rattle.device_readers.specs.declared.ends.End.TheVariants.{AtEnd};
 ghost use Rattle.device_readers.specs.declared.ends.Ended.{Ended};
 ghost use Rattle.device_readers.specs.Readers.{AreReaders, Counts, IsServedByAll, IsServedByOne, Reader, TellsOf, done_of_all, end_of_all};
-ghost use Rattle.device_readers.specs.Laws.{CameOf, HasReader, HasServedBefore, HaveRead, IsToldFirst, KeepsSession, moved_at, sum_at};
+ghost use Rattle.device_readers.specs.Laws.{CameOf, HasReader, HasServedBefore, HaveMessages, IsToldFirst, KeepsSession, moved_at, sum_at};
 
 use std::alloc::Allocator;
 
@@ -55,7 +55,7 @@ pub fn moves_are_summed<A: Allocator>()
     ensures read { (session : Session) (over : Sourced) (within : Bounds) (from : Counts)
         (count : ℕ) (readers : List (Reader A)) →
         AreReaders session over within from count readers →
-        (parts : List (List (List ℕ))) × HaveRead (answering_from session over) readers parts }
+        (parts : List (List (List ℕ))) × HaveMessages (answering_from session over) readers parts }
     ensures together { (by : Answering) (parts : List (List (List ℕ))) (all : List (List ℕ)) →
         IsPermutation (flat_map (λ part. part) parts) all → KeepsSession by.first all →
         (node : ℕ) → moved_at by node parts ≡ balance node (moves_of by all) }

@@ -4,11 +4,9 @@ ghost use Rattle.std.specs.Prelude.{◌≤◌};
 ghost use Rattle.devices.specs.declared.limits.TheConstants.{MAX_TURNS};
 ghost use Rattle.fuse_answer.specs.Puts.{sourced_by};
 ghost use Rattle.fuse_device.specs.Ends.{ends};
-ghost use Rattle.fuse_device.specs.Spouts.{spout_gone};
-ghost use Rattle.fuse_device.specs.Taps.{tap_gone};
 ghost use Rattle.serve_core.specs.Headline.{bounds};
 ghost use Rattle.serve_loop.specs.Serving.{AreReady};
-ghost use Rattle.device_readers.specs.Readers.{IsAlone, IsAloneWith, counts_of, unused};
+ghost use Rattle.device_readers.specs.Readers.{IsAlone, IsAloneOn, unused};
 
 use crate::ends::{Ended, ended_alone};
 use fuse_device::{MessageTap, ReplySpout};
@@ -36,10 +34,9 @@ pub(crate) fn serve_on<
     counted: u64,
 ) -> Ended<A>
     requires { AreReady terms.now.turns (ends I.remaining input.old output.old).devices }
-    ensures { IsAloneWith terms.now.first (sourced_by D.source served.entry)
-        (bounds terms.now.turns counted)
-        (counts_of (ends I.remaining input.old output.old).devices) (tap_gone input.new)
-        (spout_gone output.new) result }
+    ensures { IsAloneOn terms.now.first (sourced_by D.source served.entry)
+        (bounds terms.now.turns counted) (ends I.remaining input.old output.old)
+        (ends I.remaining input.new output.new) result }
 {
     let ended = run_counting(rt, alloc, served, input, output, terms, counted);
     let input_gone = input.is_gone();
@@ -48,7 +45,7 @@ pub(crate) fn serve_on<
 }
 
 /// The same over a new room for messages, which memory may be refused for.
-#[tactic(auto, using(crate::proofs::Reading::alone_with))]
+#[tactic(auto, using(crate::proofs::Reading::alone_on))]
 pub(crate) fn serve_alone<
     R: Threads + Sync,
     A: SharedAllocator,

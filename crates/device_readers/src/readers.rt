@@ -97,7 +97,7 @@ pub fn serve_by_readers<
 }
 
 // Serves on by the reader that began and by so many others, at the same time.
-#[tactic(auto, using(crate::proofs::Reading::alone_with))]
+#[tactic(auto, using(crate::proofs::Reading::alone_on))]
 fn serve_with<
     R: Threads + Sync,
     A: SharedAllocator,

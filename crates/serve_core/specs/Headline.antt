@@ -54,14 +54,9 @@ pub record RunsWithin {A : Type 0} (first : Session) (by : Sourced) (within : Bo
   pub end : OnOk result (IsAtEnd new.source.left)
   pub at_once : within.turns ≡ 0 → result ≡ Err Turns
 
--- both, where lookups of all nodes are counted
+-- the first, where lookups of all nodes are counted
 abbrev pub IsRunFrom : {A : Type 0} → Session → Sourced → ℕ → Trace → Result (Done A) Stop → Type 0
 IsRunFrom first by turns t result = IsRunWithin first by (counting_all by turns) t result
-
-abbrev pub RunsFrom : {A : Type 0} → Session → Sourced → ℕ → Result (Done A) Stop → Devices
-    → Devices → Type 0
-RunsFrom first by turns result old new =
-    RunsWithin first by (counting_all by turns) result old new
 
 -- both, where all layers are held
 abbrev pub IsRunOver : {A : Type 0} → Session → Stacked → ℕ → Trace → Result (Done A) Stop
@@ -70,7 +65,8 @@ IsRunOver first stack turns t result = IsRunFrom first (in_memory stack) turns t
 
 abbrev pub RunsBetween : {A : Type 0} → Session → Stacked → ℕ → Result (Done A) Stop → Devices
     → Devices → Type 0
-RunsBetween first stack turns result old new = RunsFrom first (in_memory stack) turns result old new
+RunsBetween first stack turns result old new =
+    RunsWithin first (in_memory stack) (counting_all (in_memory stack) turns) result old new
 
 -- ---- serve: prepare, then run
 

@@ -7,7 +7,7 @@ ghost use Rattle.devices.specs.States.{devices};
 ghost use Rattle.fuse_answer.specs.Puts.{sourced_by};
 ghost use Rattle.reply_pool.specs.Spread.{IsSpreadable, SpreadsFrom};
 ghost use Rattle.serve_loop.specs.Serving.{AreReady};
-ghost use Rattle.serve_core.specs.Headline.{RunsBetween, RunsFrom, RunsWithin, bounds};
+ghost use Rattle.serve_core.specs.Headline.{RunsBetween, RunsWithin, bounds, counting_all};
 
 use crate::stop::Stop;
 use devices::{Sink, Source};
@@ -83,7 +83,8 @@ pub fn run_from<
     terms: &Terms<'_, G>,
 ) -> Result<Done<A>, Stop>
     requires { AreReady terms.now.turns (devices (S.state source.old) (K.state sink.old)) }
-    ensures { RunsFrom terms.now.first (sourced_by D.source served.entry) terms.now.turns result
+    ensures { RunsWithin terms.now.first (sourced_by D.source served.entry)
+        (counting_all (sourced_by D.source served.entry) terms.now.turns) result
         (devices (S.state source.old) (K.state sink.old))
         (devices (S.state source.new) (K.state sink.new)) }
 {
