@@ -55,7 +55,8 @@ pub fn moves_are_summed<A: Allocator>()
     ensures read { (session : Session) (over : Sourced) (within : Bounds) (from : Counts)
         (count : ℕ) (readers : List (Reader A)) →
         AreReaders session over within from count readers →
-        (parts : List (List (List ℕ))) × HaveMessages (answering_from session over) readers parts }
+        (parts : List (List (List ℕ)))
+        × HaveMessages (answering_from session over) readers parts }
     ensures together { (by : Answering) (parts : List (List (List ℕ))) (all : List (List ℕ)) →
         IsPermutation (flat_map (λ part. part) parts) all → KeepsSession by.first all →
         (node : ℕ) → moved_at by node parts ≡ balance node (moves_of by all) }
