@@ -96,8 +96,8 @@ fn to_front<A: Allocator>(bytes: &mut Vec<u8, A>, start: usize, end: usize)
     bytes.copy_within(start..end, 0);
 }
 
-// Makes the vector long enough for a pull behind the first `filled` bytes. What is left of one pull
-// before the next may grow to twice as much, or by a pull, before this is done again.
+// Makes the vector long enough for a pull behind the first `filled` bytes; and for one more, where
+// something was left of the pull before. A source that gives whole messages leaves nothing.
 fn grow<A: Allocator>(bytes: &mut Vec<u8, A>, filled: usize) -> Result<(), AllocError>
     requires { filled ≤ length bytes.old.items }
     ensures same { take filled bytes.new.items ≡ take filled bytes.old.items }
@@ -106,7 +106,11 @@ fn grow<A: Allocator>(bytes: &mut Vec<u8, A>, filled: usize) -> Result<(), Alloc
 {
     let len = bytes.len();
     if len - filled < PULL_SIZE {
-        let wanted = filled + filled.min(PULL_SIZE) + PULL_SIZE;
+        let wanted = if filled == 0 {
+            PULL_SIZE
+        } else {
+            filled + 2 * PULL_SIZE
+        };
         bytes.reserve_exact(wanted - len)?;
         bytes.resize(wanted, 0)?;
     }
