@@ -31,7 +31,7 @@ from checks.gate.trial_edits import Edit, Misfit, batches_of, bodies_of, togethe
 
 MOST = 6
 BY = re.compile(r"(?m)^by: *(\S+)\n")
-IMPL = re.compile(r"impl(?:<.*?>)? (?:(\w+)(?:<.*>)? for )?&?(?:'\w+ )?(\w+)")
+IMPL = re.compile(r"impl(?:<.*?>)? (?:(\w+)(?:<(.*)>)? for )?&?(?:'\w+ )?(\w+)")
 
 
 def edits_at(crate):
@@ -53,8 +53,8 @@ def name_of(file, text, body):
     lines, owner = text.split("\n"), []
     if lines[body.opens].startswith(" ") or lines[body.first].startswith(" "):
         heads = [line for line in lines[:body.first] if line.startswith("impl")]
-        trait, kind = IMPL.match(heads[-1]).groups()
-        owner = [kind + (trait or "")]
+        trait, source, kind = IMPL.match(heads[-1]).groups()
+        owner = [kind + (trait or "") + (source if trait == "From" else "")]
     return "::".join([*place_of(file), *owner, body.name])
 
 

@@ -8,7 +8,7 @@ import time
 from checks.mounts.mounted_readers import statuses
 from checks.mounts.mounted_trees import MIB, file, folder
 from checks.shared.images import Item, laid_out, write_spread
-from checks.shared.mounting import READER_SIZE, READERS, SECONDS, hold, wait_until
+from checks.shared.mounting import MOUNT_READERS, READER_SIZE, SECONDS, hold, wait_until
 from checks.shared.watched_file import CUT, FAIL, SERVE, TURN, WAIT, WatchedFile, turned
 
 PAGE = 4096
@@ -228,7 +228,7 @@ def fifty(room):
     data = random.Random(7).randbytes(64 * MIB)
     items = [file("big", data), *[file("%03d" % number, b"x") for number in range(NODES)]]
     image = room.write(laid_out(b"v", items))
-    most = 6 * MIB + 300 * (NODES + 2) + (READERS - 1) * READER_SIZE
+    most = 6 * MIB + 300 * (NODES + 2) + (MOUNT_READERS - 1) * READER_SIZE
     mounts = [room.mount([image]) for _ in range(50)]
     for mount in mounts:
         hold("data", data[MIB:MIB + PAGE], part(mount.path(b"big"), MIB, PAGE))
@@ -248,7 +248,7 @@ def spread(room):
     hold("size", size, os.lstat(mount.path(b"big")).st_size)
     for path, offset, data in ((b"big", 0, bytes(PAGE)), (b"big", size - 3, bytes(3)), (b"end", 0, b"e" * 31)):
         hold("data", data, part(mount.path(path), offset, PAGE))
-    most = 6 * MIB + (READERS - 1) * READER_SIZE
+    most = 6 * MIB + (MOUNT_READERS - 1) * READER_SIZE
     hold("memory is below %d" % most, True, anonymous(mount.server) < most)
     mount.end()
     return "an image of 2^32 - 1 bytes with headers at both ends holds names alone"

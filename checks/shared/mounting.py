@@ -16,7 +16,7 @@ SCRIPT = TOOLS + "/mount.py"
 # a check that does not end is ended after so many seconds; STRATA_SLOWER says how many times as many
 SECONDS = 60 * int(os.environ.get("STRATA_SLOWER", "1"))
 # how many readers serve a mount for which a check says nothing of that; and the most memory that each but the first takes
-READERS = int(os.environ.get("STRATA_READERS", "1"))
+MOUNT_READERS = int(os.environ.get("STRATA_READERS", "1"))
 READER_SIZE = 400 << 10
 CLONE_NEWNS, CLONE_NEWUSER = 0x20000, 0x10000000
 MS_REC, MS_PRIVATE = 0x4000, 0x40000
@@ -167,9 +167,9 @@ def try_mount(folder):
 def with_readers(words):
     """The words of a mount, with as many readers as STRATA_READERS says where they say nothing of that."""
     options = words[words.index("-o") + 1] if "-o" in words else ""
-    if READERS == 1 or "readers=" in options:
+    if MOUNT_READERS == 1 or "readers=" in options:
         return words
-    return *words, "-o", ",".join([*filter(None, [options]), "readers=%d" % READERS])
+    return *words, "-o", ",".join([*filter(None, [options]), "readers=%d" % MOUNT_READERS])
 
 
 class Room:
