@@ -144,14 +144,14 @@ fn requests_of<R: Threads + Sync>(rt: &R, global: Global, call: Call) -> Result<
     refuse_in_turn(global, |memories| is_told(rt, memories, call))
 }
 
-/// A run asks for its balances, its replies and the buffer, and for the buffer's growth.
+/// A run asks for its balances, its replies and the buffer, and twice for the buffer's growth.
 #[test]
 fn preparing_and_runs_are_refused(rt: HostRuntime) {
     for (call, least, most) in [
         (Call::Prepare, 31, u64::MAX),
         (Call::PrepareBroken(0), 6, u64::MAX),
         (Call::PrepareBroken(1), 6, u64::MAX),
-        (Call::Run, 4, 4),
+        (Call::Run, 5, 5),
     ] {
         let requests = requests_of(&rt, rt.alloc(), call);
         assert!(rt;
@@ -183,7 +183,7 @@ fn the_last_request_is_refused_behind_all_replies(rt: HostRuntime) -> Result<(),
     let last = Memories::new(rt.alloc(), counting.refusing.requests());
     let seen = serve_in(&rt, &last, LONG).ok_or("a run")?;
     assert!(rt; is_run(&all, false) && is_run(&Some(seen), true));
-    assert!(rt; seen.put == Some(1531) && seen.reads == 2 && seen.writes == 2);
+    assert!(rt; seen.put == Some(1531) && seen.reads == 3 && seen.writes == 2);
     Ok(())
 }
 
