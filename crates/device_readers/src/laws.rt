@@ -46,10 +46,10 @@ pub fn one_ends_before_the_session<A: Allocator>()
         × (ended.end ≡ end_of_all (r ∷ [])) }
 {}
 
-/// Each reader answers messages of its own. What the messages of all readers move is, of each node,
-/// what one stream of all of them moves, in whatever order, where they are in a session that none of
-/// them changes. Streams that end leave just what their messages moved, of the nodes whose lookups
-/// they count.
+/// Each reader read messages of its own, and what it put begins the replies to them. What the
+/// messages of all readers move is, of each node, what one stream of all of them moves, in whatever
+/// order, where none of them changes the session. Streams that end leave just what their messages
+/// moved, of the nodes whose lookups they count.
 #[tactic(auto, using(crate::proofs::Sums::summed))]
 pub fn moves_are_summed<A: Allocator>()
     ensures read { (session : Session) (over : Sourced) (within : Bounds) (from : Counts)
