@@ -4,10 +4,10 @@
 //! [`answer_and_move`] does both with one look-up, and [`after`] is the session after the request:
 //! exactly what `reply`, `moves` and `session_after` of `reply_model` say, over a table's layers
 //! and the paths that they show. `decide` takes no memory: it says with which error a request is
-//! refused, or what it is answered (`outcome`). `write`, and `balances` or `move_list`, tell that
-//! and decide nothing. A reply takes as many steps as it has bytes, a name's look-up some more by
-//! the logarithm of its directory's size. It grows its vector at most once, by what the answer has;
-//! where that is refused, the vector is as before.
+//! refused, or what it is answered (`outcome`). `write` and `balances` tell that and decide
+//! nothing; [`moves`] decides anew, and lists (`move_list`). A reply takes as many steps as it has
+//! bytes, a name's look-up some more by the logarithm of its directory's size. It grows its vector
+//! at most once, by what the answer has; where that is refused, the vector is as before.
 #![tactic(auto)]
 
 mod balances;

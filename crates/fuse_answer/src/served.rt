@@ -8,8 +8,8 @@ use table_reader::Table;
 
 /// The table of a stack, and beside it the files in which its layers' data stay, the lowest first.
 ///
-/// The data of a layer that has a file here are read from it when they are asked for; of any other
-/// layer they are those that the table holds, with zeros where it keeps only some.
+/// The data of a regular file in a layer that has a file here are read from it when they are asked
+/// for; all other data are those that the table holds, with zeros where it keeps only some.
 pub struct Served<'a, A: Allocator, D> {
     pub table: &'a Table<A>,
     pub files: &'a [D],

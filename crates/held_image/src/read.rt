@@ -242,7 +242,7 @@ pub fn root_of(image: &Held<'_>) -> u32
     }
 }
 
-/// The same of a slice.
+/// The name of a header in a slice, by its length.
 #[inline(always)]
 #[tactic(auto, using(crate::proofs::NameBytes::name_within))]
 fn name_in_slice(bytes: &[u8], at: u32, name_len: u32) -> &[u8]

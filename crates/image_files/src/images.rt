@@ -1,6 +1,6 @@
 //! The files of images, of a long list some at the same time.
 //!
-//! A list is cut in two, and each half once more; each part is read from its lowest image up, and
+//! A list is cut in two, and a long half once more; each part is read from its lowest image up, and
 //! what two halves found is put together: a fault of the lower half, of memory or of an image that
 //! cannot be read, is told before one of the upper. So all images below the one that is told were
 //! read.

@@ -76,8 +76,8 @@ pub(crate) fn make<A: Allocator + Copy>(
     Ok(TableParts { nodes, directories })
 }
 
-// Makes the node of a first branch but for what its header says, and adds what is to be held of a
-// directory.
+// Makes the node of a first branch, as it is before it is completed, and adds what is to be held of
+// a directory.
 fn add_node<A: Allocator + Copy>(
     alloc: A,
     images: &[ImageView<'_>],

@@ -75,7 +75,7 @@ fn rdev_of(kind: Kind, spec: u32) -> u32
     }
 }
 
-// Fills in what a node's header says.
+// Makes the mode and the device numbers of what the header said.
 fn complete(node: &mut Node)
     ensures { node.new ≡ completed node.old }
 {

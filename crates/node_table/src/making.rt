@@ -159,7 +159,8 @@ fn read_all<A: Allocator + Copy>(
     Ok((blocks, parts))
 }
 
-// The nodes of a tree, but for what their headers say, their rows, and the rows' keys.
+// The nodes of a tree before they are completed, their directories, the rows of these and the rows'
+// keys.
 fn parts_of<A: Allocator + Copy>(
     alloc: A,
     tree: &Tree<A>,

@@ -11,12 +11,12 @@ use fuse_wire::Replies;
 use reply_model::Move;
 use std::alloc::{AllocError, Allocator};
 
-/// What a round comes to.
+/// What jobs come to, those of a batch or of a whole round.
 #[derive(Drop)]
 pub struct Rounded<A: Allocator> {
     /// The replies in the order of the jobs, one after another.
     pub bytes: Replies<A>,
-    /// How many lookups of each node the round gives, less those that it takes: in ascending order
+    /// How many lookups of each node the jobs give, less those that they take: in ascending order
     /// of nodes, each node once, and none with 0.
     pub moves: Vec<Move, A>,
 }

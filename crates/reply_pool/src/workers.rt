@@ -4,7 +4,7 @@
 //! jobs     -> batches        reply_pieces
 //! batches  -> pieces         worker:  draw a number, answer its batch (jobs), until none is left
 //!                            workers: a hand for each of the threads, rejoined after them
-//! pieces   -> one Rounded    reply_pieces
+//! pieces   -> a loop's replies (RoundPieces), or one Rounded (`round`): reply_pieces
 //! ```
 
 ghost use Rattle.std.specs.Prelude.{◌≡◌, ◌≤◌, length, IfOk};

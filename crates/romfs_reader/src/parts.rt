@@ -75,7 +75,7 @@ pub(crate) fn end_of(image: &Held<'_>, head: &Head) -> Head
     end
 }
 
-/// The same, where bytes beyond the image are left out.
+/// So many bytes of an image from a place on, without those that would lie beyond it.
 #[tactic(auto, unfolding(crate::specs::Readers::bytes_at))]
 pub(crate) fn bytes_within(image: &[u8], from: usize, len: usize) -> &[u8]
     ensures { result.now ≡ bytes_at image.now from len }

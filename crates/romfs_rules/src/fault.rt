@@ -124,7 +124,7 @@ fn is_plain_by<A: Allocator + Copy>(
     }
 }
 
-// The same, by sets of its headers.
+// What [`fault_in`] tells, by sets of the image's headers.
 fn fault_by_sets<A: Allocator + Copy>(
     alloc: A,
     volume: &Volume,

@@ -9,7 +9,7 @@
 //! messages are framed and that a session goes from request to request, but no image and no node.
 //! It takes memory for the balances, one number of 128 bits a node, for a buffer of one message and
 //! two pulls, and for a round's replies: each of the latter two grows up to about 1.25 MiB,
-//! whatever the stream.
+//! whatever the stream; replies that workers give have as much room as their pieces take.
 #![tactic(auto)]
 
 mod buffer;

@@ -12,7 +12,8 @@ use fuse_wire::limits::MAX_REPLY_SIZE;
 use reply_model::Session;
 use std::alloc::{AllocError, Allocator};
 
-/// The most bytes of a round's replies: fewer than end a round, and one reply more.
+/// Room for the replies of a round on one thread: fewer bytes than end it, and one reply more.
+/// Where workers answer more it grows.
 const REPLIES_ROOM: usize = ENOUGH_REPLIES + MAX_REPLY_SIZE;
 
 /// How far a stream is answered.

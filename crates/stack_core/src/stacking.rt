@@ -35,8 +35,8 @@ pub fn stack<R: Threads + Sync, A: Allocator + Copy + Send + Sync, G: Gate + Syn
 ///
 /// The list is cut in two, and so on, and at most 16 parts are stacked at the same time. The gate
 /// is passed with `Work::Tree` and the layer's number before its tree is made. Images are only
-/// read. A path of n layers that meets in every layer is gone over log n times. `AllocError` comes
-/// only where memory was refused, in whichever thread.
+/// read. A path that is in all of n layers is gone over log n times. `AllocError` comes only where
+/// memory was refused, in whichever thread.
 pub fn stack_views<R: Threads + Sync, A: Allocator + Copy + Send + Sync, G: Gate + Sync>(
     rt: &R,
     alloc: A,

@@ -15,8 +15,8 @@ use std::fs::Files;
 use std::os::unix::fs::FileExt;
 use std::thread::Threads;
 
-/// The most bytes, in all, of images that are read whole where requests come as a stream: to read
-/// so many takes less time than to gather what the rules look at.
+/// The most bytes, in all, of images that are read whole where no mount is served: to read so many
+/// takes less time than to gather what the rules look at.
 const SMALL_STACK: u64 = 32 << 20;
 
 /// What is held of images, the lowest layer first.
@@ -36,8 +36,9 @@ pub struct LineImages<F, A: Allocator> {
     pub files: Vec<ImageData<F, A>, A>,
 }
 
-/// The images of a line that serves. They stay in their files, if it does not ask for all their
-/// bytes, and if they have more than [`SMALL_STACK`] bytes together, or it asks for that.
+/// The images of a line that serves or lists. They are read whole where it asks for that, or where
+/// they are regular files of at most [`SMALL_STACK`] bytes together and it neither asks for
+/// `--in-files` nor serves a device; else they stay in their files.
 pub fn open_all<R: Files + Threads + Sync, A: Allocator + Copy + Send + Sync>(
     rt: &R,
     alloc: A,
@@ -105,8 +106,8 @@ fn all_whole<A: Allocator + Copy>(
     Ok(held)
 }
 
-// Whether the images of a line that serves are read whole: where it asks for that; and where they
-// are small together, and need not stay in their files.
+// Whether the images of a line are read whole: where it asks for that; and where they are small
+// together, and need not stay in their files.
 fn are_read_whole<R: Files>(rt: &R, line: &Line<'_>) -> bool
     ensures asked { line.now.whole ≡ true → result ≡ true }
     ensures left { line.now.whole ≡ false → stay_in_files line.now ≡ true → result ≡ false }

@@ -7,9 +7,9 @@
 //! clients. [`faults`] has a line and an exit status for each thing that can go wrong.
 //!
 //! Images stay in their files: what the rules look at is read of them, and all else when a client
-//! asks for it. With `--whole` all their bytes are read at first, and held (`images`). Either way
-//! `preparing` makes one table of them, beside which stand the files; what is told of data that
-//! stay in a file, `specs/Images` and `serve_core` say.
+//! asks for it. With `--whole`, and of a small stack that no mount shows, all their bytes are read
+//! at first, and held (`images`). Either way `preparing` makes one table of them, beside which
+//! stand the files; what is told of data that stay in a file, `specs/Images` and `serve_core` say.
 //!
 //! `command_line` reads the words, `image_files` the files of images; `stack_prepare` checks images
 //! and stacks them, for each command that needs their stack, `serve_core` serves a stream over
