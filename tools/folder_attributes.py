@@ -81,6 +81,8 @@ def add_attributes(folder, path, lost):
             image = ReadImage(file.fileno())
             check_behind(file.fileno(), image.full)
             rows = Reading(image, os.fsencode(folder), lost).read()
+            if trailer.end_of(image.full, len(rows)) > trailer.END_MOST:
+                raise Refused("with its attributes it would be larger than %d bytes" % trailer.END_MOST)
         except Refused as refused:
             raise Refused("%s: %s" % (shown(os.fsencode(path)), refused)) from None
         trailer.write_trailer(file.fileno(), image.full, rows)

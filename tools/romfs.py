@@ -19,8 +19,6 @@ from refused import Refused, shown
 
 HARD, DIRECTORY, REGULAR, SYMLINK, BLOCK, CHARACTER, SOCKET, FIFO = range(8)
 EXECUTABLE = 8
-# the full size of an image is a word, and all places are multiples of 16
-MOST = 2 ** 32 - 16
 NAME_MOST, TARGET_MOST, NAMES_MOST = 255, 4095, 512
 MAJOR_MOST, MINOR_MOST = 4095, 65535
 # so many bytes are gathered before they are written
@@ -87,7 +85,7 @@ class Image:
     def __init__(self, out, name):
         self.out, self.gathered, self.gathered_size = out, [], 0
         # what the rows of the trailer say, by the offsets of headers, at the end
-        self.at, self.rows = 0, {}
+        self.at, self.rows, self.nodes = 0, {}, 1
         self.put(b"-rom1fs-" + bytes(8) + padded_name(name))
         self.root = Node(DIRECTORY, True, self.at, spec=self.at)
         # the directory that something came into last, and whose names were looked at
@@ -117,9 +115,11 @@ class Image:
             at, data = at + count, data[count:]
 
     def claim(self, path, size):
-        """The place of the next header, behind which so many bytes follow; the image must hold them."""
-        if self.at + 16 + len(padded_name(path[-1])) + size > MOST:
-            raise Refused("%s: the image would be larger than %d bytes" % (path_text(path), MOST))
+        """The place of the next header, behind which so many bytes follow. The image must hold them, and behind them a
+        trailer with a row for each node."""
+        self.nodes += 1
+        if trailer.end_of(self.at + 16 + len(padded_name(path[-1])) + size, self.nodes) > trailer.END_MOST:
+            raise Refused("%s: the image would be larger than %d bytes with its attributes" % (path_text(path), trailer.END_MOST))
         return self.at
 
     # --- headers ---

@@ -11,6 +11,8 @@ HEAD_SIZE, ROW_SIZE = 16, 32
 SAID = struct.Struct(">3Iq2I")
 PLACE = struct.Struct(">I")
 MODE_MOST, OWNER_MOST, SECOND = 0o7777, 2 ** 32 - 1, 10 ** 9
+# strata reads a trailer of an image in its file that ends below 2^32; all that stands there are multiples of 16
+END_MOST = 2 ** 32 - 16
 # a block device gives whole blocks only
 BLOCK_SIZE = 1024
 PIECE = 1 << 20
@@ -30,6 +32,11 @@ def is_good(row):
 def place_of(full):
     """Where the trailer of an image of this full size begins."""
     return full + -full % 16
+
+
+def end_of(full, count):
+    """Where the trailer of an image of this full size ends, if it has so many rows."""
+    return place_of(full) + HEAD_SIZE + ROW_SIZE * count
 
 
 def words_sum(data):

@@ -10,7 +10,7 @@ import layers
 from checks.layers.layer_room import LeftOut, expect
 from checks.layers.shown_trees import read
 from checks.plain import plain, plain_attributes
-from checks.shared.images import Item, laid_out
+from checks.shared.images import MOST_FULL, Item, laid_out, write_spread
 
 
 def added(folder, image):
@@ -113,6 +113,18 @@ def test_devices_of_genromfs(room):
     write(image, laid_out(b"v", [Item((b"tty",), "character", False, spec=5 << 16)]))
     expect(added(folder, image)[0] == 0, "the run")
     expect(len(plain_attributes.rows(read(image))) == 1, "rows")
+
+
+def test_no_room(room):
+    """Behind the largest image no trailer ends below 2^32, as strata asks of an image in its file."""
+    folder, image = room.name(), room.name()
+    os.mkdir(folder)
+    for name in ("big", "end"):
+        write(os.path.join(folder, name), b"")
+    write_spread(image)
+    line = "%s: with its attributes it would be larger than 4294967280 bytes" % image
+    expect(added(folder, image) == (1, "", [line]), "the run")
+    expect(os.stat(image).st_size == MOST_FULL, "the image has changed")
 
 
 def test_refused(room):
