@@ -1,51 +1,54 @@
 -- Readers that served did so in a session that had begun (`went_on`); one that served alone came to
 -- its end before (`ended_before`).
-use Rattle.std.proofs.Common.{◌≡◌, ◌∙◌, sym, ap, subst, ℕ, List, [], ◌∷◌, false, length, arith}
-use Rattle.std.specs.List.{AllByRecursion}
+use Rattle.std.proofs.Common.{◌≡◌, ◌∙◌, sym, subst, false, List, ◌∷◌, None, Some, Result}
+use Rattle.std.specs.List.{AllZip}
 use Rattle.reply_model.specs.declared.session.Session.{Session}
 use Rattle.reply_model.specs.Readings.{Sourced}
 use Rattle.reply_model.specs.Sessions.{is_fresh}
 use Rattle.reply_pool.specs.Answers.{answering_from}
+use Rattle.serve_loop.specs.declared.done.Done.{Done}
 use Rattle.serve_loop.specs.Opening.{WasNotBegun}
-use Rattle.serve_core.specs.Headline.{Bounds, IsRunWithin}
+use Rattle.serve_loop.specs.Serving.{Trace}
+use Rattle.serve_core.specs.declared.stop.Stop.{Stop}
+use Rattle.serve_core.specs.Headline.{Bounds}
 use Rattle.serve_core.proofs.Stops.{ended_well, read_told}
-use Rattle.device_readers.specs.declared.ends.Ended.{Ended}
 use Rattle.device_readers.specs.Laws.{HasServedBefore}
-use Rattle.device_readers.specs.Readers.{IsReader, IsServedByAll, IsServedByOne, Reader, end_of_all, unused}
+use Rattle.device_readers.specs.Readers.{AreServedBy, HasDone, HasServed, IsNotOpenedOver}
+use Rattle.device_readers.specs.Seats.{SeatState}
 
 module _ {A : Type 0} (over : Sourced) (within : Bounds) where
-  all_served : (session : Session) (readers : List (Reader A)) → AllByRecursion (IsReader session over within unused) readers
-      → AllByRecursion (λ r. IsRunWithin session over within r.trace r.result) readers
-  all_served session [] a = tt
-  all_served session (r ∷ readers) a = (a.0.run, all_served session readers a.1)
+  pub went_on : (first : Session) (old new : List (SeatState A)) (before : Done A)
+      → AreServedBy first over within old new (Some before)
+      → (session : Session) × (is_fresh session ≡ false) × (leader began : SeatState A) × (others : List (SeatState A))
+      × (old ≡ leader ∷ others) × AllZip (HasServed session over within) (began ∷ others) new
+  went_on first old new before s =
+      let (got, put, took, held, opened) = s.opened in
+      (s.begun.session, opened.ready, s.leader, s.began, s.others, s.old_is, s.each)
 
-  pub went_on : (first : Session) (count : ℕ) (ended : Ended A) → IsServedByAll first over within count ended
-      → (session : Session) × (is_fresh session ≡ false) × (readers : List (Reader A)) × (length readers ≡ count)
-      × AllByRecursion (λ r. IsRunWithin session over within r.trace r.result) readers × (ended.end ≡ end_of_all readers)
-  went_on first count ended s =
-      let session = s.begun.session in
-      let all : AllByRecursion (λ r. IsRunWithin session over within r.trace r.result) (s.are.leader ∷ s.are.others) =
-      (s.are.goes_on.run, all_served session s.are.others s.are.new.each) in (
-        session,
-        s.opened.ready,
-        s.readers,
-        let l = ap length s.are.readers_are in let c = s.are.count_is in omega arith,
-        subst (λ rs. AllByRecursion (λ r. IsRunWithin session over within r.trace r.result) rs) (sym s.are.readers_are) all,
-        s.told.end,
-      )
+  served_before : (first : Session) (t : Trace) (result : Result (Done A) Stop) → IsNotOpenedOver first over within t result
+      → HasServedBefore first over within t result
+  served_before first t result o = record {
+    run = o.run;
+    ended = λ done is. subst (WasNotBegun (answering_from first over) t) (ended_well done o.run.ended (sym is ∙ o.run.result_is))
+        o.not_begun;
+    failed = λ is. subst (WasNotBegun (answering_from first over) t) (read_told o.run.ended (sym is ∙ o.run.result_is)) o.not_begun;
+  }
 
-  pub ended_before : (first : Session) (ended : Ended A) → IsServedByOne first over within ended
-      → (r : Reader A) × HasServedBefore first over within r × (ended.end ≡ end_of_all (r ∷ []))
-  ended_before first ended s =
-      let r = s.reader in
-      let run = s.is.run in (
-        r,
+  pub ended_before : (first : Session) (old new : List (SeatState A)) → AreServedBy first over within old new None
+      → (leader ended : SeatState A) × (others : List (SeatState A)) × (old ≡ leader ∷ others) × (new ≡ ended ∷ others)
+      × HasDone (HasServedBefore first over within) leader ended
+  ended_before first old new s =
+      let o = s.opened in
+      let (got, put, took, held, opened) = o.does in (
+        s.leader,
+        s.ended,
+        s.others,
+        s.old_is,
+        s.new_is,
         record {
-          run = run;
-          ended = λ done is. subst (WasNotBegun (answering_from first over) r.trace) (ended_well done run.ended (sym is ∙ run.result_is))
-              s.not_begun;
-          failed = λ is. subst (WasNotBegun (answering_from first over) r.trace) (read_told run.ended (sym is ∙ run.result_is))
-              s.not_begun;
+          result = o.result;
+          result_is = o.result_is;
+          does = (got, put, took, held, served_before first _ o.result opened);
+          gone = o.gone;
         },
-        s.told.end,
       )

@@ -1,4 +1,3 @@
-pub mod Told
 pub mod Opened
 pub mod Reading
 pub mod Order

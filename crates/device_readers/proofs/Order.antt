@@ -1,14 +1,18 @@
 -- Which end is told of readers: none of theirs stands before it, and it is one of theirs.
-use Rattle.std.proofs.Common.{◌≡◌, ◌∙◌, ◌≤◌, ◌⊎◌, sym, ap, subst, refl, Bool, true, false, inl, inr, List, [], ◌∷◌, nat_le, arith}
+use Rattle.std.proofs.Common.{◌≡◌, ◌∙◌, ◌≤◌, ◌⊎◌, refl, ap, Bool, true, false, inl, inr, List, [], ◌∷◌, nat_le, arith}
 use Rattle.std.proofs.lemmas.Bool.{leb-false, leb-true}
-use Rattle.serve_loop.specs.declared.done.Done.{Done}
 use Rattle.device_readers.specs.declared.ends.End.{End}
 use Rattle.device_readers.specs.declared.ends.End.TheVariants.{AtEnd}
-use Rattle.device_readers.specs.declared.ends.Ended.{Ended}
 use Rattle.device_readers.specs.Ends.{first_told, place_of_end}
-use Rattle.device_readers.specs.Readers.{Reader, TellsOf, end_of_all}
-use Rattle.device_readers.specs.Laws.{HasReader, IsToldFirst, own_end}
-use Rattle.device_readers.proofs.Told.{high_told, low_told}
+use Rattle.device_readers.specs.Seats.{SeatState, end_of_all, own_end}
+use Rattle.device_readers.specs.Laws.{HasReader, IsToldFirst}
+
+-- the former is told where it stands first, and the latter where that does
+low_told : (a b : End) → nat_le (place_of_end a) (place_of_end b) ≡ true → first_told a b ≡ a
+low_told a b e = rw e refl
+
+high_told : (a b : End) → nat_le (place_of_end a) (place_of_end b) ≡ false → first_told a b ≡ b
+high_told a b e = rw e refl
 
 -- of two ends the one that is told stands before neither
 before_both : (a b : End) → (place_of_end (first_told a b) ≤ place_of_end a) × (place_of_end (first_told a b) ≤ place_of_end b)
@@ -27,30 +31,22 @@ either_told a b = cases (nat_le (place_of_end a) (place_of_end b)) refl
     cases false e = inr (high_told a b e)
 
 module _ {A : Type 0} where
-  earlier : (a b : End) (readers : List (Reader A)) → place_of_end a ≤ place_of_end b → IsToldFirst b readers → IsToldFirst a readers
+  earlier : (a b : End) (seats : List (SeatState A)) → place_of_end a ≤ place_of_end b → IsToldFirst b seats → IsToldFirst a seats
   earlier a b [] h t = tt
-  earlier a b (r ∷ readers) h t = ((let l = t.0 in omega arith), earlier a b readers h t.1)
+  earlier a b (s ∷ seats) h t = ((let l = t.0 in omega arith), earlier a b seats h t.1)
 
-  first_of : (readers : List (Reader A)) → IsToldFirst (end_of_all readers) readers
-  first_of [] = tt
-  first_of (r ∷ readers) =
-      let both = before_both (own_end r) (end_of_all readers) in
-      (both.0, earlier (end_of_all (r ∷ readers)) (end_of_all readers) readers both.1 (first_of readers))
+  pub told_first : (seats : List (SeatState A)) → IsToldFirst (end_of_all seats) seats
+  told_first [] = tt
+  told_first (s ∷ seats) =
+      let both = before_both (own_end s) (end_of_all seats) in
+      (both.0, earlier (end_of_all (s ∷ seats)) (end_of_all seats) seats both.1 (told_first seats))
 
-  one_of : (readers : List (Reader A)) (end : End) → end ≡ end_of_all readers → (end ≡ AtEnd) ⊎ HasReader end readers
+  one_of : (seats : List (SeatState A)) (end : End) → end ≡ end_of_all seats → (end ≡ AtEnd) ⊎ HasReader end seats
   one_of [] end e = inl e
-  one_of (r ∷ readers) end e = elim (either_told (own_end r) (end_of_all readers)) [
+  one_of (s ∷ seats) end e = elim (either_told (own_end s) (end_of_all seats)) [
     | inl own ↦ inr (inl (e ∙ own))
-    | inr other ↦ elim (one_of readers end (e ∙ other)) [ inl none ↦ inl none | inr has ↦ inr (inr has) ]
+    | inr other ↦ elim (one_of seats end (e ∙ other)) [ inl none ↦ inl none | inr has ↦ inr (inr has) ]
   ]
 
-  pub told_first : (before : List (Done A)) (readers : List (Reader A)) (ended : Ended A) → TellsOf before readers ended
-      → IsToldFirst ended.end readers
-  told_first before readers ended t = subst (λ e. IsToldFirst e readers) (sym t.end) (first_of readers)
-
-  pub told_of_one : (before : List (Done A)) (readers : List (Reader A)) (ended : Ended A) → TellsOf before readers ended
-      → (ended.end ≡ AtEnd) ⊎ HasReader ended.end readers
-  told_of_one before readers ended t = one_of readers ended.end t.end
-
--- both of them, for the goals of the law
-pub ruleset told = (told_first, told_of_one)
+  pub told_of_one : (seats : List (SeatState A)) → (end_of_all seats ≡ AtEnd) ⊎ HasReader (end_of_all seats) seats
+  told_of_one seats = one_of seats (end_of_all seats) refl

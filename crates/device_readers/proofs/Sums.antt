@@ -1,7 +1,7 @@
 -- What readers moved together. The sums of what messages move one by one do not go by their order
 -- (`total_shuffled`); in a session that no message changes a stream moves just that (`kept`).
-use Rattle.std.proofs.Common.{◌≡◌, ◌∙◌, sym, ap, subst, refl, ℕ, suc, ◌+◌, ◌<◌, ℤ, pos, negsuc, ◌+ℤ◌, ◌-ℤ◌, List, [], ◌∷◌, ◌++◌, map, flat_map, sum_by, IsPermutation, Result, Ok, Err, arith}
-use Rattle.std.specs.List.{AllByRecursion}
+use Rattle.std.proofs.Common.{◌≡◌, ◌∙◌, sym, ap, subst, refl, ℕ, suc, ◌+◌, ◌<◌, ℤ, pos, negsuc, ◌+ℤ◌, ◌-ℤ◌, List, [], ◌∷◌, ◌++◌, map, flat_map, sum_by, IsPermutation, Some, Result, Ok, Err, arith}
+use Rattle.std.specs.List.{AllByRecursion, AllZip}
 use Rattle.std.proofs.lemmas.Int.{ints}
 use Rattle.std.proofs.lemmas.List.Elements.{All-from_recursion, recursion_from_All}
 use Rattle.std.proofs.lemmas.List.Sorted.{All-permutation, IsPermutation-sym, sum_by-IsPermutation}
@@ -20,10 +20,11 @@ use Rattle.serve_loop.specs.Serving.{moves_of}
 use Rattle.serve_core.specs.declared.stop.Stop.{Stop}
 use Rattle.serve_core.specs.Headline.{Bounds, IsRunWithin}
 use Rattle.serve_core.proofs.Stops.{ended_well}
-use Rattle.serve_loop.specs.Serving.{IsRun, Trace}
+use Rattle.serve_loop.specs.Serving.{Does, IsRun, Trace}
 use Rattle.device_readers.specs.Ends.{done_of}
-use Rattle.device_readers.specs.Readers.{AreReaders, Counts, IsReader, Reader, done_of_all}
-use Rattle.device_readers.specs.Laws.{CameOf, HasMessages, HaveMessages, KeepsSession, moved_at, sum_at}
+use Rattle.device_readers.specs.Readers.{HasServed}
+use Rattle.device_readers.specs.Seats.{SeatState, devices_of, done_of_all}
+use Rattle.device_readers.specs.Laws.{CameOf, HaveMessages, IsAnswered, KeepsSession, moved_at, sum_at}
 
 -- what a number has above 0, and below
 abbrev above : ℤ → ℕ
@@ -125,7 +126,7 @@ counted by nodes (done ∷ more) (messages ∷ others) c place there =
 -- the stream of a reader that came to its end left what its messages moved
 module _ {A : Type 0} (session : Session) (over : Sourced) (within : Bounds) where
   came_one : (t : Trace) (result : Result (Done A) Stop) → IsRunWithin session over within t result
-      → (parts : List (List (List ℕ))) × CameOf (answering_from session over) within.counted (done_of result) parts
+      → (parts : List (List (List ℕ))) × CameOf (answering_from session over) within.counted (done_of (Some result)) parts
   came_one t (Ok done) run =
       let r = subst (IsRun (answering_from session over) within.counted within.turns t)
       (ended_well done run.ended run.result_is) run.run in
@@ -141,49 +142,41 @@ module _ {A : Type 0} (session : Session) (over : Sourced) (within : Bounds) whe
   came_append (x ∷ xs) ys [] qs c d = absurd c
   came_append (x ∷ xs) ys (p ∷ ps) qs c d = (c.0, came_append xs ys ps qs c.1 d)
 
-  came_with : (r : Reader A) (readers : List (Reader A)) → IsRunWithin session over within r.trace r.result
+  came_of : (old new : SeatState A) → HasServed session over within old new
+      → (parts : List (List (List ℕ))) × CameOf (answering_from session over) within.counted (done_of new.result) parts
+  came_of old new s =
+      let (got, put, took, held, run) = s.does in
+      subst (λ r. (parts : List (List (List ℕ))) × CameOf (answering_from session over) within.counted (done_of r) parts)
+      (sym s.result_is) (came_one _ s.result run)
+
+  pub came : (old new : List (SeatState A)) → AllZip (HasServed session over within) old new
       → (parts : List (List (List ℕ)))
-      × CameOf (answering_from session over) within.counted (done_of_all readers) parts
-      → (parts : List (List (List ℕ)))
-      × CameOf (answering_from session over) within.counted (done_of_all (r ∷ readers)) parts
-  came_with r readers run (qs, d) =
-      let (ps, c) = came_one r.trace r.result run in
-      (ps ++ qs, came_append (done_of r.result) (done_of_all readers) ps qs c d)
+      × CameOf (answering_from session over) within.counted (done_of_all new) parts
+  came [] [] each = ([], tt)
+  came [] (n ∷ new) each = absurd each
+  came (o ∷ old) [] each = absurd each
+  came (o ∷ old) (n ∷ new) each =
+      let (ps, c) = came_of o n each.0 in
+      let (qs, d) = came old new each.1 in
+      (ps ++ qs, came_append (done_of n.result) (done_of_all new) ps qs c d)
 
-  came_all : (from : Counts) (readers : List (Reader A)) → AllByRecursion (IsReader session over within from) readers
-      → (parts : List (List (List ℕ)))
-      × CameOf (answering_from session over) within.counted (done_of_all readers) parts
-  came_all from [] each = ([], tt)
-  came_all from (r ∷ readers) each = came_with r readers each.0.run (came_all from readers each.1)
+  -- the messages of readers are those of their runs
+  read_of : (old new : SeatState A) → HasServed session over within old new
+      → (messages : List (List ℕ)) × Does (IsAnswered (answering_from session over) messages) (devices_of old) (devices_of new)
+  read_of old new s =
+      let (got, put, took, held, run) = s.does in
+      let r = run.run in
+      (r.messages, (got, put, took, held, record { rest = r.rest; split = r.split; begun = r.begun }))
 
-  pub came : (from : Counts) (count : ℕ) (readers : List (Reader A)) → AreReaders session over within from count readers
-      → (parts : List (List (List ℕ)))
-      × CameOf (answering_from session over) within.counted (done_of_all readers) parts
-  came from count readers are =
-      subst (λ rs. (parts : List (List (List ℕ)))
-      × CameOf (answering_from session over) within.counted (done_of_all rs) parts)
-      (sym are.readers_are) (came_with are.leader are.others are.goes_on.run (came_all _ are.others are.new.each))
-
--- the messages of readers are those of their runs
-module _ {A : Type 0} (session : Session) (over : Sourced) (within : Bounds) where
-  read_with : (r : Reader A) (readers : List (Reader A)) → IsRunWithin session over within r.trace r.result
-      → (parts : List (List (List ℕ))) × HaveMessages (answering_from session over) readers parts
-      → (parts : List (List (List ℕ))) × HaveMessages (answering_from session over) (r ∷ readers) parts
-  read_with r readers run (parts, h) =
-      let one : HasMessages (answering_from session over) r run.run.messages =
-      record { rest = run.run.rest; split = run.run.split; begun = run.run.begun } in
-      (run.run.messages ∷ parts, (one, h))
-
-  read_all : (from : Counts) (readers : List (Reader A)) → AllByRecursion (IsReader session over within from) readers
-      → (parts : List (List (List ℕ))) × HaveMessages (answering_from session over) readers parts
-  read_all from [] each = ([], tt)
-  read_all from (r ∷ readers) each = read_with r readers each.0.run (read_all from readers each.1)
-
-  pub read : (from : Counts) (count : ℕ) (readers : List (Reader A)) → AreReaders session over within from count readers
-      → (parts : List (List (List ℕ))) × HaveMessages (answering_from session over) readers parts
-  read from count readers are =
-      subst (λ rs. (parts : List (List (List ℕ))) × HaveMessages (answering_from session over) rs parts)
-      (sym are.readers_are) (read_with are.leader are.others are.goes_on.run (read_all _ are.others are.new.each))
+  pub read : (old new : List (SeatState A)) → AllZip (HasServed session over within) old new
+      → (parts : List (List (List ℕ))) × HaveMessages (answering_from session over) old new parts
+  read [] [] each = ([], tt)
+  read [] (n ∷ new) each = absurd each
+  read (o ∷ old) [] each = absurd each
+  read (o ∷ old) (n ∷ new) each =
+      let (messages, one) = read_of o n each.0 in
+      let (parts, more) = read old new each.1 in
+      (messages ∷ parts, (one, more))
 
 -- those of messages alone, for the goals of the law
 pub ruleset summed = (together, counted)

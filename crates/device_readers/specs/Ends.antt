@@ -1,11 +1,10 @@
 -- How the readers of one open /dev/fuse ended, and which end is told of all of them.
-use Rattle.std.specs.Prelude.{◌≡◌, ℕ, Bool, ◌||◌, List, [], ◌∷◌, ◌++◌, Vec, Result, Ok, Err, IfOk, IsOkAnd, nat_le, if◌then◌else◌}
+use Rattle.std.specs.Prelude.{◌≡◌, ℕ, Bool, ◌||◌, List, [], ◌∷◌, Option, None, Some, Result, Ok, Err, nat_le, if◌then◌else◌}
 use Rattle.serve_core.specs.declared.stop.Stop.{Stop}
 use Rattle.serve_core.specs.declared.stop.Stop.TheVariants as stops
 use Rattle.serve_loop.specs.declared.done.Done.{Done}
 use Rattle.device_readers.specs.declared.ends.End.{End}
 use Rattle.device_readers.specs.declared.ends.End.TheVariants.{AtEnd, TakenAway, Stopped}
-use Rattle.device_readers.specs.declared.ends.Ended.{Ended}
 
 -- the end of a reader that stopped: the mount was taken away where a read failed and its side is
 -- gone, or a write failed and one side is
@@ -14,10 +13,11 @@ end_of_stop stops.Read input output = if input then TakenAway else Stopped stops
 end_of_stop stops.Write input output = if input || output then TakenAway else Stopped stops.Write
 end_of_stop stop input output = Stopped stop
 
--- the end of a reader, of which either side may be gone
-abbrev pub end_of : {A : Type 0} → Result (Done A) Stop → Bool → Bool → End
-end_of (Ok done) input output = AtEnd
-end_of (Err stop) input output = end_of_stop stop input output
+-- the end of a reader by what its stream came to, if it served one, and whether either side is gone
+abbrev pub end_of : {A : Type 0} → Option (Result (Done A) Stop) → Bool → Bool → End
+end_of None input output = AtEnd
+end_of (Some (Ok done)) input output = AtEnd
+end_of (Some (Err stop)) input output = end_of_stop stop input output
 
 -- where a fault stands in the table of faults and their exit statuses
 abbrev pub place_of : Stop → ℕ
@@ -42,20 +42,6 @@ abbrev pub first_told : End → End → End
 first_told low high = if nat_le (place_of_end low) (place_of_end high) then low else high
 
 -- what a stream came to that was served to its end
-abbrev pub done_of : {A : Type 0} → Result (Done A) Stop → List (Done A)
-done_of (Ok done) = done ∷ []
-done_of (Err stop) = []
-
--- two lists, one behind the other, where memory was refused for neither
-abbrev pub AreBoth : {A E : Type 0} → Result (Vec (Done A) A) E → Result (Vec (Done A) A) E
-    → List (Done A) → Type 0
-AreBoth low high all = IsOkAnd low (λ xs. IsOkAnd high (λ ys. all ≡ xs.items ++ ys.items))
-
--- a list with one more in front, where memory was not refused for it
-abbrev pub IsBehind : {A E : Type 0} → Done A → Result (Vec (Done A) A) E → List (Done A) → Type 0
-IsBehind before more all = IsOkAnd more (λ xs. all ≡ before ∷ xs.items)
-
--- what two groups came to, as one
-pub record IsOfBoth {A : Type 0} (low high all : Ended A) : Type 0 where
-  pub end : all.end ≡ first_told low.end high.end
-  pub done : IfOk all.done (λ done. AreBoth low.done high.done done.items)
+abbrev pub done_of : {A : Type 0} → Option (Result (Done A) Stop) → List (Done A)
+done_of (Some (Ok done)) = done ∷ []
+done_of _ = []

@@ -1,7 +1,8 @@
 -- What readers come to, for a caller: which end is told, when one alone serves, and what they moved
 -- together.
-use Rattle.std.specs.Prelude.{◌≡◌, ◌≤◌, ◌⊎◌, ⊤, ℕ, ℤ, pos, ◌+ℤ◌, List, [], ◌∷◌, Ok, Err}
+use Rattle.std.specs.Prelude.{◌≡◌, ◌≤◌, ◌⊎◌, ⊤, ℕ, ℤ, pos, ◌+ℤ◌, List, [], ◌∷◌, Result, Ok, Err}
 use Rattle.std.specs.List.{AllByRecursion}
+use Rattle.devices.specs.States.{Devices}
 use Rattle.fuse_wire.specs.Requests.{asked}
 use Rattle.fuse_wire.specs.Stream.{IsSplit}
 use Rattle.lookup_balances.specs.Balances.{balance_at}
@@ -13,49 +14,45 @@ use Rattle.reply_pool.specs.Answers.{answering_from}
 use Rattle.serve_loop.specs.declared.done.Done.{Done}
 use Rattle.serve_loop.specs.Opening.{HasNotBegun}
 use Rattle.serve_loop.specs.Rounds.{Answering}
-use Rattle.serve_loop.specs.Serving.{AreBalances, BeginReplies, moves_of}
+use Rattle.serve_loop.specs.Serving.{AreBalances, BeginReplies, Does, Trace, moves_of}
+use Rattle.serve_core.specs.declared.stop.Stop.{Stop}
 use Rattle.serve_core.specs.declared.stop.Stop.TheVariants.{Read}
 use Rattle.serve_core.specs.Headline.{Bounds, IsRunWithin}
 use Rattle.device_readers.specs.declared.ends.End.{End}
-use Rattle.device_readers.specs.Ends.{end_of, place_of_end}
-use Rattle.device_readers.specs.Readers.{Reader}
-
--- how a reader ended
-abbrev pub own_end : {A : Type 0} → Reader A → End
-own_end r = end_of r.result r.input_gone r.output_gone
+use Rattle.device_readers.specs.Ends.{place_of_end}
+use Rattle.device_readers.specs.Seats.{SeatState, devices_of, own_end}
 
 -- this end is told before that of each of the readers, or stands alike
-abbrev pub IsToldFirst : {A : Type 0} → End → List (Reader A) → Type 0
-IsToldFirst end readers = AllByRecursion (λ r. place_of_end end ≤ place_of_end (own_end r)) readers
+abbrev pub IsToldFirst : {A : Type 0} → End → List (SeatState A) → Type 0
+IsToldFirst end seats = AllByRecursion (λ s. place_of_end end ≤ place_of_end (own_end s)) seats
 
 -- one of the readers ended so
-abbrev pub HasReader : {A : Type 0} → End → List (Reader A) → Type 0
+abbrev pub HasReader : {A : Type 0} → End → List (SeatState A) → Type 0
 HasReader end [] = ⊥
-HasReader end (r ∷ readers) = (end ≡ own_end r) ⊎ HasReader end readers
+HasReader end (seat ∷ seats) = (end ≡ own_end seat) ⊎ HasReader end seats
 
 -- a reader's messages were served over a stack as a stream that begins in this session; where they
 -- ended, or a read failed, they are no whole messages after which it has begun
 pub record HasServedBefore {A : Type 0} (first : Session) (by : Sourced) (within : Bounds)
-    (r : Reader A) : Type 0 where
-  pub run : IsRunWithin first by within r.trace r.result
-  pub ended : (done : Done A) → r.result ≡ Ok done
-      → HasNotBegun (answering_from first by) r.trace.got
-  pub failed : r.result ≡ Err Read → HasNotBegun (answering_from first by) r.trace.got
+    (t : Trace) (result : Result (Done A) Stop) : Type 0 where
+  pub run : IsRunWithin first by within t result
+  pub ended : (done : Done A) → result ≡ Ok done → HasNotBegun (answering_from first by) t.got
+  pub failed : result ≡ Err Read → HasNotBegun (answering_from first by) t.got
 
--- a reader read these messages whole, and what it put begins the replies to them
-pub record HasMessages {A : Type 0} (by : Answering) (r : Reader A) (messages : List (List ℕ))
-    : Type 0 where
+-- these messages were read, whole, and what was put begins the replies to them
+pub record IsAnswered (by : Answering) (messages : List (List ℕ)) (t : Trace) : Type 0 where
   pub rest : List ℕ
-  pub split : IsSplit r.trace.got messages rest
-  pub begun : BeginReplies by messages r.trace.put
+  pub split : IsSplit t.got messages rest
+  pub begun : BeginReplies by messages t.put
 
--- each of the readers read these messages
-abbrev pub HaveMessages : {A : Type 0} → Answering → List (Reader A) → List (List (List ℕ)) → Type 0
-HaveMessages by [] [] = ⊤
-HaveMessages by (r ∷ readers) (messages ∷ others) =
-    HasMessages by r messages × HaveMessages by readers others
-HaveMessages by [] (messages ∷ others) = ⊥
-HaveMessages by (r ∷ readers) [] = ⊥
+-- each of the readers read and answered these messages, between its own devices
+abbrev pub HaveMessages : {A : Type 0} → Answering → List (SeatState A) → List (SeatState A)
+    → List (List (List ℕ)) → Type 0
+HaveMessages by [] [] [] = ⊤
+HaveMessages by (old ∷ olds) (new ∷ news) (messages ∷ others) =
+    Does (IsAnswered by messages) (devices_of old) (devices_of new)
+    × HaveMessages by olds news others
+HaveMessages by _ _ _ = ⊥
 
 -- what these parts of messages give to a node, less what they take, each part a stream of its own
 abbrev pub moved_at : Answering → ℕ → List (List (List ℕ)) → ℤ

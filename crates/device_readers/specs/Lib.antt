@@ -1,5 +1,5 @@
 pub mod Ends
-pub mod Crews
+pub mod Seats
 pub mod Readers
 pub mod Laws
 pub mod Examples

@@ -1,21 +1,21 @@
 //! One open `/dev/fuse`, served by several readers over one table and the files of its layers.
 //!
-//! [`serve_by_readers`] begins with one reader, which serves until INIT is answered. The others
-//! begin in the session that it leaves: each in a thread of its own, with a room of its own, by a
-//! `run_counting` of its own over the same table and files, on the same descriptor. The kernel
+//! Each reader has a [`Seat`]: the two devices that it reads messages from and writes replies to,
+//! both over the one descriptor. [`serve_by_readers`] begins with the reader of the first seat,
+//! which serves until INIT is answered. The others begin in the session that it leaves: each in a
+//! thread of its own, by a `run_counting` of its own over the same table and files. The kernel
 //! gives each message to one read; no contract says so. Readers share nothing but what they borrow,
-//! and wait for nothing but, at last, for one another. What they came to is an [`Ended`]: the
-//! [`End`] that is told of all of them, and what each came to whose stream ended. [`laws`] say what
-//! that means.
+//! and wait for nothing but, at last, for one another. Each seat then holds what its reader came
+//! to, and [`end_of_all`] is the [`End`] that is told of all of them. [`laws`] say what that means.
 #![tactic(auto)]
 
-mod crew;
 pub mod ends;
 pub mod examples;
 pub mod laws;
 mod opening;
-mod reader;
 mod readers;
+mod seat;
 
-pub use ends::{End, Ended};
-pub use readers::{Crew, serve_by_readers};
+pub use ends::End;
+pub use readers::{end_of_all, serve_by_readers};
+pub use seat::{Seat, seats_over};

@@ -1,140 +1,113 @@
 //! All readers.
 
-ghost use Rattle.std.specs.Prelude.{◌+◌, ◌<◌, ◌≤◌};
+ghost use Rattle.std.specs.Prelude.{◌≡◌, ◌<◌, ◌≤◌, length, map};
+ghost use Rattle.std.specs.List.{AllByRecursion, AllZip};
 ghost use Rattle.std.specs.Thread.{IsSync};
 ghost use denote.Param.Send.{IsSend, Frees};
 ghost use Rattle.devices.specs.declared.limits.TheConstants.{MAX_TURNS};
 ghost use Rattle.fuse_answer.specs.Puts.{sourced_by};
-ghost use Rattle.fuse_device.specs.Ends.{ends};
 ghost use Rattle.serve_core.specs.Headline.{bounds};
 ghost use Rattle.serve_loop.specs.Serving.{AreReady};
-ghost use Rattle.device_readers.specs.Readers.{AreServed, IsAlone, IsServedBy, counts_of, unused};
+ghost use Rattle.device_readers.specs.Seats.{AreNew, devices_of, end_of_all, seat_of};
+ghost use Rattle.device_readers.specs.Readers.{AreServedBy, HasServed};
 
-use crate::crew::lead_others;
-use crate::ends::{Ended, behind, ended_alone};
-use crate::opening::open;
-use crate::reader::{serve_alone, serve_on};
-use fuse_device::{MessageTap, ReplySpout};
+use crate::ends::{End, first_told};
+use crate::seat::Seat;
 use image_bytes::Contents;
-use serve_core::{Gate, Served, SharedAllocator, Stop, Terms};
-use serve_loop::{Begun, Opening};
+use serve_core::{Done, Gate, Served, SharedAllocator, Terms};
+use serve_loop::Begun;
 use std::io::{Read, Write};
-use std::thread::Threads;
+use std::thread::{Threads, for_each_mut};
 
-/// How many readers serve a device, and what each of them counts.
-#[derive(Clone, Copy)]
-pub struct Crew {
-    /// How many readers.
-    pub readers: u32,
-    /// Of how many of the first nodes each reader counts the lookups that its client holds, at 16
-    /// bytes a node until it ends. With 0 it counts none.
-    pub counted: u64,
-}
-
-/// Serves the requests of an open `/dev/fuse` over a table and its files by a crew of readers, each
-/// over the same reader and writer, on these terms, and waits until all have ended.
+/// Serves the requests of an open `/dev/fuse` over a table and its files by the readers of these
+/// seats, on these terms, and waits until all have ended. Each seat then holds what its reader came
+/// to. Lookups are counted of so many of the first nodes, at 16 bytes a node and reader; with 0 of
+/// none.
 ///
-/// One reader serves alone until the session has begun. Then the others begin in that session, and
-/// each answers what it reads as [`serve_core::run_counting`] does, with a room of 135,168 bytes
-/// and buffers and balances of its own. One that ends, or stops for a fault or for want of memory,
-/// ends alone: the others serve on. Where no thread can be started for a reader, it begins once
-/// another has ended. Where the first one ends before the session has begun, no other begins.
+/// The reader of the first seat serves alone until the session has begun. Then the others begin in
+/// that session, and each answers what it reads as [`serve_core::run_counting`] does, with buffers
+/// and balances of its own. One that ends, or stops for a fault or for want of memory, ends alone:
+/// the others serve on. Where no thread can be started for a reader, it begins once another has
+/// ended. What came before the session of all is the result; where the first reader ended before
+/// that there is none, and no other has begun.
 pub fn serve_by_readers<
     R: Threads + Sync,
     A: SharedAllocator,
     D: Contents + Sync,
-    I: Read + Copy + Sync + Drop,
-    O: Write + Copy + Sync + Drop,
+    I: Read + Copy + Send + Drop,
+    O: Write + Copy + Send + Drop,
     G: Gate + Sync,
 >(
     rt: &R,
     alloc: A,
     served: Served<'_, A, D>,
-    reader: I,
-    writer: O,
-    crew: Crew,
+    seats: &mut [Seat<I, O, A>],
     terms: &Terms<'_, G>,
-) -> Ended<A>
-    requires some { 1 ≤ crew.readers }
+    counted: u64,
+) -> Option<Done<A>>
+    requires some { 0 < length seats.old }
+    requires new { AreNew (map (seat_of I.remaining) seats.old) }
     requires turns { terms.now.turns ≤ MAX_TURNS }
-    ensures { IsServedBy terms.now.first (sourced_by D.source served.entry)
-        (bounds terms.now.turns crew.counted) crew.readers result }
+    ensures { AreServedBy terms.now.first (sourced_by D.source served.entry)
+        (bounds terms.now.turns counted) (map (seat_of I.remaining) seats.old)
+        (map (seat_of I.remaining) seats.new) result }
 {
-    let mut input = match MessageTap::new(alloc, reader) {
-        Ok(input) => input,
-        Err(_) => return ended_alone(alloc, Err(Stop::Memory), false, false),
-    };
-    let mut output = ReplySpout::new(writer);
-    let Crew { readers, counted } = crew;
-    let begun = match open(rt, alloc, served, &mut input, &mut output, terms, counted) {
-        Ok(Opening::Begun(begun)) => begun,
-        Ok(Opening::Ended(done)) => {
-            return ended_alone(alloc, Ok(done), input.is_gone(), output.is_gone());
-        }
-        Err(stop) => return ended_alone(alloc, Err(stop), input.is_gone(), output.is_gone()),
-    };
-    let Begun { session, done } = begun;
+    let Begun { session, done } = seats[0].open(rt, alloc, served, terms, counted)?;
     let terms = Terms {
         first: session,
         plan: terms.plan,
         turns: terms.turns,
         gate: terms.gate,
     };
-    let others = readers - 1;
-    let all = serve_with(
-        rt,
-        alloc,
-        served,
-        &terms,
-        reader,
-        writer,
-        others,
-        &mut input,
-        &mut output,
-        counted,
-    );
-    behind(alloc, done, all)
+    serve_together(rt, alloc, served, seats, &terms, counted);
+    Some(done)
 }
 
-// Serves on by the reader that began and by so many others, at the same time.
-#[tactic(auto, using(crate::proofs::Reading::alone_on))]
-fn serve_with<
+// Serves by all readers at the same time.
+fn serve_together<
     R: Threads + Sync,
     A: SharedAllocator,
     D: Contents + Sync,
-    I: Read + Copy + Sync + Drop,
-    O: Write + Copy + Sync + Drop,
+    I: Read + Copy + Send + Drop,
+    O: Write + Copy + Send + Drop,
     G: Gate + Sync,
 >(
     rt: &R,
     alloc: A,
     served: Served<'_, A, D>,
+    seats: &mut [Seat<I, O, A>],
     terms: &Terms<'_, G>,
-    reader: I,
-    writer: O,
-    others: u32,
-    input: &mut MessageTap<I, A>,
-    output: &mut ReplySpout<O>,
     counted: u64,
-) -> Ended<A>
-    requires { AreReady terms.now.turns (ends I.remaining input.old output.old).devices }
-    ensures { AreServed terms.now.first (sourced_by D.source served.entry)
-        (bounds terms.now.turns counted)
-        (counts_of (ends I.remaining input.old output.old).devices) (1 + others) result }
+)
+    requires some { 0 < length seats.old }
+    requires ready { AllByRecursion (λ seat. AreReady terms.now.turns (devices_of seat))
+        (map (seat_of I.remaining) seats.old) }
+    ensures { AllZip (HasServed terms.now.first (sourced_by D.source served.entry)
+        (bounds terms.now.turns counted)) (map (seat_of I.remaining) seats.old)
+        (map (seat_of I.remaining) seats.new) }
 {
-    let serve = || -> Ended<A>
-        requires { IsSync R.row × IsSync G.row × IsSync D.row × IsSync A.row × IsSend A.row
-            × Frees A.Allocator A.dealloc_token × (terms.now.turns ≤ MAX_TURNS) }
-        ensures { IsAlone terms.entry.now.first (sourced_by D.source served.entry)
-            (bounds terms.entry.now.turns counted) unused result }
-    { serve_alone(rt, alloc, served, terms, reader, writer, counted) };
-    let lead = || -> Ended<A>
+    let serve = move |_place: usize, seat: &mut Seat<I, O, A>|
         requires { IsSync R.row × IsSync G.row × IsSync D.row × IsSync A.row × IsSend A.row
             × Frees A.Allocator A.dealloc_token
-            × AreReady terms.now.turns (ends I.remaining input.now output.now).devices }
-        ensures { IsAlone terms.entry.now.first (sourced_by D.source served.entry)
-            (bounds terms.entry.now.turns counted)
-            (counts_of (ends I.remaining input.entry.now output.entry.now).devices) result }
-    { serve_on(rt, alloc, served, terms, input, output, counted) };
-    lead_others(rt, lead, serve, others)
+            × AreReady terms.now.turns (devices_of (seat_of I.remaining seat.now)) }
+        ensures { HasServed terms.entry.now.first (sourced_by D.source served.entry)
+            (bounds terms.entry.now.turns counted) (seat_of I.remaining seat.entry.now)
+            (seat_of I.remaining seat.exit.now) }
+    { seat.serve(rt, alloc, served, terms, counted) };
+    let readers = seats.len();
+    for_each_mut(rt, seats, readers, &serve);
+}
+
+/// The end that is told of the readers of these seats: a fault, if one of them has one; of several
+/// the first in the table of faults and exit statuses, and of these that of the first reader. Else
+/// that the mount was taken away, if one of them has met that.
+pub fn end_of_all<I: Read + Drop, O: Write + Drop, A: SharedAllocator>(
+    seats: &[Seat<I, O, A>],
+) -> End
+    ensures { result ≡ end_of_all (map (seat_of I.remaining) seats.now) }
+{
+    match seats.split_first() {
+        Some((seat, others)) => first_told(seat.end(), end_of_all(others)),
+        None => End::AtEnd,
+    }
 }

@@ -1,13 +1,14 @@
 -- fuse(4): what a command leaves behind that was run over an open /dev/fuse by several readers.
-use Rattle.std.specs.Prelude.{◌≡◌, ◌<◌, ◌⊎◌, ℕ, List, vec_len}
+use Rattle.std.specs.Prelude.{◌≡◌, ◌<◌, ◌⊎◌, ℕ, List, Option, replicate, vec_len}
 use Rattle.command_line.specs.declared.options.Line.{Line}
 use Rattle.devices.specs.declared.limits.TheConstants.{MAX_TURNS}
 use Rattle.device_readers.specs.declared.ends.End.{End}
 use Rattle.device_readers.specs.declared.ends.End.TheVariants.{AtEnd, TakenAway, Stopped}
-use Rattle.device_readers.specs.declared.ends.Ended.{Ended}
-use Rattle.device_readers.specs.Readers.{IsServedBy}
+use Rattle.device_readers.specs.Readers.{AreServedBy}
+use Rattle.device_readers.specs.Seats.{SeatState, end_of_all, new_seat}
 use Rattle.reply_model.specs.Readings.{Sourced}
 use Rattle.serve_core.specs.Headline.{bounds}
+use Rattle.serve_loop.specs.declared.done.Done.{Done}
 use Rattle.strata.specs.declared.faults.Fault.{Fault}
 use Rattle.strata.specs.declared.faults.Fault.TheVariants as faults
 use Rattle.strata.specs.Faults.{out_of_memory, status_of, stop_status}
@@ -20,16 +21,19 @@ status_of_end (Stopped stop) = stop_status stop
 status_of_end TakenAway = 0
 status_of_end AtEnd = 0
 
--- the images that the line names are good, readers served their stack and counted no lookups, and
--- this is told of them
+-- the images that the line names are good, as many readers as it says, all over the same reader,
+-- served their stack and counted no lookups, and this is told of them
 pub record IsShared (A : Type 0) (line : Line) (end : End) : Type 0 where
   pub images : List (List ℕ)
   pub named : NamesAsMany line images
   pub by : Sourced
   pub prepared : ArePrepared line images by
-  pub ended : Ended A
-  pub served : IsServedBy (first_of line) by (bounds MAX_TURNS 0) line.readers ended
-  pub end_is : end ≡ ended.end
+  pub left : Option (List ℕ)
+  pub before : Option (Done A)
+  pub readers : List (SeatState A)
+  pub served : AreServedBy (first_of line) by (bounds MAX_TURNS 0)
+      (replicate line.readers (new_seat left)) readers before
+  pub end_is : end ≡ end_of_all readers
 
 -- one of the images that the line names could not be read, or they are not stacked, or memory ran
 -- out

@@ -9,7 +9,7 @@ use crate::images::open_all;
 use crate::preparing::prepare;
 use crate::settings::{first_of, plan_of};
 use command_line::Line;
-use device_readers::{Crew, End, serve_by_readers};
+use device_readers::{End, end_of_all, seats_over, serve_by_readers};
 use serve_core::{FreePass, MAX_TURNS, Served, Terms};
 use std::alloc::Allocator;
 use std::fs::Files;
@@ -26,8 +26,8 @@ use std::thread::Threads;
 pub fn mount_by_readers<
     R: Files + Threads + Sync,
     A: Allocator + Copy + Send + Sync,
-    I: Read + Copy + Sync + Drop,
-    O: Write + Copy + Sync + Drop,
+    I: Read + Copy + Send + Drop,
+    O: Write + Copy + Send + Drop,
     E: Write,
 >(rt: &R, alloc: A, line: &Line<'_>, reader: I, writer: O, faults: &mut E) -> u8
 where
@@ -47,8 +47,8 @@ where
 fn serve_shared<
     R: Files + Threads + Sync,
     A: Allocator + Copy + Send + Sync,
-    I: Read + Copy + Sync + Drop,
-    O: Write + Copy + Sync + Drop,
+    I: Read + Copy + Send + Drop,
+    O: Write + Copy + Send + Drop,
 >(rt: &R, alloc: A, line: &Line<'_>, reader: I, writer: O) -> Result<End, Fault>
 where
     R::File: FileExt + Send + Sync,
@@ -69,13 +69,11 @@ where
         turns: MAX_TURNS,
         gate: &FreePass,
     };
+    let mut seats = seats_over(alloc, line.readers, reader, writer)?;
+    let all = seats.as_mut_slice();
     // No line asks for balances of a device.
-    let crew = Crew {
-        readers: line.readers,
-        counted: 0,
-    };
-    let ended = serve_by_readers(rt, alloc, served, reader, writer, crew, &terms);
-    Ok(ended.end)
+    let _before = serve_by_readers(rt, alloc, served, all, &terms, 0);
+    Ok(end_of_all(all))
 }
 
 // The exit status of an end, of which a fault has its line.

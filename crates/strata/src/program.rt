@@ -50,8 +50,8 @@ pub fn command<
     S: AsStr,
     I: Read + Drop,
     O: Write + Drop,
-    X: Read + Copy + Sync + Drop,
-    Y: Write + Copy + Sync + Drop,
+    X: Read + Copy + Send + Drop,
+    Y: Write + Copy + Send + Drop,
     E: Write,
 >(
     rt: &R,
@@ -82,8 +82,8 @@ fn command_of_line<
     A: Allocator + Copy + Send + Sync,
     I: Read + Drop,
     O: Write + Drop,
-    X: Read + Copy + Sync + Drop,
-    Y: Write + Copy + Sync + Drop,
+    X: Read + Copy + Send + Drop,
+    Y: Write + Copy + Send + Drop,
     E: Write,
 >(rt: &R, alloc: A, line: &Line<'_>, reader: I, writer: O, shared: (X, Y), faults: &mut E) -> u8
 where

@@ -1,7 +1,7 @@
 //! Several readers of one device, which gives each message to one of them.
 
-use device_readers::{Crew, End, Ended, serve_by_readers};
-use serve_core::{FreePass, Gate, MAX_TURNS, Plan, Served, Session, Stop, Terms, Work};
+use device_readers::{End, Seat, end_of_all, seats_over, serve_by_readers};
+use serve_core::{Done, FreePass, Gate, MAX_TURNS, Plan, Served, Session, Stop, Terms, Work};
 use serve_test_kit::runs::table_of;
 use std::alloc::Allocator;
 use std::io::{self, Error, Read, Write};
@@ -131,20 +131,26 @@ fn bit_of(reply: &[u8]) -> u64 {
 }
 
 /// What readers came to: the end that is told; how many streams came to their end, and how many
-/// messages they had, where memory was not refused for these; and the bits of the messages that are
-/// answered.
-type Seen = (End, Option<(usize, u64)>, u64);
+/// messages they had; and the bits of the messages that are answered.
+type Seen = (End, (usize, u64), u64);
 
-/// How many streams came to their end, and how many messages they had.
-fn counted<A: Allocator>(ended: &Ended<A>) -> Option<(usize, u64)> {
-    let Ok(done) = &ended.done else {
-        return None;
+/// How many streams came to their end, with the one before the session, and how many messages they
+/// had.
+fn counted<A: Allocator>(
+    before: &Option<Done<A>>,
+    seats: &[Seat<&Device, &Device, A>],
+) -> (usize, u64) {
+    let (mut streams, mut messages) = match before {
+        Some(done) => (1usize, done.messages),
+        None => (0, 0),
     };
-    let mut messages = 0u64;
-    for one in done {
-        messages = messages.saturating_add(one.messages);
+    for seat in seats {
+        if let Some(Ok(done)) = &seat.result {
+            streams = streams.saturating_add(1);
+            messages = messages.saturating_add(done.messages);
+        }
     }
-    Some((done.len(), messages))
+    (streams, messages)
 }
 
 /// The table of the empty image.
@@ -155,7 +161,8 @@ fn empty_table<R: Threads + Sync, A: Allocator + Copy + Send + Sync>(
     table_of(rt, alloc, alone(alloc, image(alloc, b"v", "").ok()?).ok()?)
 }
 
-/// What so many readers of a device, at least one, come to over a table.
+/// What so many readers of a device, at least one, come to over a table; none where memory is
+/// refused for their seats.
 fn served<R: Threads + Sync, A: Allocator + Copy + Send + Sync, G: Gate + Sync>(
     rt: &R,
     alloc: A,
@@ -164,7 +171,7 @@ fn served<R: Threads + Sync, A: Allocator + Copy + Send + Sync, G: Gate + Sync>(
     readers: u32,
     plan: Plan,
     gate: &G,
-) -> (End, Option<(usize, u64)>) {
+) -> Option<(End, (usize, u64))> {
     let terms = Terms {
         first: Session::Fresh,
         plan,
@@ -172,12 +179,12 @@ fn served<R: Threads + Sync, A: Allocator + Copy + Send + Sync, G: Gate + Sync>(
         gate,
     };
     let over = Served::held(table);
-    let crew = Crew {
-        readers: readers.max(1),
-        counted: table.len(),
+    let Ok(mut seats) = seats_over(alloc, readers.max(1), device, device) else {
+        return None;
     };
-    let ended = serve_by_readers(rt, alloc, over, device, device, crew, &terms);
-    (ended.end, counted(&ended))
+    let all = seats.as_mut_slice();
+    let before = serve_by_readers(rt, alloc, over, all, &terms, table.len());
+    Some((end_of_all(all), counted(&before, all)))
 }
 
 /// The same of a new device, with what is answered.
@@ -191,7 +198,7 @@ fn seen_over<R: Threads + Sync, A: Allocator + Copy + Send + Sync, G: Gate + Syn
 ) -> Option<Seen> {
     let plan = Plan::new(2, 3)?;
     let device = Device::new(fails);
-    let (end, done) = served(rt, alloc, table, &device, readers, plan, gate);
+    let (end, done) = served(rt, alloc, table, &device, readers, plan, gate)?;
     Some((end, done, device.answered.load(Ordering::SeqCst)))
 }
 
@@ -215,7 +222,7 @@ fn each_message_is_answered_once(rt: HostRuntime) {
     for readers in [1, 2, 16] {
         let seen = seen_of(&rt, &memories, readers, NEVER, &FreePass);
         let streams = readers as usize + 1;
-        let wanted = (End::AtEnd, Some((streams, MESSAGES)), ALL);
+        let wanted = (End::AtEnd, (streams, MESSAGES), ALL);
         assert!(rt; seen == Some(wanted), "{readers}");
     }
 }
@@ -252,17 +259,14 @@ fn two_readers_are_in_the_middle_of_a_message(rt: HostRuntime) {
     assert!(rt; seen.is_some() && gate.given_up.load(Ordering::SeqCst) == 0);
 }
 
-/// Whether readers one of which is refused memory tell so, or cannot tell what their streams came
-/// to, while the others answer all messages.
+/// Whether readers one of which is refused memory tell so, or answer all messages. None serves where
+/// it is refused for a seat.
 fn is_refused<R: Threads + Sync>(rt: &R, memories: &Memories) -> bool {
     let seen = seen_of(rt, memories, 3, NEVER, &FreePass);
     match (memories.refusing.refused(), seen) {
-        (false, Some((end, done, answered))) => {
-            end == End::AtEnd && done == Some((4, MESSAGES)) && answered == ALL
-        }
-        (true, Some((End::AtEnd, done, answered))) => done.is_none() && answered == ALL,
+        (false, Some(seen)) => seen == (End::AtEnd, (4, MESSAGES), ALL),
         (true, Some((end, _, _))) => end == End::Stopped(Stop::Memory),
-        (_, None) => false,
+        (refused, None) => refused,
     }
 }
 
@@ -326,7 +330,7 @@ fn no_other_reader_begins_before_init(rt: HostRuntime) {
             number: 5,
         };
         let seen = seen_of(&rt, &memories, 3, fails, &FreePass);
-        let wanted = (End::Stopped(stop), Some((0, 0)), 0);
+        let wanted = (End::Stopped(stop), (0, 0), 0);
         assert!(rt; seen == Some(wanted), "{read}");
     }
 }

@@ -2,4 +2,4 @@ use Rattle.device_readers.proofs.Begun.{ended_before}
 use Rattle.device_readers.proofs.laws.one_ends_before_the_session.Goals as goal
 
 pub returns : goal.returns
-returns g c = λ first over within ended served. ended_before over within first ended served
+returns g c = λ first over within old new served. ended_before over within first old new served

@@ -1,54 +1,54 @@
-use Rattle.std.proofs.Common.{◌-◌, ap, subst, inr, Ok, Err, arith}
-use Rattle.fuse_device.specs.Ends.{ends}
-use Rattle.serve_loop.specs.declared.opening.Opening.{Opening}
-use Rattle.serve_loop.specs.Serving.{Does}
+use Rattle.std.proofs.Common.{◌≡◌, sym, subst, ℕ, List, map, slice_index_or, slice_set, Option, None, Some}
 use Rattle.fuse_answer.specs.Puts.{sourced_by}
 use Rattle.serve_core.specs.Headline.{bounds}
-use Rattle.device_readers.specs.Readers.{IsOpenedOver}
-use Rattle.device_readers.proofs.Reading.{by_new_devices, roomless, served_by_all}
+use Rattle.serve_loop.specs.declared.opening.Begun.{Begun}
+use Rattle.device_readers.specs.Readers.{AreServedBy, HasOpened}
+use Rattle.device_readers.specs.Seats.{SeatState, new_seat, seat_of}
+use Rattle.device_readers.proofs.Reading.{at_place, ready_all, ready_new, ready_on, served_by_all, served_by_one}
 use Rattle.device_readers.proofs.readers.serve_by_readers.Goals as goal
 
-pub returns-in-Err : goal.returns-in-Err
-returns-in-Err g c =
-    let by = sourced_by g.D.Contents.source c.args.served in
-    let within = bounds c.args.terms.now.turns c.args.crew.counted in
-    inr (roomless {A = g.row.A.Denot} c.args.terms.now.first by within c.ended_alone.result
-    c.ended_alone.ensures.end c.ended_alone.ensures.done)
+-- a seat whose reader has not begun
+abbrev is_new : {A : Type 0} → SeatState A → Type 0
+is_new seat = (left : Option (List ℕ)) × (seat ≡ new_seat left)
 
-pub returns-in-Ok-Ended : goal.returns-in-Ok-Ended
-returns-in-Ok-Ended g c =
-    let old = (ends g.I.Read.remaining c.in-Ok.input c.new-output.result).devices in
-    let new = (ends g.I.Read.remaining c.open.new.source c.open.new.sink).devices in
-    let by = sourced_by g.D.Contents.source c.args.served in
-    let within = bounds c.args.terms.now.turns c.args.crew.counted in
-    let opened_so = λ (o : Opening g.row.A.Denot). Does (λ t. IsOpenedOver c.args.terms.now.first by within t (Ok o)) old new in
-    let does = subst opened_so c.in-Ok-Ended.field-0-is c.in-Ok-Ended.ensures in
-    inr (by_new_devices {A = g.row.A.Denot} c.args.terms.now.first by within (Ok c.in-Ok-Ended.done) old new
-    c.is_gone.result c.is_gone-in-Ok-Ended.result c.ended_alone-in-Ok-Ended.result (ap (λ s. s.counts) c.in-Ok.ensures.state)
-    (ap (λ s. s.counts) c.new-output.ensures.state) does c.is_gone.ensures.failed c.is_gone-in-Ok-Ended.ensures.failed
-    c.ended_alone-in-Ok-Ended.ensures.end c.ended_alone-in-Ok-Ended.ensures.done)
+pub open-requires-after_bounds : goal.open-requires-after_bounds
+open-requires-after_bounds g c = λ κs lives.
+    let seat = seat_of {O = g.row.O.Denot} {A = g.row.A.Denot} g.I.Read.remaining in
+    ready_new c.args.terms.now.turns (seat (slice_index_or c.args.seats.now 0 c.index-seats-0.result))
+    (at_place is_new seat c.args.seats.now 0 c.index-seats-0.result c.requires.some c.requires.new) c.requires.turns
 
-pub returns-in-Err-open : goal.returns-in-Err-open
-returns-in-Err-open g c =
-    let old = (ends g.I.Read.remaining c.in-Ok.input c.new-output.result).devices in
-    let new = (ends g.I.Read.remaining c.open.new.source c.open.new.sink).devices in
+pub returns-in_err-session : goal.returns-in_err-session
+returns-in_err-session g c =
+    let seat = seat_of {O = g.row.O.Denot} {A = g.row.A.Denot} g.I.Read.remaining in
+    let first = c.args.terms.now.first in
     let by = sourced_by g.D.Contents.source c.args.served in
-    let within = bounds c.args.terms.now.turns c.args.crew.counted in
-    inr (by_new_devices {A = g.row.A.Denot} c.args.terms.now.first by within (Err c.in-Err-open.stop) old new
-    c.is_gone-in-Err-open.result c.is_gone-in-Err-open-2.result c.ended_alone-in-Err-open.result
-    (ap (λ s. s.counts) c.in-Ok.ensures.state) (ap (λ s. s.counts) c.new-output.ensures.state) c.in-Err-open.ensures
-    c.is_gone-in-Err-open.ensures.failed c.is_gone-in-Err-open-2.ensures.failed c.ended_alone-in-Err-open.ensures.end
-    c.ended_alone-in-Err-open.ensures.done)
+    let within = bounds c.args.terms.now.turns c.args.counted in
+    let old = seat (slice_index_or c.args.seats.now 0 c.index-seats-0.result) in
+    let opened = subst (λ r. HasOpened first by within old (seat c.open.new.self) r) c.in_err-session.was c.open.ensures in
+    subst (λ r. AreServedBy first by within (map seat c.args.seats.now) (map seat (slice_set c.args.seats.now 0 c.open.new.self)) r)
+    (sym c.from_residual.ensures)
+    (served_by_one first by within seat c.args.seats.now c.index-seats-0.result c.open.new.self c.requires.some opened)
+
+pub serve_together-requires-clause-ready : goal.serve_together-requires-clause-ready
+serve_together-requires-clause-ready g c = λ κs lives.
+    let seat = seat_of {O = g.row.O.Denot} {A = g.row.A.Denot} g.I.Read.remaining in
+    let first = c.args.terms.now.first in
+    let by = sourced_by g.D.Contents.source c.args.served in
+    let within = bounds c.args.terms.now.turns c.args.counted in
+    let old = seat (slice_index_or c.args.seats.now 0 c.index-seats-0.result) in
+    let new = seat c.open.new.self in
+    let opened = subst (λ r. HasOpened first by within old new r) c.in_ok-session.was c.open.ensures in
+    let unused = at_place is_new seat c.args.seats.now 0 c.index-seats-0.result c.requires.some c.requires.new in
+    ready_all within.turns seat c.args.seats.now c.open.new.self c.requires.some c.requires.new c.requires.turns
+    (ready_on first by within old new c.in_ok-session.field-0 unused c.requires.turns opened)
 
 pub returns : goal.returns
 returns g c =
-    let old = (ends g.I.Read.remaining c.in-Ok.input c.new-output.result).devices in
-    let new = (ends g.I.Read.remaining c.open.new.source c.open.new.sink).devices in
+    let seat = seat_of {O = g.row.O.Denot} {A = g.row.A.Denot} g.I.Read.remaining in
+    let first = c.args.terms.now.first in
     let by = sourced_by g.D.Contents.source c.args.served in
-    let within = bounds c.args.terms.now.turns c.args.crew.counted in
-    let opened_so = λ (o : Opening g.row.A.Denot). Does (λ t. IsOpenedOver c.args.terms.now.first by within t (Ok o)) old new in
-    let does = subst opened_so c.in-Ok-Begun.field-0-is c.in-Ok-Begun.ensures in
-    served_by_all {A = g.row.A.Denot} c.args.terms.now.first by within old new c.in-Ok-Begun.begun
-    c.args.crew.readers (c.args.crew.readers - 1) c.serve_with-all.result c.behind.result (ap (λ s. s.counts) c.in-Ok.ensures.state)
-    (ap (λ s. s.counts) c.new-output.ensures.state) does (omega (arith, c.requires.some)) c.serve_with-all.ensures
-    c.behind.ensures.end c.behind.ensures.done
+    let within = bounds c.args.terms.now.turns c.args.counted in
+    let old = seat (slice_index_or c.args.seats.now 0 c.index-seats-0.result) in
+    let opened = subst (λ r. HasOpened first by within old (seat c.open.new.self) r) c.in_ok-session.was c.open.ensures in
+    served_by_all first by within seat c.args.seats.now c.index-seats-0.result c.open.new.self c.in_ok-session.field-0
+    (map seat c.serve_together.new.seats) c.requires.some opened c.serve_together.ensures

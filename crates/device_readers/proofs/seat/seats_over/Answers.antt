@@ -1,0 +1,18 @@
+use Rattle.std.proofs.Common.{sym, subst, arith}
+use Rattle.device_readers.specs.Seats.{AreNew, new_seat, seat_of}
+use Rattle.device_readers.proofs.Reading.{all_new, as_many}
+use Rattle.device_readers.proofs.seat.seats_over.Goals as goal
+
+pub returns-clause-count : goal.returns-clause-count
+returns-clause-count g c =
+    let seat = seat_of {O = g.row.O.Denot} {A = g.row.A.Denot} g.I.Read.remaining in
+    let new = new_seat (g.I.Read.remaining c.args.reader) in
+    let made = as_many seat c.loop-reader.seats.items c.loop-reader._reader new c.loop-reader.invariant in
+    let all = c.loop-reader-test.false in
+    let few = c.loop-reader.auto._reader-end in
+    omega arith
+
+pub returns-clause-new : goal.returns-clause-new
+returns-clause-new g c =
+    subst (λ seats. AreNew seats) (sym c.loop-reader.invariant)
+    (all_new g.row.A.Denot c.loop-reader._reader (g.I.Read.remaining c.args.reader))

@@ -1,0 +1,125 @@
+//! One reader.
+
+ghost use Rattle.std.specs.Prelude.{◌≡◌, IfOk, length, map, replicate};
+ghost use Rattle.fuse_answer.specs.Puts.{sourced_by};
+ghost use Rattle.serve_core.specs.Headline.{bounds};
+ghost use Rattle.serve_loop.specs.Serving.{AreReady};
+ghost use Rattle.device_readers.specs.Seats.{AreNew, devices_of, new_seat, own_end, seat_of};
+ghost use Rattle.device_readers.specs.Readers.{HasOpened, HasServed};
+
+use crate::ends::{End, end_of_stop};
+use crate::opening::open;
+use fuse_device::{MessageTap, ReplySpout};
+use image_bytes::Contents;
+use serve_core::{Done, Gate, Served, SharedAllocator, Stop, Terms, run_counting};
+use serve_loop::{Begun, Opening};
+use std::alloc::{AllocError, Allocator};
+use std::io::{Read, Write};
+use std::thread::Threads;
+
+/// Where one reader stands: the devices that it reads messages from and writes replies to, and what
+/// it came to.
+#[derive(Drop)]
+pub struct Seat<I, O, A: Allocator> {
+    input: MessageTap<I, A>,
+    output: ReplySpout<O>,
+    /// What its stream came to, once it was served to its end or stopped.
+    pub result: Option<Result<Done<A>, Stop>>,
+}
+
+impl<I: Read + Drop, O: Write + Drop, A: SharedAllocator> Seat<I, O, A> {
+    /// A seat whose reader has not begun, with a room of 135,168 bytes for messages. Where memory
+    /// for the room is refused it is `AllocError`, and nothing was read.
+    pub fn new(alloc: A, reader: I, writer: O) -> Result<Self, AllocError>
+        ensures { IfOk result (λ seat.
+            seat_of I.remaining seat ≡ new_seat (I.remaining reader)) }
+    {
+        Ok(Seat {
+            input: MessageTap::new(alloc, reader)?,
+            output: ReplySpout::new(writer),
+            result: None,
+        })
+    }
+
+    /// How its reader ended.
+    pub fn end(&self) -> End
+        ensures { result ≡ own_end (seat_of I.remaining self.now) }
+    {
+        match self.result {
+            None | Some(Ok(_)) => End::AtEnd,
+            Some(Err(stop)) => end_of_stop(stop, self.input.is_gone(), self.output.is_gone()),
+        }
+    }
+
+    // Serves what its devices bring over a table and its files, on these terms, until the session
+    // has begun, and gives the session. Lookups are counted of so many of the first nodes.
+    pub(crate) fn open<R: Threads + Sync, D: Contents + Sync, G: Gate + Sync>(
+        &mut self,
+        rt: &R,
+        alloc: A,
+        served: Served<'_, A, D>,
+        terms: &Terms<'_, G>,
+        counted: u64,
+    ) -> Option<Begun<A>>
+        requires { AreReady terms.now.turns (devices_of (seat_of I.remaining self.old)) }
+        ensures { HasOpened terms.now.first (sourced_by D.source served.entry)
+            (bounds terms.now.turns counted) (seat_of I.remaining self.old)
+            (seat_of I.remaining self.new) result }
+    {
+        let opened = open(
+            rt,
+            alloc,
+            served,
+            &mut self.input,
+            &mut self.output,
+            terms,
+            counted,
+        );
+        let ended = match opened {
+            Ok(Opening::Begun(begun)) => return Some(begun),
+            Ok(Opening::Ended(done)) => Ok(done),
+            Err(stop) => Err(stop),
+        };
+        self.result = Some(ended);
+        None
+    }
+
+    // Serves what its devices bring over a table and its files, on these terms. Lookups are counted
+    // of so many of the first nodes.
+    pub(crate) fn serve<R: Threads + Sync, D: Contents + Sync, G: Gate + Sync>(
+        &mut self,
+        rt: &R,
+        alloc: A,
+        served: Served<'_, A, D>,
+        terms: &Terms<'_, G>,
+        counted: u64,
+    )
+        requires { AreReady terms.now.turns (devices_of (seat_of I.remaining self.old)) }
+        ensures { HasServed terms.now.first (sourced_by D.source served.entry)
+            (bounds terms.now.turns counted) (seat_of I.remaining self.old)
+            (seat_of I.remaining self.new) }
+    {
+        let (input, output) = (&mut self.input, &mut self.output);
+        self.result = Some(run_counting(rt, alloc, served, input, output, terms, counted));
+    }
+}
+
+/// Seats of so many readers that have not begun, all over the same reader and writer. Where memory
+/// is refused for one it is `AllocError`, and nothing was read.
+pub fn seats_over<I: Read + Copy + Drop, O: Write + Copy + Drop, A: SharedAllocator>(
+    alloc: A,
+    readers: u32,
+    reader: I,
+    writer: O,
+) -> Result<Vec<Seat<I, O, A>, A>, AllocError>
+    ensures seats { IfOk result (λ seats. map (seat_of I.remaining) seats.items
+        ≡ replicate readers (new_seat (I.remaining reader))) }
+    ensures count { IfOk result (λ seats. length seats.items ≡ readers) }
+    ensures new { IfOk result (λ seats. AreNew (map (seat_of I.remaining) seats.items)) }
+{
+    let mut seats = Vec::new(alloc);
+    for _reader in 0..readers {
+        seats.push(Seat::new(alloc, reader, writer)?)?;
+    }
+    Ok(seats)
+}
