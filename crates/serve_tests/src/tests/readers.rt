@@ -259,8 +259,8 @@ fn two_readers_are_in_the_middle_of_a_message(rt: HostRuntime) {
     assert!(rt; seen.is_some() && gate.given_up.load(Ordering::SeqCst) == 0);
 }
 
-/// Whether readers one of which is refused memory tell so, or answer all messages. None serves where
-/// it is refused for a seat.
+/// Whether readers one of which is refused memory tell so, or answer all messages. None serves
+/// where it is refused for a seat.
 fn is_refused<R: Threads + Sync>(rt: &R, memories: &Memories) -> bool {
     let seen = seen_of(rt, memories, 3, NEVER, &FreePass);
     match (memories.refusing.refused(), seen) {
