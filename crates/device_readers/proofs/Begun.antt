@@ -8,7 +8,7 @@ use Rattle.reply_model.specs.Sessions.{is_fresh}
 use Rattle.reply_pool.specs.Answers.{answering_from}
 use Rattle.serve_loop.specs.declared.done.Done.{Done}
 use Rattle.serve_loop.specs.Opening.{WasNotBegun}
-use Rattle.serve_loop.specs.Serving.{Trace}
+use Rattle.serve_loop.specs.Serving.{Does, Trace}
 use Rattle.serve_core.specs.declared.stop.Stop.{Stop}
 use Rattle.serve_core.specs.Headline.{Bounds}
 use Rattle.serve_core.proofs.Stops.{ended_well, read_told}
@@ -36,7 +36,7 @@ module _ {A : Type 0} (over : Sourced) (within : Bounds) where
 
   pub ended_before : (first : Session) (old new : List (SeatState A)) → AreServedBy first over within old new None
       → (leader ended : SeatState A) × (others : List (SeatState A)) × (old ≡ leader ∷ others) × (new ≡ ended ∷ others)
-      × HasDone (HasServedBefore first over within) leader ended
+      × HasDone (λ result. Does (λ t. HasServedBefore first over within t result)) leader ended
   ended_before first old new s =
       let o = s.opened in
       let (got, put, took, held, opened) = o.does in (

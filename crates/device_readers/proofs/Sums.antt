@@ -145,7 +145,7 @@ module _ {A : Type 0} (session : Session) (over : Sourced) (within : Bounds) whe
   came_of : (old new : SeatState A) → HasServed session over within old new
       → (parts : List (List (List ℕ))) × CameOf (answering_from session over) within.counted (done_of new.result) parts
   came_of old new s =
-      let (got, put, took, held, run) = s.does in
+      let (got, put, took, held, run) = s.does.run in
       subst (λ r. (parts : List (List (List ℕ))) × CameOf (answering_from session over) within.counted (done_of r) parts)
       (sym s.result_is) (came_one _ s.result run)
 
@@ -164,7 +164,7 @@ module _ {A : Type 0} (session : Session) (over : Sourced) (within : Bounds) whe
   read_of : (old new : SeatState A) → HasServed session over within old new
       → (messages : List (List ℕ)) × Does (IsAnswered (answering_from session over) messages) (devices_of old) (devices_of new)
   read_of old new s =
-      let (got, put, took, held, run) = s.does in
+      let (got, put, took, held, run) = s.does.run in
       let r = run.run in
       (r.messages, (got, put, took, held, record { rest = r.rest; split = r.split; begun = r.begun }))
 

@@ -13,7 +13,7 @@ use Rattle.serve_loop.specs.declared.opening.Opening.TheVariants as openings
 use Rattle.serve_loop.specs.Serving.{Does, Trace}
 use Rattle.serve_loop.specs.Opening.{HasBegun, WasNotBegun}
 use Rattle.serve_core.specs.declared.stop.Stop.{Stop}
-use Rattle.serve_core.specs.Headline.{Bounds, IsRunWithin}
+use Rattle.serve_core.specs.Headline.{Bounds, IsRunWithin, RunsWithin}
 use Rattle.device_readers.specs.Seats.{SeatState, devices_of}
 
 -- a stream was served over a stack to its end, or until it stopped, and its session had not begun
@@ -37,19 +37,20 @@ pub record IsGoneByFailure {A : Type 0} (seat : SeatState A) : Type 0 where
   pub input : IsTrue seat.ends.input_gone → 0 < (devices_of seat).source.counts.failures
   pub output : IsTrue seat.ends.output_gone → 0 < (devices_of seat).sink.counts.failures
 
--- a reader served what its devices brought, and what it did is so; its seat holds what it came to
-pub record HasDone {A : Type 0} (is : Trace → Result (Done A) Stop → Type 0)
+-- a reader served what its devices brought: what it came to stands so between them as they were and
+-- are, and its seat holds it
+pub record HasDone {A : Type 0} (is : Result (Done A) Stop → Devices → Devices → Type 0)
     (old new : SeatState A) : Type 0 where
   pub result : Result (Done A) Stop
   pub result_is : new.result ≡ Some result
-  pub does : Does (λ t. is t result) (devices_of old) (devices_of new)
+  pub does : is result (devices_of old) (devices_of new)
   pub gone : IsGoneByFailure new
 
--- a reader's messages were served over a stack as a stream that begins in this session
+-- a reader's messages were served over a stack as a stream that begins in this session, as one
+-- reader alone serves it
 abbrev pub HasServed : {A : Type 0} → Session → Sourced → Bounds → SeatState A → SeatState A
     → Type 0
-HasServed first by within old new =
-    HasDone (λ t result. IsRunWithin first by within t result) old new
+HasServed first by within old new = HasDone (RunsWithin first by within) old new
 
 -- a reader served over a stack until its session had begun, if it had; else to the end of its
 -- stream, or until it stopped
@@ -59,7 +60,7 @@ HasOpened first by within old new (Some begun) =
     Does (λ t. IsOpenedOver first by within t (Ok (openings.Begun begun))) (devices_of old)
     (devices_of new)
 HasOpened first by within old new None =
-    HasDone (λ t result. IsNotOpenedOver first by within t result) old new
+    HasDone (λ result. Does (λ t. IsNotOpenedOver first by within t result)) old new
 
 -- the reader of the first seat served until the session had begun, and this came of it; from then
 -- on all of them served, each between its own devices, in streams that begin in that session

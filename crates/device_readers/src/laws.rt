@@ -10,7 +10,7 @@ ghost use Rattle.serve_core.specs.Headline.{Bounds};
 ghost use Rattle.reply_pool.specs.Answers.{answering_from};
 ghost use Rattle.serve_loop.specs.declared.done.Done.{Done};
 ghost use Rattle.serve_loop.specs.Rounds.{Answering};
-ghost use Rattle.serve_loop.specs.Serving.{moves_of};
+ghost use Rattle.serve_loop.specs.Serving.{Does, moves_of};
 ghost use Rattle.device_readers.specs.declared.ends.End.TheVariants.{AtEnd};
 ghost use Rattle.device_readers.specs.Readers.{AreServedBy, HasDone, HasServed};
 ghost use Rattle.device_readers.specs.Seats.{SeatState, done_of_all, end_of_all};
@@ -43,7 +43,8 @@ pub fn one_ends_before_the_session<A: Allocator>()
     ensures { (first : Session) (over : Sourced) (within : Bounds)
         (old new : List (SeatState A)) → AreServedBy first over within old new None →
         (leader ended : SeatState A) × (others : List (SeatState A)) × (old ≡ leader ∷ others)
-        × (new ≡ ended ∷ others) × HasDone (HasServedBefore first over within) leader ended }
+        × (new ≡ ended ∷ others)
+        × HasDone (λ result. Does (λ t. HasServedBefore first over within t result)) leader ended }
 {}
 
 /// Each reader read messages of its own, and what it put begins the replies to them. What the
