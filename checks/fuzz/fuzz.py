@@ -10,7 +10,8 @@ broken. The parts:
 - `streams`: requests over such stacks through `serve`, from files and through pipes in pieces, lastingly or not, with
   balances, and one in three through `socket`, one to three clients, some of whom go away early.
 - `device`: requests through `serve --device`, over a socket of packets in place of /dev/fuse: a read gives one packet, of a
-  message, of several, or of any piece, and a write must be one whole reply. Some stand-ins go away early.
+  message, of several, or of any piece, and a write must be one whole reply. Some stand-ins go away early. Or by several
+  readers, whose replies may come in any order.
 - `long`: lists of hundreds and thousands of rows, for which workers are started, in all these ways.
 - `made`: genromfs's images of random folders with bits flipped, records swapped and words changed, through `check`, `list`
   and one of these ways; `kernel`: the requests of a real mount over the demo's layers, changed in the same spirit.
@@ -32,15 +33,18 @@ import time
 from checks.fuzz.fuzz_runs import Difference, Running, TooSlow, Wanted
 from checks.fuzz.mutations import Made, demo_images, has_genromfs, mutated_image, mutated_stream, recorded
 from checks.plain import plain
+from checks.shared.build import init
 from checks.shared.clients import Client
 from checks.shared.images import EMPTY
-from checks.shared.random_inputs import kinds_of, long_stack, long_stream, mutated, others_of, random_image, random_stack, random_stream
+from checks.shared.random_inputs import (kinds_of, long_stack, long_stream, mutated, others_of, random_flags, random_image,
+                                         random_stack, random_stream)
 from checks.shared.random_trailers import random_owner, with_trailer
 from checks.shared.replies import single
 from checks.shared.runs import add_parts
 
 # what a read of /dev/fuse gives at most
 MOST_PACKET = 131072
+INIT, DESTROY = 26, 38
 
 
 # --- images ---
@@ -220,6 +224,27 @@ def serve_device(inputs, make, seen):
     note(seen, [stream], [replies])
 
 
+def in_one_session(rng, stream):
+    """The messages of a stream whose replies don't go by their order: an INIT, and all that neither begins nor ends a session."""
+    messages = plain.split(stream)[0]
+    first = messages[0] if messages and opcode_of(messages[0]) == INIT else init(1, flags=random_flags(rng))
+    return [first, *[it for it in messages if opcode_of(it) not in (INIT, DESTROY) and len(it) <= MOST_PACKET]]
+
+
+def opcode_of(message):
+    return int.from_bytes(message[4:8], "little")
+
+
+def serve_readers(inputs, make, seen):
+    """Holds `serve --device` by several readers, a message a packet."""
+    messages = in_one_session(inputs.rng, make())
+    want, replies = inputs.served(b"".join(messages), True)
+    words = ["serve", "--device", "--readers", str(inputs.rng.choice([2, 3, 4, 64])), *inputs.words]
+    inputs.running.hold_device(words, want, replies, messages, in_order=False)
+    seen["devices of several readers"] += 1
+    note(seen, [b"".join(messages)], [replies])
+
+
 def note(seen, streams, replies):
     seen["requests"] += sum(len(plain.split(stream)[0]) for stream in streams)
     seen["bytes of replies"] += sum(map(len, replies))
@@ -233,13 +258,14 @@ def try_stream(running, rng, seen):
 
 def try_device(running, rng, seen):
     inputs = Inputs(running, rng, random_stack(rng, others_of(rng)))
-    serve_device(inputs, lambda: random_stream(rng, inputs.stack), seen)
+    rng.choice([serve_device, serve_device, serve_readers])(inputs, lambda: random_stream(rng, inputs.stack), seen)
 
 
 def try_long(running, rng, seen):
     inputs = Inputs(running, rng, long_stack(rng), True)
     seen["nodes"] += sum(kinds_of(inputs.stack))
-    rng.choice([serve, serve, serve_clients, serve_device])(inputs, lambda: long_stream(rng, inputs.stack), seen)
+    serve_so = rng.choice([serve, serve, serve_clients, serve_device, serve_readers])
+    serve_so(inputs, lambda: long_stream(rng, inputs.stack), seen)
 
 
 # --- mutated ---
@@ -263,7 +289,8 @@ RECORDED = recorded()
 
 def try_kernel(running, rng, seen):
     inputs = Inputs(running, rng, demo_images())
-    rng.choice([serve, serve, serve_clients, serve_device])(inputs, lambda: mutated_stream(rng, RECORDED), seen)
+    serve_so = rng.choice([serve, serve, serve_clients, serve_device, serve_readers])
+    serve_so(inputs, lambda: mutated_stream(rng, RECORDED), seen)
 
 
 # --- all parts ---

@@ -92,9 +92,9 @@ class Running:
             raise kind("%s: %s; %.1f s of processor time; the clients: %s" % (
                 self.told(words), "; ".join(wrong), done.seconds, ", ".join(habits)))
 
-    def hold_device(self, words, want, replies, pieces, patience=None):
-        """Runs the program over a stand-in for /dev/fuse, which gives a piece a read and takes a reply a write; with patience
-        the stand-in goes away after so many replies."""
+    def hold_device(self, words, want, replies, pieces, patience=None, in_order=True):
+        """Runs the program over a stand-in for /dev/fuse, which gives a piece a read and takes a reply a write, in any order
+        where that is said; with patience the stand-in goes away after so many replies."""
         self.write("requests", b"".join(pieces))
         ours, theirs = socket.socketpair(socket.AF_UNIX, socket.SOCK_SEQPACKET)
         with ours:
@@ -116,6 +116,8 @@ class Running:
         if patience is not None:
             self.hold_gone(words, done, wanted[:patience], got)
             return
+        if not in_order:
+            got, wanted = sorted(got), sorted(wanted)
         if got != wanted:
             number = next((at for at, pair in enumerate(zip(got, wanted)) if pair[0] != pair[1]), min(len(got), len(wanted)))
             self.write("wanted-replies", replies)

@@ -14,7 +14,8 @@ FOPEN_DIRECT_IO = 1
 # what is done with reads that touch some bytes: their reply is held back, is EIO, has a few bytes, or has other ones
 SERVE, WAIT, FAIL, CUT, TURN = 0, 1, 2, 3, 4
 FEW = 100
-ORDERS = struct.Struct("=QQQQQ")
+# what the check writes of reads, and what the server counts of them, each in a place of its own
+ORDER, COUNTS = struct.Struct("=QQQ"), struct.Struct("=QQ")
 
 
 def turned(data):
@@ -27,7 +28,7 @@ class WatchedFile:
 
     def __init__(self, room, data):
         self.at, self.data = room.place(), data
-        self.orders = mmap.mmap(-1, ORDERS.size)
+        self.shared = mmap.mmap(-1, ORDER.size + COUNTS.size)
         self.device = os.open(DEVICE, os.O_RDWR)
         text = "fd=%d,rootmode=40000,user_id=%d,group_id=%d" % (self.device, 0, 0)
         called(libc.mount(b"watched", os.fsencode(self.at), b"fuse", 0, text.encode()))
@@ -42,19 +43,24 @@ class WatchedFile:
 
     def order(self, what, first=0, last=1 << 63):
         """From now on this is done with reads that touch bytes of this range."""
-        held, reads = self.state()[3:]
-        self.orders[:] = ORDERS.pack(what, first, last, held, reads)
+        ORDER.pack_into(self.shared, 0, what, first, last)
 
-    def state(self):
-        return ORDERS.unpack(self.orders[:])
+    def ordered(self):
+        return ORDER.unpack_from(self.shared)
+
+    def counts(self):
+        return COUNTS.unpack_from(self.shared, ORDER.size)
+
+    def count(self, held, reads):
+        COUNTS.pack_into(self.shared, ORDER.size, held, reads)
 
     def held_back(self):
         """How many reads wait for another order."""
-        return self.state()[3]
+        return self.counts()[0]
 
     def reads(self):
         """How many reads came so far."""
-        return self.state()[4]
+        return self.counts()[1]
 
     def end(self):
         self.order(SERVE)
@@ -72,12 +78,8 @@ class WatchedFile:
                     return
                 if not self.answer(message):
                     waiting.append(message)
-            if waiting and self.state()[0] != WAIT:
-                for message in waiting:
-                    self.answer(message)
-                waiting = []
-            what, first, last, _, reads = self.state()
-            self.orders[:] = ORDERS.pack(what, first, last, len(waiting), reads)
+            waiting = [message for message in waiting if self.ordered()[0] == WAIT or not self.answer(message)]
+            self.count(len(waiting), self.reads())
 
     def reply(self, unique, data=b"", error=0):
         try:
@@ -110,11 +112,11 @@ class WatchedFile:
         return True
 
     def answer_read(self, unique, offset, size):
-        what, first, last, held, reads = self.state()
+        what, first, last = self.ordered()
         touched = offset < last and first < offset + size
         if touched and what == WAIT:
             return False
-        self.orders[:] = ORDERS.pack(what, first, last, held, reads + 1)
+        self.count(self.held_back(), self.reads() + 1)
         if touched and what == FAIL:
             self.reply(unique, error=errno.EIO)
         elif touched and what == TURN:

@@ -5,8 +5,9 @@ python3 checks soak PROGRAM [--minutes N] [--quick] [PART..]
 The parts are `memory` (from too little address space to enough, by steps of 1 MiB), `nodes` (more than one thread fills
 attributes of), `largest` (an image of 2^32 - 1 bytes), `pipe`, `mount` and `socket` (random requests for so many minutes, held
 against the plain reading, while the memory of strata must not grow), `kills` (2,000 clients of a socket that are killed),
-`crowd` (100 mounts of the same images at once, eight processes in each), `again` (1,000 mounts one after another) and
-`readers` (for so many minutes 16 processes that use a mount of four readers, each killed in what it does).
+`crowd` (100 mounts of the same images at once, eight processes in each), `again` (1,000 mounts one after another),
+`readers` (for so many minutes 16 processes that use a mount of four readers, each killed in what it does) and `failing` (as
+long, eight processes in a mount whose image fails, waits, and tells few or other bytes by turns).
 `--quick` takes fewer steps, and some seconds in place of minutes. Each part prints a line, or says what is missing for it
 here: mounts need /dev/fuse, `largest` 10,000 MiB of free memory for what it reads whole. The status is 0 where no
 part fails.
@@ -230,7 +231,12 @@ def readers(soak):
     return soak_mounts.readers(soak.program, soak.folder, soak.seconds)
 
 
-PARTS = {it.__name__: it for it in (memory, nodes, largest, pipe, mount, socket, kills, crowd, again, readers)}
+def failing(soak):
+    """A mount over a file that fails."""
+    return soak_mounts.failing(soak.program, soak.folder, soak.seconds)
+
+
+PARTS = {it.__name__: it for it in (memory, nodes, largest, pipe, mount, socket, kills, crowd, again, readers, failing)}
 
 
 def told_of(part, program, seconds, is_quick):

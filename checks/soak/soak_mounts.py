@@ -1,13 +1,18 @@
-"""Parts of checks/soak/soak.py with many mounts: of one image at once, and one after another; and with several readers."""
+"""Parts of checks/soak/soak.py with mounts: many of one image at once, and one after another; one of several readers; and one
+over a file that fails."""
+import errno
+import mmap
 import os
 import random
 import signal
+import struct
 import subprocess
 import time
 
 from checks.shared import mounting
 from checks.shared.images import Item, flat
-from checks.shared.mounting import Failed, LeftOut, Room, apart, children, hold, places, try_mount
+from checks.shared.mounting import Failed, LeftOut, Room, apart, children, fails, hold, places, try_mount
+from checks.shared.watched_file import CUT, FAIL, SERVE, TURN, WAIT, WatchedFile, turned
 from checks.soak.soak_streams import Memory, call_once
 from mount import DEVICE
 
@@ -160,3 +165,101 @@ def user(mounted, files, number):
 def end_user(child):
     os.kill(child, signal.SIGKILL)
     hold("a process that is killed", -signal.SIGKILL, os.waitstatus_to_exitcode(os.waitpid(child, 0)[1]))
+
+
+# --- a file that fails ---
+
+class Counts:
+    """How many calls each of some processes made, and how many of them failed, where all of them see it."""
+    SLOT = struct.Struct("=QQ")
+
+    def __init__(self, processes):
+        self.shared = mmap.mmap(-1, self.SLOT.size * processes)
+
+    def add(self, process, has_failed):
+        calls, failed = self.SLOT.unpack_from(self.shared, process * self.SLOT.size)
+        self.SLOT.pack_into(self.shared, process * self.SLOT.size, calls + 1, failed + has_failed)
+
+    def sums(self):
+        return [sum(each) for each in zip(*self.SLOT.iter_unpack(self.shared))]
+
+
+def failing(program, folder, seconds):
+    """Processes that read and ask in a mount whose image fails, waits, and tells few or other bytes, by turns."""
+    return inside(program, folder, int(seconds) + 60, lambda room: failed_over(room, seconds))
+
+
+def failed_over(room, seconds):
+    files, rng = files_of(random.Random(23)), random.Random(24)
+    names, data = image_of(room, files)
+    with open(data, "rb") as it:
+        disk = WatchedFile(room, it.read())
+    mounted = room.mount([names, disk.image], "-o", "readers=%d" % SERVING)
+    opened, memory, counts = descriptors(mounted.server), Memory(mounted.server, seconds), Counts(READERS)
+    asking = [asker(mounted, files, number, counts) for number in range(READERS)]
+    while not memory.is_over():
+        first = rng.randrange(len(disk.data))
+        disk.order(rng.choice([SERVE, WAIT, FAIL, CUT, TURN]), first, first + rng.choice([1, 4096, 1 << 20, 1 << 40]))
+        time.sleep(rng.uniform(0, 0.1))
+    disk.order(SERVE)
+    for child in asking:
+        end_user(child)
+    path = mounted.path(max(files))
+    disk.order(FAIL)
+    fails("data that can't be read", errno.EIO, directly, path, 0, 1)
+    disk.order(SERVE)
+    hold("data, once they can be read", True, all(directly(mounted.path(name), 0, 1 << 20) == files[name] for name in files))
+    hold("descriptors", opened, descriptors(mounted.server))
+    mounted.end()
+    told = "%d calls, of which %d failed" % tuple(counts.sums())
+    told += ", over %d reads of an image that failed by turns; %s" % (disk.reads(), memory.told())
+    disk.end()
+    return told
+
+
+def asker(mounted, files, number, counts):
+    """A process that asks until it is killed: data are what the image tells, or EIO; names and sizes never fail."""
+    child = os.fork()
+    if child == 0:
+        try:
+            rng = random.Random(number)
+            while True:
+                counts.add(number, ask_once(rng, mounted, files))
+        finally:
+            os._exit(2)
+    return child
+
+
+def ask_once(rng, mounted, files):
+    """Whether a call failed as it may."""
+    name = rng.choice(list(files))
+    hold("a name that is not there", False, os.path.lexists(mounted.path(b"d", rng.randbytes(8).hex().encode())))
+    hold("the size of a file", len(files[name]), os.lstat(mounted.path(name)).st_size)
+    if rng.randrange(100) == 0:
+        hold("the names of a directory", 2000, len(os.listdir(mounted.path(b"d"))))
+    at, size = rng.randrange(len(files[name]) + 2), rng.randrange(300000)
+    try:
+        got = directly(mounted.path(name), at, size)
+    except OSError as fault:
+        hold("a read that fails", errno.EIO, fault.errno)
+        return True
+    wanted = files[name][at:at + size]
+    hold("data, or the front of it", True, bool(got) == bool(wanted) and is_front(got, wanted))
+    return len(got) < len(wanted)
+
+
+def directly(path, at, size):
+    """Some of a file's bytes, past the kernel's pages."""
+    opened = os.open(path, os.O_RDONLY | os.O_DIRECT)
+    try:
+        return os.pread(opened, size, at)
+    finally:
+        os.close(opened)
+
+
+def is_front(got, wanted):
+    """Whether data are the first of these bytes, each of which may have been told as the other one."""
+    if wanted.startswith(got):
+        return True
+    others = turned(wanted)
+    return len(got) <= len(wanted) and all(byte in pair for byte, *pair in zip(got, wanted, others))
