@@ -2,7 +2,7 @@
 
 Measures `serve` over an empty stream, which is reading, checking and stacking the images, and tells for each size the least
 processor time of N runs (3), user and system, and the most memory at one moment, of which some 18 MiB are not told apart.
-Images lie in memory (/dev/shm where it is there). With --drawn it draws what it measured as a picture (SVG), both axes by
+Images are read whole, and once more one kind of them is left in its file. They lie in memory (/dev/shm where it is there). With --drawn it draws what it measured as a picture (SVG), both axes by
 powers of ten, with the slope of each line of times: the exponent of the size that fits its last points best. A slope of 1 is
 linear, and n log n has one of about 1.1 at these sizes. Of memory it tells the bytes a node between the last two points.
 
@@ -56,7 +56,7 @@ def written(make, size, folder):
             file.write(image)
 
 
-def measured(program, make, size, times):
+def measured(words, make, size, times):
     """The least of some runs over the images of a size. They are made in another process, since what a process had at one
     moment counts for those that it starts."""
     with tempfile.TemporaryDirectory(dir="/dev/shm" if os.path.isdir("/dev/shm") else None) as folder:
@@ -64,7 +64,7 @@ def measured(program, make, size, times):
         maker.start()
         maker.join()
         paths = sorted("%s/%s" % (folder, name) for name in os.listdir(folder))
-        done = [runs.ended(subprocess.Popen([program, "serve", *paths], stdin=subprocess.DEVNULL, stdout=subprocess.DEVNULL,
+        done = [runs.ended(subprocess.Popen([*words, *paths], stdin=subprocess.DEVNULL, stdout=subprocess.DEVNULL,
                                             stderr=subprocess.PIPE)) for _ in range(times)]
     for it in done:
         if it.status != 0:
@@ -72,12 +72,12 @@ def measured(program, make, size, times):
     return min(it.seconds for it in done), max(it.memory for it in done)
 
 
-def line_of(program, name, colour, make, sizes, times):
+def line_of(words, name, colour, make, sizes, times):
     """Measures all sizes of a kind of images, and tells each."""
     points = []
     for size in sizes:
-        points.append(Point(size, *measured(program, make, size, times)))
-        print("%-24s %9d  %8.4f s  %7.1f MiB" % (name, *points[-1]), flush=True)
+        points.append(Point(size, *measured(words, make, size, times)))
+        print("%-32s %9d  %8.4f s  %7.1f MiB" % (name, *points[-1]), flush=True)
     return Line(name, colour, points)
 
 
@@ -155,10 +155,11 @@ def main(words):
     asked = parser.parse_args(words)
     nodes = [size for size in NODES if size <= asked.most]
 
-    def line(name, colour, make, sizes):
-        return line_of(asked.program, name, colour, make, sizes, asked.runs)
+    def line(name, colour, make, sizes, way="--whole"):
+        return line_of([asked.program, "serve", way], name, colour, make, sizes, asked.runs)
 
     lines = [line("directories of 1,000 files", "#1f77b4", tree, nodes),
+             line("the same, left in the file", "#9467bd", tree, nodes, "--in-files"),
              line("one directory", "#d62728", one_directory, [size for size in nodes if size <= 1_000_000])]
     stacks = line("1 to 128 layers", "#2ca02c", layers, LAYERS)
     lines.append(stacks._replace(points=[it._replace(size=it.size * (EACH + 2)) for it in stacks.points]))

@@ -1,5 +1,5 @@
 -- How the readers of one open /dev/fuse ended, and which end is told of all of them.
-use Rattle.std.specs.Prelude.{◌≡◌, ℕ, Bool, ◌||◌, List, [], ◌∷◌, Option, None, Some, Result, Ok, Err, nat_le, if◌then◌else◌}
+use Rattle.std.specs.Prelude.{ℕ, Bool, ◌||◌, List, [], ◌∷◌, Option, None, Some, Result, Ok, Err, nat_le, if◌then◌else◌}
 use Rattle.serve_core.specs.declared.stop.Stop.{Stop}
 use Rattle.serve_core.specs.declared.stop.Stop.TheVariants as stops
 use Rattle.serve_loop.specs.declared.done.Done.{Done}

@@ -2,7 +2,6 @@
 -- together.
 use Rattle.std.specs.Prelude.{◌≡◌, ◌≤◌, ◌⊎◌, ⊤, ℕ, ℤ, pos, ◌+ℤ◌, List, [], ◌∷◌, Result, Ok, Err}
 use Rattle.std.specs.List.{AllByRecursion}
-use Rattle.devices.specs.States.{Devices}
 use Rattle.fuse_wire.specs.Requests.{asked}
 use Rattle.fuse_wire.specs.Stream.{IsSplit}
 use Rattle.lookup_balances.specs.Balances.{balance_at}

@@ -1,6 +1,6 @@
 -- What the readers of one open /dev/fuse do, each a stream of its own between its own devices, over
 -- one stack and the sources of its data. Each counts lookups of as many nodes as its bounds say.
-use Rattle.std.specs.Prelude.{◌≡◌, ℕ, ◌<◌, IsTrue, List, ◌∷◌, Option, None, Some, Result, Ok, Err}
+use Rattle.std.specs.Prelude.{◌≡◌, ◌<◌, IsTrue, List, ◌∷◌, Option, None, Some, Result, Ok, Err}
 use Rattle.std.specs.List.{AllZip}
 use Rattle.devices.specs.States.{Devices}
 use Rattle.reply_model.specs.declared.session.Session.{Session}

@@ -1,5 +1,5 @@
 -- The readers of one open /dev/fuse: what a contract sees of where each of them stands.
-use Rattle.std.specs.Prelude.{◌≡◌, ℕ, Bool, false, List, [], ◌∷◌, ◌++◌, Option, None, Result}
+use Rattle.std.specs.Prelude.{◌≡◌, ℕ, false, List, [], ◌∷◌, ◌++◌, Option, None, Result}
 use Rattle.std.specs.List.{AllByRecursion}
 use Rattle.devices.specs.Counting.{no_pulls, no_pushes}
 use Rattle.devices.specs.States.{Devices, devices, source_state, sink_state}

@@ -1,6 +1,6 @@
 //! What readers come to, by what [`crate::serve_by_readers`] promises.
 
-ghost use Rattle.std.specs.Prelude.{◌≡◌, ◌<◌, ◌+◌, ◌⊎◌, ℕ, List, ◌∷◌, false, Option, None, Some, IsPermutation};
+ghost use Rattle.std.specs.Prelude.{◌≡◌, ◌<◌, ◌+◌, ◌⊎◌, ℕ, List, ◌∷◌, false, None, Some, IsPermutation};
 ghost use Rattle.std.specs.List.{AllZip, flat_map};
 ghost use Rattle.reply_model.specs.declared.session.Session.{Session};
 ghost use Rattle.reply_model.specs.Moves.{balance};

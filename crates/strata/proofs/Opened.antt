@@ -1,7 +1,7 @@
 -- The images of a line. `are_sources` says of images that were taken apart what their data are read from,
 -- `stacked_sources` that their stack has the same; `whole_held` that nothing is where a line asks for all bytes, and
 -- `held_whole` that a stack without sources is held. `seen_as` lends their files. `one_held` is the step of the loop
--- that holds images whole, and `whole_ones` says what these hold.
+-- that holds images whole; `whole_ones` and `gathered_ones` say what is held of images for a line.
 use Rattle.std.proofs.Common.{◌≡◌, ◌≤◌, ◌⊎◌, ◌||◌, ◌∙◌, sym, ap, subst, refl, ℕ, suc, inl, inr, true, false, true≢false, List, [], ◌∷◌, ◌++◌, append_assoc, length, map, All, Bool, Option, Some, Vec, arith}
 use Rattle.std.specs.List.{AllByRecursion}
 use Rattle.std.proofs.lemmas.List.Elements.{All-map, All-same, All-weaker, recursion_from_All}
@@ -123,6 +123,11 @@ whole_ones line known images held e h =
     let is = IsOfFile (λ file. IsHeldOf (known file) (trailers_of line)) in
     All-same is held (map Whole images) e (All-map is Whole images (All-weaker (IsOfFile (λ file. AreBytesOf (known file)))
     (λ bytes. is (Whole bytes)) (λ bytes of. record { file = of.file; read = of.read }) images h))
+
+-- images that are gathered with the trailers that a line asks for are held for it
+pub gathered_ones : {F A : Type 0} (line : Line) (known : F → Option (List ℕ)) (images : List (HeldImage A)) (trailers : Trailers)
+    → trailers ≡ trailers_of line → All (IsOfFile (λ file. IsHeldOf (known file) trailers)) images → AreHeldFor line known images
+gathered_ones line known images trailers e h = subst (λ these. All (IsOfFile (λ file. IsHeldOf (known file) these)) images) e h
 
 -- images that are prepared with their files are so with all of these, lent
 pub seen_as : {F A B : Type 0} (line : Line) (images : List (List ℕ)) (stack : Stacked) (files : Vec (ImageData F A) B)

@@ -69,8 +69,8 @@ where
     })
 }
 
-/// What is held of the images of a line, none of which stays open: what the rules look at, if it
-/// does not ask for all their bytes.
+/// What is held of the images of a line that checks, none of which stays open. They are read whole
+/// where those of a line that lists are; else it is what the rules look at.
 pub fn gather_all<R: Files + Threads + Sync, A: Allocator + Copy + Send + Sync>(
     rt: &R,
     alloc: A,
@@ -85,7 +85,7 @@ where
     ensures err { IfErr result (AreUnread (vec_len line.now.images)) }
 {
     let paths = line.images.as_slice();
-    if line.whole {
+    if are_read_whole(rt, line) {
         let images = read_images(rt, alloc, paths)?;
         return Ok(all_whole(alloc, images)?);
     }

@@ -1,7 +1,6 @@
-use Rattle.std.proofs.Common.{◌≡◌, sym, subst, ℕ, List, map, slice_index_or, slice_set, Option, None, Some}
+use Rattle.std.proofs.Common.{◌≡◌, sym, subst, ℕ, List, map, slice_index_or, slice_set, Option}
 use Rattle.fuse_answer.specs.Puts.{sourced_by}
 use Rattle.serve_core.specs.Headline.{bounds}
-use Rattle.serve_loop.specs.declared.opening.Begun.{Begun}
 use Rattle.device_readers.specs.Readers.{AreServedBy, HasOpened}
 use Rattle.device_readers.specs.Seats.{SeatState, new_seat, seat_of}
 use Rattle.device_readers.proofs.Reading.{at_place, ready_all, ready_new, ready_on, served_by_all, served_by_one}
