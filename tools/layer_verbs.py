@@ -99,7 +99,8 @@ def run_config(asked):
     config = image_in(store, full_name(store, asked.name)).config
     user = untold_user(config) if asked.form == "bwrap" else None
     if user is not None:
-        ends.write("%s: its user %s is no number: bwrap runs it as the user who calls bwrap\n" % (asked.name, shown(user)))
+        ends.write("%s: %s: its user %s is no number: bwrap runs it as the user who calls bwrap\n"
+                   % (command("layers"), asked.name, shown(user)))
     if asked.form is not None:
         print_line(sandbox_words(config, asked.form))
         return 0

@@ -90,6 +90,10 @@ def say(line):
     ends.write(line + "\n")
 
 
+def say_fault(line):
+    say("%s: %s" % (command("layers"), line))
+
+
 def help_text():
     name = command("layers")
     lines = ["usage: %s LAYOUT[:TAG] FOLDER" % name]
@@ -136,7 +140,7 @@ def run(words):
         return layer_verbs.run(words)
     wrong = wrong_words(words)
     if wrong is not None:
-        say("%s: %s; --help tells more" % (command("layers"), wrong))
+        say_fault("%s; --help tells more" % wrong)
         return 2
     return images_of_layout(words)
 
@@ -148,13 +152,13 @@ def main(words):
     try:
         return run(words)
     except Refused as refused:
-        say(str(refused))
+        say_fault(str(refused))
     except OSError as fault:
         where = shown(fault.filename if isinstance(fault.filename, (str, bytes)) else words[-1])
-        say("%s: %s" % (where, (fault.strerror or str(fault)).lower()))
+        say_fault("%s: %s" % (where, (fault.strerror or str(fault)).lower()))
     except MemoryError:
         # names are held, and a small archive may have very many
-        say("out of memory")
+        say_fault("out of memory")
     except KeyboardInterrupt:
         return 130
     return 1

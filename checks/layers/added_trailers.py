@@ -1,15 +1,12 @@
 """Tests of `tools/layers.py attributes FOLDER IMAGE`. A test is a function of a room."""
-import contextlib
 import errno
-import io
 import os
 import shutil
 import stat
 import subprocess
 from unittest import mock
 
-import layers
-from checks.layers.layer_room import LeftOut, expect
+from checks.layers.layer_room import LeftOut, expect, run_tool
 from checks.layers.shown_trees import read
 from checks.plain import plain, plain_attributes
 from checks.shared.images import MOST_FULL, Item, laid_out, write_spread
@@ -17,10 +14,7 @@ from checks.shared.images import MOST_FULL, Item, laid_out, write_spread
 
 def added(folder, image):
     """Runs the verb: its status, output and lines of standard error."""
-    out, lines = io.TextIOWrapper(io.BytesIO()), io.StringIO()
-    with contextlib.redirect_stdout(out), contextlib.redirect_stderr(lines):
-        status = layers.main(["attributes", folder, image])
-    return status, out.buffer.getvalue().decode(), lines.getvalue().splitlines()
+    return run_tool("attributes", folder, image)
 
 
 def make_folder(at):

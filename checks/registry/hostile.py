@@ -10,7 +10,7 @@ import time
 
 from checks import TOOLS
 from checks.registry import made
-from checks.registry.rooms import LAYERS, Failed, LeftOut, hold, needs, snapshot
+from checks.registry.rooms import LAYERS, NAME, Failed, LeftOut, hold, needs, snapshot
 from checks.registry.stores import mounted_layers
 
 
@@ -267,7 +267,7 @@ def check_full_disk(room):
     if done.returncode == 99 or "unshare" in done.stderr:
         raise LeftOut("no namespace for a full disk: %s" % done.stderr.strip())
     lines = done.stderr.splitlines()
-    why = "%s/%s: no space left on device"
+    why = NAME + "%s/%s: no space left on device"
     hold("told", [why % (full, "store"), "1", why % (full, "store"), "1", why % (full, "layout"), "1"], lines)
     told = done.stdout.splitlines()
     hold("what stays", (0, 2, True), (done.returncode, len(told), told[-1].startswith("small:1 1 ")))

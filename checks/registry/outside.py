@@ -10,7 +10,7 @@ import time
 from checks.registry import made
 from checks.registry.hostile import flip, hold_after_end, large_layers
 from checks.registry.loopback import Registry, needs_root, push
-from checks.registry.rooms import LAYERS, MOUNT, Failed, LeftOut, hold, needs
+from checks.registry.rooms import LAYERS, MOUNT, NAME, Failed, LeftOut, hold, needs
 
 HERE = os.path.dirname(os.path.abspath(__file__))
 OTHER = """
@@ -101,7 +101,7 @@ def check_broken_registry(room):
     flip(registry.path_of(read.json(read.top)["layers"][2]["digest"]))
     for name in ("app:1", "app:2", "none"):
         done = room.tried("pull", "docker://%s/%s" % (registry.host, name))
-        hold(name, (1, True, 1), (done.returncode, done.stderr.startswith("skopeo: "), done.stderr.count("\n")))
+        hold(name, (1, True, 1), (done.returncode, done.stderr.startswith(NAME + "skopeo: "), done.stderr.count("\n")))
     hold("images", "", room.layers("images"))
     hold("verified", "", room.layers("verify"))
     hold("left", [], os.listdir(os.path.join(room.store, "new")))

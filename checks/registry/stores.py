@@ -11,7 +11,7 @@ import subprocess
 from checks import ROOT
 from checks.plain import plain
 from checks.registry import made
-from checks.registry.rooms import LAYERS, LeftOut, hold, shown_by
+from checks.registry.rooms import LAYERS, NAME, LeftOut, hold, shown_by
 
 
 def mounted_layers(room, name, store=None):
@@ -240,7 +240,7 @@ def hold_user_by_name(room):
     source = made.Layout(room.name(), {**made.RUN, "User": "www-data"})
     source.index(made.tagged(source.image(made.LAYERS), "1"))
     room.layers("pull", "oci:" + source.path, "named")
-    line = "named: its user www-data is no number: bwrap runs it as the user who calls bwrap\n"
+    line = NAME + "named: its user www-data is no number: bwrap runs it as the user who calls bwrap\n"
     for form, told in (("--bwrap", line), ("--podman", "")):
         done = room.tried("config", form, "named")
         hold(form, (0, told, form == "--podman"), (done.returncode, done.stderr, "www-data" in shlex.split(done.stdout)))
