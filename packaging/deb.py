@@ -56,7 +56,7 @@ def packed(data, moment):
 
 
 def gzipped(entry):
-    """A page, or a link to one, as packages have it."""
+    """A page, a document, or a link to one, as packages have it."""
     if entry.link is not None:
         return entry._replace(path=entry.path + ".gz", link=entry.link + ".gz")
     return entry._replace(path=entry.path + ".gz", data=packed(entry.data, 0))
@@ -71,13 +71,13 @@ def stripped(program):
 
 
 def entries(program, moment):
-    """What the package holds: what is installed with pages as Debian packs them, and what is said of a package."""
+    """What the package holds: what is installed, with its texts as Debian packs them, and what is said of a package."""
     version = files.version()
     found = []
     for entry in files.entries(program, PYTHON):
         if entry.path == "bin/strata":
             entry = entry._replace(data=stripped(program))
-        if entry.path.startswith("share/man/"):
+        if entry.path.startswith(("share/man/", "share/doc/")):
             entry = gzipped(entry)
         if entry.path.startswith("share/zsh/"):
             entry = entry._replace(path=entry.path.replace("site-functions", "vendor-completions"))
@@ -111,6 +111,7 @@ def control(program, found, moment):
 
 def build(program, folder):
     """Makes the package; its path."""
+    files.hold_built(program)
     moment = files.moment()
     found = entries(program, moment)
     path = os.path.join(folder, "strata_%s_%s.deb" % (files.version(), architecture()))

@@ -44,6 +44,7 @@ def packed(found, front, moment):
 
 
 def main(program, folder):
+    files.hold_built(program)
     name = "strata-%s-%s" % (files.version(), platform.machine())
     path = os.path.join(folder, name + ".tar.gz")
     with open(path, "wb") as out:

@@ -19,8 +19,16 @@ PROGRAMS = (
     ("bin/strata-layers", "layers", "sys.argv[1:]"),
     ("sbin/mount.strata", "mount_helper", "sys.argv[1:]"),
 )
+# what says how it is used, and its limits
+DOCUMENTS = (("README.md",), ("docs", "USE.md"), ("docs", "MOUNTING.md"))
 COMPLETIONS = {
     "bash": "share/bash-completion/completions", "zsh": "share/zsh/site-functions", "fish": "share/fish/vendor_completions.d"}
+
+
+def hold_built(program):
+    """Ends with a line where the program is not built."""
+    if not os.path.exists(program):
+        sys.exit("%s is not there: make build, first" % program)
 
 
 def read(*names):
@@ -72,6 +80,11 @@ def completions():
             yield Entry("%s/%s" % (folder, name), 0o644, read("packaging", "completions", shell, name))
 
 
+def documents():
+    for names in DOCUMENTS:
+        yield Entry("share/doc/strata/" + names[-1], 0o644, read(*names))
+
+
 def entries(program, python):
     """All that is installed, in the order of paths: the program from this file, and what goes by this python3."""
     number = version()
@@ -81,7 +94,7 @@ def entries(program, python):
     found.append(Entry("sbin/mount.fuse.strata", 0o777, link="mount.strata"))
     found += [Entry("lib/strata/%s.py" % module, 0o644, read("tools", module + ".py")) for module in modules()]
     found.append(Entry("lib/strata/version", 0o644, number.encode() + b"\n"))
-    return sorted([*found, *pages(number), *completions()])
+    return sorted([*found, *pages(number), *completions(), *documents()])
 
 
 def folders(found):

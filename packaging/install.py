@@ -1,7 +1,8 @@
 """Installs what `make build` has made, or takes it away: packaging/install.py PROGRAM DESTDIR PREFIX HELPERS [--remove]
 
 Files go below DESTDIR/PREFIX. mount(8) seeks its helpers in HELPERS alone (/sbin): where the prefix is another, links to
-them are made there, and where that may not be, this is said. Nothing is proved or built.
+them are made there. Where that may not be, or a helper stands there that is not this install's, as a package's is, this is
+said. Nothing is proved or built.
 """
 import os
 import sys
@@ -10,7 +11,9 @@ import files
 
 PYTHONS = ("/usr/bin/python3", os.path.realpath(sys.executable))
 LINKS = ("mount.strata", "mount.fuse.strata")
-OURS = "lib/strata"
+# folders in which nothing but strata's own stands
+MODULES = "lib/strata"
+OURS = (MODULES, "share/doc/strata")
 
 
 def write(place, entry):
@@ -40,17 +43,30 @@ def helper_links(destdir, prefix, helpers):
     return [(destdir + helpers + "/" + name, os.path.join(prefix, "sbin", name)) for name in LINKS]
 
 
+def is_ours(place, target):
+    return os.path.islink(place) and os.readlink(place) == target
+
+
+def held_links(links):
+    """The links that may be made or taken away: a helper that is not this install's is left as it is, which is said."""
+    for place, target in links:
+        if not os.path.lexists(place) or is_ours(place, target):
+            yield place, target
+        else:
+            print("%s: is not of this install, and stays as it is" % place)
+
+
 def install(found, top, links):
     for folder in files.folders(found):
         make_folder(os.path.join(top, folder))
     for entry in found:
         write(os.path.join(top, entry.path), entry)
     # modules of an earlier strata
-    kept = {os.path.basename(entry.path) for entry in found if os.path.dirname(entry.path) == OURS}
-    for name in os.listdir(os.path.join(top, OURS)):
+    kept = {os.path.basename(entry.path) for entry in found if os.path.dirname(entry.path) == MODULES}
+    for name in os.listdir(os.path.join(top, MODULES)):
         if name.endswith(".py") and name not in kept:
-            os.unlink(os.path.join(top, OURS, name))
-    for place, target in links:
+            os.unlink(os.path.join(top, MODULES, name))
+    for place, target in held_links(links):
         try:
             make_folder(os.path.dirname(place))
             write(place, files.Entry(place, 0o777, link=target))
@@ -60,21 +76,21 @@ def install(found, top, links):
 
 def remove(found, top, links):
     places = [os.path.join(top, entry.path) for entry in found]
-    places += [place for place, target in links if os.path.islink(place) and os.readlink(place) == target]
+    places += [place for place, _ in held_links(links)]
     for place in places:
         if os.path.lexists(place):
             os.unlink(place)
-    ours = os.path.join(top, OURS)
-    if os.path.isdir(ours) and not os.listdir(ours):
-        os.rmdir(ours)
+    for ours in (os.path.join(top, name) for name in OURS):
+        if os.path.isdir(ours) and not os.listdir(ours):
+            os.rmdir(ours)
 
 
 def main(program, destdir, prefix, helpers, *words):
     act = remove if words == ("--remove",) else install
     if act is remove:
         program = os.devnull
-    elif not os.path.exists(program):
-        sys.exit("%s is not there: make build, first" % program)
+    else:
+        files.hold_built(program)
     python = next(path for path in PYTHONS if os.path.exists(path))
     prefix = os.path.abspath(prefix)
     destdir = os.path.abspath(destdir) if destdir else ""

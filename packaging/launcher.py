@@ -1,5 +1,12 @@
 #!@PYTHON@ -IBS
 # @NAME@: what it does stands in lib/strata beside this file, wherever a link to it stands.
+import _signal as signal  # built in: it is there at once
+
+# while modules are loaded SIGINT just ends the program, without Python's own lines
+interrupted = signal.getsignal(signal.SIGINT)
+if interrupted is signal.default_int_handler:
+    signal.signal(signal.SIGINT, signal.SIG_DFL)
+
 import os
 import sys
 
@@ -7,4 +14,8 @@ HERE = os.path.dirname(os.path.dirname(os.path.realpath(__file__)))
 sys.path.insert(0, os.path.join(HERE, "lib", "strata"))
 import @MODULE@
 
-sys.exit(@MODULE@.main(@WORDS@))
+try:
+    signal.signal(signal.SIGINT, interrupted)
+    sys.exit(@MODULE@.main(@WORDS@))
+except KeyboardInterrupt:
+    sys.exit(130)

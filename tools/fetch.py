@@ -19,7 +19,7 @@ import sys
 from layout_images import layers_in
 from layout_writer import json_bytes
 from layouts import INDEXES, JSON_MOST, Layout, chosen, descriptor_of, field, parsed
-from refused import Refused, shown
+from refused import Refused, faults_below, shown
 
 TRANSPORT = "docker://"
 TAG = "pulled"
@@ -27,6 +27,8 @@ PR_SET_PDEATHSIG = 1
 # files that are no blobs
 OWN_MOST = 1 << 28
 MESSAGE = re.compile(r'level=fatal msg="((?:[^"\\]|\\.)*)"')
+# a path in a message that begins in the folder where skopeo writes
+BELOW = re.compile(r"(?<![\w./])\./")
 libc = ctypes.CDLL(None)
 
 
@@ -50,6 +52,8 @@ def skopeo(*words, folder=None, most=resource.RLIM_INFINITY):
         said = done.stderr.decode(errors="replace").strip()
         found = MESSAGE.search(said)
         said = found[1].replace('\\"', '"') if found else " ".join(said.split())
+        if folder is not None:
+            said = BELOW.sub(lambda _: shown(folder) + "/", said)
         raise Refused("skopeo: %s" % (said or "status %d" % done.returncode))
     return done.stdout
 
@@ -102,6 +106,17 @@ class Reference:
         return value, digest, where
 
 
+def write_known(folder, known):
+    """Writes a layout for skopeo, in which the layers that are known stand as empty files of their sizes."""
+    blobs = os.path.join(folder, "blobs", "sha256")
+    os.makedirs(blobs)
+    for layer in known:
+        with open(os.path.join(blobs, layer.digits), "wb") as out:
+            out.truncate(layer.size)
+    with open(os.path.join(folder, "oci-layout"), "wb") as out:
+        out.write(json_bytes({"imageLayoutVersion": "1.0.0"}))
+
+
 @contextlib.contextmanager
 def fetched(store, reference, asked, is_known):
     """A layout with an image of a registry, and the digest of its manifest there. `is_known` tells
@@ -109,14 +124,10 @@ def fetched(store, reference, asked, is_known):
     it = Reference(reference)
     manifest, digest, where = it.manifest(asked)
     folder = os.path.join(store.place, "new", secrets.token_hex(8))
-    os.makedirs(os.path.join(folder, "blobs", "sha256"))
     try:
-        for layer in layers_in(manifest, where):
-            if layer.algorithm == "sha256" and is_known(layer):
-                with open(os.path.join(folder, "blobs", "sha256", layer.digits), "wb") as out:
-                    out.truncate(layer.size)
-        with open(os.path.join(folder, "oci-layout"), "wb") as out:
-            out.write(json_bytes({"imageLayoutVersion": "1.0.0"}))
+        with faults_below(store.place):
+            known = [it for it in layers_in(manifest, where) if it.algorithm == "sha256" and is_known(it)]
+            write_known(folder, known)
         # a folder's name with a colon would be another to skopeo
         skopeo("copy", TRANSPORT + it.name + "@" + digest, "oci:.:" + TAG, folder=folder, most=largest(manifest, where))
         yield Layout(folder), digest

@@ -1,4 +1,5 @@
 """`attributes`: adds an attribute trailer to an image that genromfs made of a folder."""
+import errno
 import os
 import stat
 
@@ -20,10 +21,25 @@ def said_by(found):
     return trailer.said(mode, found.st_uid, found.st_gid, seconds, nanoseconds)
 
 
-def names_of_devices(folder):
-    """The devices that genromfs makes of plain files, `@NAME,KIND,MAJOR,MINOR`. Nothing in the folder
-    says what they are like."""
-    return {name[1:].split(b",")[0] for name in os.listdir(folder) if name[:1] == b"@" and b"," in name}
+def extended_attributes(path):
+    """The names of a file's extended attributes; none where its file system has none at all, as a mount of strata."""
+    try:
+        return [os.fsencode(name) for name in sorted(os.listxattr(path, follow_symlinks=False))]
+    except OSError as fault:
+        if fault.errno != errno.ENOTSUP:
+            raise
+        return []
+
+
+class Names:
+    """What stands in a folder."""
+
+    def __init__(self, folder):
+        there = set(os.listdir(folder))
+        said = {name for name in there if name[:1] == b"@" and b"," in name}
+        # the devices that genromfs makes of plain files, `@NAME,KIND,MAJOR,MINOR`; nothing here says what they are like
+        self.devices = {name[1:].split(b",")[0] for name in said} - there
+        self.files = there - said
 
 
 class Reading:
@@ -40,27 +56,36 @@ class Reading:
             if at in self.rows:
                 continue
             self.note(path, at)
-            below = self.image.members(at) if self.image.is_folder(at) else {}
-            devices = names_of_devices(self.place(path)) if below else ()
-            for name, header in below.items():
-                end = self.image.end(header)
-                if end is None:
-                    raise Refused("no sound image of romfs")
-                if name not in devices or os.path.lexists(self.place((*path, name))):
-                    todo.append(((*path, name), end))
+            if self.image.is_folder(at):
+                todo += self.below(path, self.image.members(at))
         return self.rows
+
+    def below(self, path, members):
+        """The paths of a folder's members that stand in the folder too, with the headers that they lead to."""
+        names = Names(self.place(path))
+        for name in sorted(names.files - {*members}):
+            self.lost.note("members", shown(self.place((*path, name))))
+        for name, header in members.items():
+            end = self.image.end(header)
+            if end is None:
+                raise Refused("no sound image of romfs")
+            if name not in names.devices:
+                yield (*path, name), end
 
     def place(self, path):
         return os.path.join(self.folder, *path)
 
     def note(self, path, at):
-        found = os.lstat(self.place(path))
-        if stat.S_IFMT(found.st_mode) != KINDS.get(self.image.header(at)[1]):
-            raise Refused("%s: is of another kind in the image" % shown(self.place(path)))
+        place = self.place(path)
+        found, (_, kind, _, size) = os.lstat(place), self.image.header(at)
+        if stat.S_IFMT(found.st_mode) != KINDS.get(kind):
+            raise Refused("%s: is of another kind in the image" % shown(place))
+        if kind == romfs.REGULAR and found.st_size != size:
+            raise Refused("%s: has %d bytes, and %d in the image" % (shown(place), found.st_size, size))
         self.rows[at] = said_by(found)
-        names = os.listxattr(self.place(path), follow_symlinks=False)
+        names = extended_attributes(place)
         if names:
-            self.lost.note("attributes", shown(self.place(path)), [os.fsencode(name) for name in sorted(names)])
+            self.lost.note("attributes", shown(place), names)
 
 
 def check_behind(number, full):

@@ -65,6 +65,12 @@ def config_lines(config):
     yield " ".join(["user", *([shlex.quote(it.user)] if it.user else [])])
 
 
+def untold_user(config):
+    """The user whom the words for bwrap don't say, since he is no number; else None."""
+    user = RunConfig(config).user
+    return user if user and not NUMBERS.fullmatch(user) else None
+
+
 def bwrap_words(it):
     """The last words of bwrap: environment, folder, user where it is a number, and the program. No
     word of the image is taken as an option."""

@@ -1,26 +1,43 @@
 """The verbs of strata-layers: convert, pull, images, verify, remove, prune, config, attributes."""
 import argparse
 import os
+import sys
 import textwrap
 
 import ends
 from convert import convert
 from folder_attributes import add_attributes
-from image_config import config_lines, sandbox_words
+from image_config import config_lines, sandbox_words, untold_user
 from layouts import platform_said
 from lost import Lost
 from open_layout import open_layout
 from packing import PACKINGS
 from pull import pull
-from refused import bytes_of
+from refused import Refused, bytes_of, one_line, shown
 from store import Store, default_place
 from store_images import full_name, image_in, remove_image
 from store_upkeep import image_lines, prune, verified
 from version import command
 
 
+class Parser(argparse.ArgumentParser):
+    """Says in one line what is wrong with the words."""
+
+    def error(self, message):
+        ends.write("%s: %s; --help tells more\n" % (self.prog, one_line(message)))
+        sys.exit(2)
+
+
 def platform_asked(text):
-    return text if text in (None, "all") else platform_said(text)
+    """The platform that a word says."""
+    try:
+        return platform_said(text)
+    except Refused as refused:
+        raise argparse.ArgumentTypeError(str(refused)) from None
+
+
+def platform_or_all(text):
+    return text if text == "all" else platform_asked(text)
 
 
 def print_line(text):
@@ -34,7 +51,6 @@ def told(lost):
 
 def run_convert(asked):
     layout, tag = open_layout(asked.layout)
-    asked.platform = platform_asked(asked.platform)
     lost = Lost()
     folder, tag = convert(Store(asked.store, make=True), layout, tag, asked.new_layout, asked, lost)
     told(lost)
@@ -43,9 +59,8 @@ def run_convert(asked):
 
 
 def run_pull(asked):
-    platform = None if asked.platform is None else platform_said(asked.platform)
     lost = Lost()
-    name, count, new = pull(Store(asked.store, make=True), asked.source, asked.name, platform, lost)
+    name, count, new = pull(Store(asked.store, make=True), asked.source, asked.name, asked.platform, lost)
     told(lost)
     print_line("%s: %d layers, %d of them new" % (name, count, new))
     return 0
@@ -82,6 +97,10 @@ def run_prune(asked):
 def run_config(asked):
     store = Store(asked.store)
     config = image_in(store, full_name(store, asked.name)).config
+    user = untold_user(config) if asked.form == "bwrap" else None
+    if user is not None:
+        ends.write("%s: %s: its user %s is no number: bwrap runs it as the user who calls bwrap\n"
+                   % (command("layers"), asked.name, shown(user)))
     if asked.form is not None:
         print_line(sandbox_words(config, asked.form))
         return 0
@@ -121,7 +140,7 @@ HELP = {
 
 
 def parser():
-    it = argparse.ArgumentParser(prog=command("layers"))
+    it = Parser(prog=command("layers"))
     verbs = it.add_subparsers(dest="verb", required=True)
     form = argparse.RawDescriptionHelpFormatter
     parts = {verb: verbs.add_parser(verb, description=textwrap.fill(text, 100),
@@ -138,13 +157,13 @@ def parser():
 def add_words(parts):
     """What each verb is asked."""
     platform = "linux/ARCHITECTURE[/VARIANT]; by default this machine's"
-    parts["convert"].add_argument("--platform", metavar="PLATFORM",
+    parts["convert"].add_argument("--platform", metavar="PLATFORM", type=platform_or_all,
                                   help=platform + "; all: every one")
     parts["convert"].add_argument("--compress", dest="packing", choices=PACKINGS, default="",
                                   help="pack layers; machines unpack them once, at pull")
     parts["convert"].add_argument("layout", metavar="LAYOUT[:TAG]")
     parts["convert"].add_argument("new_layout", metavar="LAYOUT2[:TAG2]")
-    parts["pull"].add_argument("--platform", metavar="PLATFORM", help=platform)
+    parts["pull"].add_argument("--platform", metavar="PLATFORM", type=platform_asked, help=platform)
     parts["pull"].add_argument("source", metavar="SOURCE",
                                help="oci:LAYOUT[:TAG] or docker://HOST/NAME[:TAG]")
     parts["pull"].add_argument("name", metavar="NAME[:TAG]", nargs="?")

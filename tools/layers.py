@@ -90,12 +90,31 @@ def say(line):
     ends.write(line + "\n")
 
 
+def say_fault(line):
+    say("%s: %s" % (command("layers"), line))
+
+
 def help_text():
     name = command("layers")
     lines = ["usage: %s LAYOUT[:TAG] FOLDER" % name]
     lines += ["       %s %s .. (each tells more with --help)" % (name, "|".join(VERBS)),
-              "       %s --version" % name]
-    return "\n".join(lines) + "\n\n" + __doc__.split("\n\n", 1)[1].rstrip()
+              "       %s -h|--help|-V|--version" % name]
+    return "\n".join(lines) + "\n\n" + __doc__.split("\n\n", 1)[1].rstrip() + "\n"
+
+
+def wrong_words(words):
+    """What is wrong with words that neither begin with a verb nor are a layout and a folder; None where nothing is."""
+    if not words:
+        return "a verb is missing, or LAYOUT[:TAG] FOLDER"
+    first, is_there = shown(os.fsencode(words[0])), os.path.lexists(words[0])
+    if first.startswith("-") and not is_there:
+        return "%s: no verb stands before it" % first
+    # a path, or a name with a tag, is a layout's that isn't there
+    if not re.search("[:/]", words[0]) and not is_there:
+        return "%s: no such folder, and no verb; the verbs are %s" % (first, ", ".join(VERBS))
+    if len(words) == 1:
+        return "FOLDER is missing, where the images of %s go" % first
+    return "%s: a word too many behind LAYOUT[:TAG] FOLDER" % shown(os.fsencode(words[2])) if len(words) > 2 else None
 
 
 def images_of_layout(words):
@@ -109,14 +128,19 @@ def images_of_layout(words):
 
 
 def run(words):
-    if words[:1] == ["--version"]:
+    first = words[0] if words else None
+    if first in ("-V", "--version"):
         ends.put(b"strata-layers %s\n" % version().encode())
         return 0
-    if words and words[0] in VERBS:
+    if first in ("-h", "--help"):
+        ends.put(help_text().encode())
+        return 0
+    if first in VERBS:
         import layer_verbs
         return layer_verbs.run(words)
-    if len(words) != 2 or words[0] in ("-h", "--help"):
-        say(help_text())
+    wrong = wrong_words(words)
+    if wrong is not None:
+        say_fault("%s; --help tells more" % wrong)
         return 2
     return images_of_layout(words)
 
@@ -128,13 +152,13 @@ def main(words):
     try:
         return run(words)
     except Refused as refused:
-        say(str(refused))
+        say_fault(str(refused))
     except OSError as fault:
         where = shown(fault.filename if isinstance(fault.filename, (str, bytes)) else words[-1])
-        say("%s: %s" % (where, (fault.strerror or str(fault)).lower()))
+        say_fault("%s: %s" % (where, (fault.strerror or str(fault)).lower()))
     except MemoryError:
         # names are held, and a small archive may have very many
-        say("out of memory")
+        say_fault("out of memory")
     except KeyboardInterrupt:
         return 130
     return 1

@@ -7,6 +7,7 @@ LOST = {
     "attributes": "extended attributes are not kept",
     "owners": "owners that are no numbers from 0 to 4294967295 are kept as 65534",
     "times": "times that 64 bits don't hold are kept as the nearest that they hold",
+    "members": "what stands in the folder alone is not in the image",
 }
 NAMED_MOST = 200
 

@@ -1,4 +1,5 @@
 """Why something is refused, as one line, and how what strangers wrote is shown in one."""
+import contextlib
 import os
 
 SHOWN, LINE_MOST = 200, 4200
@@ -6,6 +7,17 @@ SHOWN, LINE_MOST = 200, 4200
 
 class Refused(Exception):
     """Why something is refused, as one line."""
+
+
+@contextlib.contextmanager
+def faults_below(place):
+    """Lets the faults of files that no whole path names, since they are opened below a folder, name that folder."""
+    try:
+        yield
+    except OSError as fault:
+        if isinstance(fault.filename, (str, bytes)) and os.path.isabs(fault.filename):
+            raise
+        raise OSError(fault.errno, fault.strerror, place) from None
 
 
 def bytes_of(text):

@@ -22,7 +22,7 @@ import stat
 import sys
 
 from progress import unheard
-from refused import Refused, shown
+from refused import Refused, faults_below, shown
 
 MARK, MARK_TEXT = "strata-store", b"1\n"
 DIGEST = re.compile(r"sha256:[0-9a-f]{64}")
@@ -86,8 +86,12 @@ class Store:
             raise Refused("%s: no store of layers" % self.name) from None
         if make:
             self.hold_own()
-        self.mark(make)
-        # without the right to write, a store can be read
+        with faults_below(self.place):
+            self.mark(make)
+            self.open_folders(make)
+
+    def open_folders(self, make):
+        """Opens the store's own folders; without the right to write, it can be read."""
         opened = make_folder if make else open_folder
         try:
             self.blobs = opened("sha256", opened("blobs", self.root))
@@ -127,7 +131,8 @@ class Store:
     def locked(self):
         """Waits until no other run writes; then takes away what an interrupted one has left."""
         flags = os.O_RDWR | os.O_CREAT | os.O_NOFOLLOW | os.O_CLOEXEC
-        number = os.open("lock", flags, 0o600, dir_fd=self.root)
+        with faults_below(self.place):
+            number = os.open("lock", flags, 0o600, dir_fd=self.root)
         try:
             try:
                 fcntl.flock(number, fcntl.LOCK_EX | fcntl.LOCK_NB)
@@ -153,13 +158,14 @@ class Store:
         """A new file and its name in STORE/new, where it doesn't stay."""
         name = secrets.token_hex(8)
         flags = os.O_RDWR | os.O_CREAT | os.O_EXCL | os.O_NOFOLLOW | os.O_CLOEXEC
-        number = os.open(name, flags, 0o600, dir_fd=self.new)
-        try:
-            with os.fdopen(number, "w+b", 0) as file:
-                yield file, name
-        finally:
-            with contextlib.suppress(FileNotFoundError):
-                os.unlink(name, dir_fd=self.new)
+        with faults_below(self.place):
+            number = os.open(name, flags, 0o600, dir_fd=self.new)
+            try:
+                with os.fdopen(number, "w+b", 0) as file:
+                    yield file, name
+            finally:
+                with contextlib.suppress(FileNotFoundError):
+                    os.unlink(name, dir_fd=self.new)
 
     def keep(self, file, name, folder, new_name):
         """Gives a file that is whole its place."""

@@ -13,12 +13,13 @@ from checks.installed import faults, mounts, packages, pages, programs, stranger
 from checks.installed.roots import apart
 
 CHECKS = (
-    programs.named, pages.shown, pages.options, pages.shells, pages.words_of_fstab, packages.same_bytes, packages.uninstalled)
+    programs.named, programs.early, pages.shown, pages.options, pages.shells, pages.words_of_fstab, pages.faults,
+    packages.same_bytes, packages.uninstalled, packages.unbuilt)
 # those that mount
 MOUNTING = (
     programs.alone, programs.links, mounts.typed, mounts.by_fstab, mounts.words, mounts.colons, mounts.stored, mounts.faked, mounts.by_user,
     mounts.dead, mounts.units, traces.debug, traces.stats, traces.progress, faults.images, faults.not_permitted, faults.kinds,
-    faults.rules, faults.dashes, *strangers.CHECKS, packages.package, packages.archive)
+    faults.rules, faults.dashes, *strangers.CHECKS, packages.package, packages.beside, packages.archive)
 
 
 def main(program, wanted):

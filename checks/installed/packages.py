@@ -2,7 +2,10 @@
 import hashlib
 import os
 import re
+import subprocess
+import sys
 
+from checks import ROOT
 from checks.installed.mounts import STACK, fstab, hold_stack
 from checks.installed.programs import version
 from checks.installed.roots import LeftOut, hold, hold_in
@@ -10,7 +13,8 @@ from checks.installed.roots import LeftOut, hold, hold_in
 PATHS = ("bin/strata", "bin/strata-mount", "bin/strata-layers", "sbin/mount.strata", "sbin/mount.fuse.strata", "lib/strata/mount.py",
          "share/man/man1/strata.1", "share/man/man1/strata-mount.1", "share/man/man1/strata-layers.1",
          "share/man/man5/strata-attributes.5", "share/man/man8/mount.strata.8",
-         "share/man/man8/mount.fuse.strata.8")
+         "share/man/man8/mount.fuse.strata.8", "share/doc/strata/README.md", "share/doc/strata/USE.md",
+         "share/doc/strata/MOUNTING.md")
 
 
 def made(root, target, suffix):
@@ -37,7 +41,7 @@ def package(root):
     done = root.run("dpkg", "-i", path)
     hold("dpkg -i: %s" % done.err, 0, done.status)
     for name in PATHS:
-        name = "/usr/" + name + (".gz" if name.startswith("share/man") else "")
+        name = "/usr/" + name + (".gz" if name.startswith(("share/man", "share/doc")) else "")
         hold(name, True, os.path.exists(name))
     os.mkdir("/srv/tree")
     fstab(STACK + " /srv/tree strata ro,nofail 0 0")
@@ -49,6 +53,32 @@ def package(root):
     hold("dpkg -P: %s" % done.err, 0, done.status)
     hold("what is left", {"/etc/fstab"}, root.written() - before)
     return "installed, mounted by fstab, taken away without a trace; " + linted(root, path)
+
+
+def beside(root):
+    """make install and make uninstall leave the helpers of a package alone, and say so."""
+    root.needs("dpkg-deb", "strip")
+    subprocess.run(["dpkg-deb", "-x", root.top + made(root, "deb", ".deb"), root.top], check=True)
+    helpers = [root.top + "/sbin/" + name for name in ("mount.strata", "mount.fuse.strata")]
+    before = [(sum_of(path), os.path.islink(path)) for path in helpers]
+    for target in ("install", "uninstall"):
+        said = root.make(target, "PREFIX=/usr/local")
+        hold(target, "".join("%s: is not of this install, and stays as it is\n" % path for path in helpers), said)
+        hold("helpers", before, [(sum_of(path), os.path.islink(path)) for path in helpers])
+    root.enter()
+    os.mkdir("/mnt/beside")
+    root.good("mount", "-t", "strata", STACK, "/mnt/beside")
+    hold_stack(root, "/mnt/beside")
+    root.good("umount", "/mnt/beside")
+    return "the helpers of a package stay as they are, and mount"
+
+
+def unbuilt(root):
+    """What packs or installs says in a line that the program is not built."""
+    for words in (("install.py", "/none", "", "/usr", ""), ("deb.py", "/none", "/tmp"), ("dist.py", "/none", "/tmp")):
+        done = root.run(sys.executable, "-B", os.path.join(ROOT, "packaging", words[0]), *words[1:])
+        hold(words[0], (1, "", "/none is not there: make build, first\n"), tuple(done))
+    return "said by make install, deb and dist"
 
 
 def linted(root, path):

@@ -3,6 +3,7 @@ import os
 import re
 
 import mount_options
+from checks import ROOT
 from checks.installed.roots import Failed, LeftOut, hold, hold_in
 
 PAGES = ("man1/strata.1", "man1/strata-mount.1", "man1/strata-layers.1", "man8/mount.strata.8")
@@ -95,6 +96,25 @@ def words_of_fstab(root):
     missing = sorted(word for word in words if not re.search(r"(?<![\w-])%s(?![a-z])" % re.escape(word), text))
     hold("words that the page leaves out", [], missing)
     return "%d words of -o" % len(words)
+
+
+def fault_lines():
+    """The fault lines in the table of docs/USE.md, each as a pattern."""
+    with open(os.path.join(ROOT, "docs", "USE.md"), encoding="utf-8") as it:
+        table = it.read().partition("| Fault line ")[2]
+    for line in re.findall(r"`([^`]+)`", "\n".join(row.split(" | ")[0] for row in table.splitlines() if row.startswith("| `"))):
+        yield r"\S+".join(map(re.escape, re.split("<[^>]*>", line)))
+
+
+def faults(root):
+    """The page of the program tells of each fault line that it has."""
+    root.needs("man")
+    lines = list(fault_lines())
+    root.install()
+    env = dict(os.environ, MANWIDTH="1000", MANPAGER="cat")
+    text = root.good("man", "-E", "ascii", "-l", MAN + PAGES[0], env=env).partition("DIAGNOSTICS")[2]
+    hold("lines that the page leaves out", [], [line for line in lines if not re.search(line, text)])
+    return "%d fault lines" % len(lines)
 
 
 def bash(root):

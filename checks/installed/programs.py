@@ -1,6 +1,7 @@
 """The installed programs run by their names, whatever stands around them."""
 import os
 import re
+import signal
 
 from checks import ROOT
 from checks.installed.mounts import OTHER, STACK, hold_stack, places, servers, user
@@ -24,11 +25,22 @@ def named(root):
     hold("strata", "strata %s (logic %s)\n" % (number, LOGIC), root.good("strata", "--version"))
     for name in ("strata-mount", "strata-layers"):
         hold(name, "%s %s\n" % (name, number), root.good(name, "--version"))
+    hold("-V", "strata-layers %s\n" % number, root.good("strata-layers", "-V"))
     for name in ("mount.strata", "mount.fuse.strata"):
         hold(name, "mount.strata %s\n" % number, root.good("/sbin/" + name, "--version"))
-    for name in ("strata-mount", "mount.strata"):
+    for name in ("strata-mount", "strata-layers", "mount.strata"):
         hold_in(name, "usage: " + name, root.good(name, "--help"))
     return "strata, strata-mount, strata-layers and mount.strata say version %s" % number
+
+
+def early(root):
+    """SIGINT while a program still loads its modules ends it without a word."""
+    root.install()
+    with open("/usr/local/lib/strata/ends.py", "w", encoding="ascii") as out:
+        out.write("import signal\nsignal.raise_signal(signal.SIGINT)\n")
+    for name in ("strata-layers", "strata-mount", "mount.strata"):
+        hold(name, (-signal.SIGINT, "", ""), tuple(root.run(name, "--version")))
+    return "strata-layers, strata-mount and mount.strata end by it, without a word"
 
 
 def alone(root):

@@ -52,7 +52,7 @@ def ends(root):
         taken_away(root)
         hold("full, and no image", NOT_MOUNTED, root.run(HELPER, "/none", PLACE, stdout=full, stderr=full).status)
         done = root.run("strata-layers", "--version", stdout=full)
-        hold("full, of strata-layers", (1, "/dev/stdout: no space left on device\n"), (done.status, done.err))
+        hold("full, of strata-layers", (1, "strata-layers: /dev/stdout: no space left on device\n"), (done.status, done.err))
     held_refused(root, "SIGCHLD ignored", NOT_MOUNTED, "image 0 is /none: no such file", HELPER, "/none", PLACE,
                  preexec_fn=lambda: signal.signal(signal.SIGCHLD, signal.SIG_IGN))
     return "closed and full ends, and SIGCHLD ignored, change no status"

@@ -1,13 +1,12 @@
 """Tests of `tools/layers.py attributes FOLDER IMAGE`. A test is a function of a room."""
-import contextlib
-import io
+import errno
 import os
 import shutil
 import stat
 import subprocess
+from unittest import mock
 
-import layers
-from checks.layers.layer_room import LeftOut, expect
+from checks.layers.layer_room import LeftOut, expect, run_tool
 from checks.layers.shown_trees import read
 from checks.plain import plain, plain_attributes
 from checks.shared.images import MOST_FULL, Item, laid_out, write_spread
@@ -15,10 +14,7 @@ from checks.shared.images import MOST_FULL, Item, laid_out, write_spread
 
 def added(folder, image):
     """Runs the verb: its status, output and lines of standard error."""
-    out, lines = io.TextIOWrapper(io.BytesIO()), io.StringIO()
-    with contextlib.redirect_stdout(out), contextlib.redirect_stderr(lines):
-        status = layers.main(["attributes", folder, image])
-    return status, out.buffer.getvalue().decode(), lines.getvalue().splitlines()
+    return run_tool("attributes", folder, image)
 
 
 def make_folder(at):
@@ -119,9 +115,9 @@ def test_no_room(room):
     """Behind the largest image no trailer ends below 2^32, as strata asks of an image in its file."""
     folder, image = room.name(), room.name()
     os.mkdir(folder)
-    for name in ("big", "end"):
-        write(os.path.join(folder, name), b"")
-    write_spread(image)
+    for name, size in (("big", write_spread(image)), ("end", 31)):
+        with open(os.path.join(folder, name), "wb") as out:
+            out.truncate(size)
     line = "%s: with its attributes it would be larger than 4294967280 bytes" % image
     expect(added(folder, image) == (1, "", [line]), "the run")
     expect(os.stat(image).st_size == MOST_FULL, "the image has changed")
@@ -142,6 +138,9 @@ def test_refused(room):
     refuse("%s: no image of romfs" % image, b"\x1f\x8b" + bytes(100))
     refuse("%s: no image of romfs" % image, b"")
     refuse("%s: no image of romfs" % image, data[:100])
+    write(folder + "/d/closed/x", b"12")
+    refuse("%s: %s/d/closed/x: has 2 bytes, and 700 in the image" % (image, folder))
+    write(folder + "/d/closed/x", bytes(700))
     os.unlink(folder + "/d/run")
     refuse("%s/d/run: no such file or directory" % folder)
     os.mkdir(folder + "/d/run")
@@ -162,3 +161,26 @@ def test_lost(room):
         raise LeftOut("extended attributes: %s" % fault.strerror) from None
     told = added(folder, image)[2]
     expect(told == ["extended attributes are not kept: 1 entry", "  %s/d/run: user.x,user.y" % folder], "told %r" % told)
+
+
+def test_no_extended_attributes(room):
+    """A folder whose file system knows no extended attributes, as a mount of strata, has none; another fault is told."""
+    folder, image = room.name(), room.name()
+    make_folder(folder)
+    write(image, laid_out(b"v", items_of(folder)))
+    for number, wanted in ((errno.ENOTSUP, (0, [])), (errno.EACCES, (1, ["%s: permission denied" % folder]))):
+        fault = OSError(number, os.strerror(number), folder)
+        with mock.patch.object(os, "listxattr", side_effect=fault):
+            status, _, told = added(folder, image)
+        expect((status, told) == wanted, "status %d, told %r" % (status, told))
+
+
+def test_more_in_the_folder(room):
+    """What stands in the folder alone is told with its name."""
+    folder, image = room.name(), room.name()
+    make_folder(folder)
+    write(image, laid_out(b"v", items_of(folder)))
+    write(folder + "/d/new", b"")
+    status, _, told = added(folder, image)
+    expect((status, told) == (0, ["what stands in the folder alone is not in the image: 1 entry", "  %s/d/new" % folder]),
+           "status %d, told %r" % (status, told))

@@ -11,6 +11,7 @@ from checks.plain import plain_layers
 from checks.shared.layer_files import layout_of
 
 GNU, PAX, USTAR = tarfile.GNU_FORMAT, tarfile.PAX_FORMAT, tarfile.USTAR_FORMAT
+NAME = "tools/layers.py: "
 
 
 class LeftOut(Exception):
@@ -29,11 +30,8 @@ class Room:
         return os.path.join(self.path, str(self.count))
 
     def convert(self, word, folder):
-        """Runs the tool as `main` in this process: its status, output and lines of standard error."""
-        out, lines = io.TextIOWrapper(io.BytesIO()), io.StringIO()
-        with contextlib.redirect_stdout(out), contextlib.redirect_stderr(lines):
-            status = layers.main([word, folder])
-        return status, out.buffer.getvalue().decode(), lines.getvalue().splitlines()
+        """Makes images of a layout: the tool's status, output and lines of standard error."""
+        return run_tool(word, folder)
 
     def taken(self, word, archives):
         """Holds what the images of a layout show against the plain reading of its archives; the lines that were told."""
@@ -68,6 +66,19 @@ class Room:
 
     def refuse(self, line, *archives):
         self.refused(layout_of(self.name(), archives).path, line)
+
+
+def run_tool(*words):
+    """Runs the tool as `main` in this process: its status, output and lines of standard error; without the tool's name, which
+    a fault's line bears."""
+    out, errors = io.TextIOWrapper(io.BytesIO()), io.StringIO()
+    with contextlib.redirect_stdout(out), contextlib.redirect_stderr(errors):
+        status = layers.main(list(words))
+    told = errors.getvalue().splitlines()
+    if status == 1:
+        expect(told[-1].startswith(NAME), "told %r" % told)
+        told[-1] = told[-1][len(NAME):]
+    return status, out.buffer.getvalue().decode(), told
 
 
 def expect(condition, words):

@@ -73,10 +73,26 @@ def test_command(room):
     done = subprocess.run([tool, parts.path, folder], cwd=room.path, capture_output=True, check=False)
     line = "tools/mount.py 'it'\"'\"'s here/00.romfs' DIR\n"
     expect((done.returncode, done.stdout.decode(), done.stderr) == (0, line, b""), "ended with %r" % (done,))
-    for words in ([], ["--help"], [parts.path], [parts.path, "a", "b"]):
-        done = subprocess.run([tool, *words], cwd=room.path, capture_output=True, check=False)
+    for word in ("-h", "--help"):
+        done = subprocess.run([tool, word], cwd=room.path, capture_output=True, check=False)
         usage = b"usage: tools/layers.py LAYOUT[:TAG] FOLDER\n"
-        expect(done.returncode == 2 and done.stderr.startswith(usage), "ended with %r" % (done,))
+        expect((done.returncode, done.stderr) == (0, b"") and done.stdout.startswith(usage), "ended with %r" % (done,))
+
+
+def test_wrong_words(room):
+    """Wrong words are told in one line, which says what is wrong with them, with status 2."""
+    place = layout_of(room.name(), [archive([file("a", b"1")])]).path
+    verbs = "no such folder, and no verb; the verbs are convert, pull, images, verify, remove, prune, config, attributes"
+    for line, *words in (
+            ("a verb is missing, or LAYOUT[:TAG] FOLDER",),
+            ("FOLDER is missing, where the images of %s go" % place, place),
+            ("b: a word too many behind LAYOUT[:TAG] FOLDER", place, "a", "b"),
+            ("--store: no verb stands before it", "--store", "X", "images"),
+            ("pul: " + verbs, "pul", "oci:x"),
+            ("convrt: " + verbs, "convrt", "a", "b")):
+        done = subprocess.run([TOOLS + "/layers.py", *words], cwd=room.path, capture_output=True, check=False, text=True)
+        wanted = (2, "", "tools/layers.py: %s; --help tells more\n" % line)
+        expect((done.returncode, done.stdout, done.stderr) == wanted, "ended with %r" % (done,))
 
 
 def test_demo(room):

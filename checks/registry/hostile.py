@@ -10,7 +10,7 @@ import time
 
 from checks import TOOLS
 from checks.registry import made
-from checks.registry.rooms import LAYERS, Failed, LeftOut, hold, needs, snapshot
+from checks.registry.rooms import LAYERS, NAME, Failed, LeftOut, hold, needs, snapshot
 from checks.registry.stores import mounted_layers
 
 
@@ -246,6 +246,8 @@ mount -t tmpfs -o size=400k tmpfs "$1" || exit 99
 "$2" -B "$3" pull --store "$1/store" "oci:$4" small:1 || exit 98
 "$2" -B "$3" pull --store "$1/store" "oci:$5" large:1
 echo $? >&2
+"$2" -B "$3" convert --store "$1/store" "$5" "$6.layout" >&2
+echo $? >&2
 "$2" -B "$3" convert --store "$6" "$5" "$1/layout" >&2
 echo $? >&2
 find "$1/store/new" -type f
@@ -265,8 +267,8 @@ def check_full_disk(room):
     if done.returncode == 99 or "unshare" in done.stderr:
         raise LeftOut("no namespace for a full disk: %s" % done.stderr.strip())
     lines = done.stderr.splitlines()
-    hold("told", ["1", "1"], [it for it in lines if len(it) == 1])
-    hold("why", 2, sum("no space left on device" in it for it in lines))
+    why = NAME + "%s/%s: no space left on device"
+    hold("told", [why % (full, "store"), "1", why % (full, "store"), "1", why % (full, "layout"), "1"], lines)
     told = done.stdout.splitlines()
     hold("what stays", (0, 2, True), (done.returncode, len(told), told[-1].startswith("small:1 1 ")))
 

@@ -10,7 +10,7 @@ import time
 from checks.registry import made
 from checks.registry.hostile import flip, hold_after_end, large_layers
 from checks.registry.loopback import Registry, needs_root, push
-from checks.registry.rooms import LAYERS, MOUNT, Failed, LeftOut, hold, needs
+from checks.registry.rooms import LAYERS, MOUNT, NAME, Failed, LeftOut, hold, needs
 
 HERE = os.path.dirname(os.path.abspath(__file__))
 OTHER = """
@@ -101,7 +101,7 @@ def check_broken_registry(room):
     flip(registry.path_of(read.json(read.top)["layers"][2]["digest"]))
     for name in ("app:1", "app:2", "none"):
         done = room.tried("pull", "docker://%s/%s" % (registry.host, name))
-        hold(name, (1, True, 1), (done.returncode, done.stderr.startswith("skopeo: "), done.stderr.count("\n")))
+        hold(name, (1, True, 1), (done.returncode, done.stderr.startswith(NAME + "skopeo: "), done.stderr.count("\n")))
     hold("images", "", room.layers("images"))
     hold("verified", "", room.layers("verify"))
     hold("left", [], os.listdir(os.path.join(room.store, "new")))
@@ -180,5 +180,28 @@ def check_built_by_buildah(room):
          [it for it in room.layers("config", "built").splitlines() if not it.startswith("env ")])
 
 
+FULL = """
+mount -t tmpfs -o size=400k tmpfs "$1" || exit 99
+"$2" -B "$3" pull --store "$1/store" "$4" app:1
+status=$?; umount "$1"; exit $status
+"""
+
+
+def check_full_store(room):
+    """Where the disk of the store is full while skopeo writes there, the line names the store."""
+    needs("unshare", "mount", "umount")
+    needs_root()
+    registry, full = Registry(room), room.name()
+    os.mkdir(full)
+    push(room, registry, made.layout(room.name(), large_layers(4)).path + ":1", "app:1")
+    done = room.run("unshare", "-m", "sh", "-c", FULL, "sh", full, sys.executable, LAYERS, "docker://%s/app:1" % registry.host)
+    if done.returncode == 99:
+        raise LeftOut("no namespace for a full disk: %s" % done.stderr.strip())
+    line, = done.stderr.splitlines()
+    hold("status", 1, done.returncode)
+    hold("told: %s" % line, (True, False), (full + "/store/" in line, " ./" in line))
+    hold("why", True, line.endswith(": no space left on device"))
+
+
 CHECKS = [check_against_umoci, check_back_unchanged, check_only_what_is_missing, check_broken_registry,
-          check_platforms_of_a_registry, check_killed_while_it_fetches, check_built_by_buildah]
+          check_platforms_of_a_registry, check_killed_while_it_fetches, check_full_store, check_built_by_buildah]

@@ -14,6 +14,8 @@ from checks import TOOLS
 
 LAYERS = os.path.join(TOOLS, "layers.py")
 MOUNT = os.path.join(TOOLS, "mount.py")
+# a fault's line begins so
+NAME = "tools/layers.py: "
 # what hangs is ended after so many seconds
 SECONDS = 300
 
@@ -103,9 +105,9 @@ class Room:
     def refused(self, line, verb, *words, store=None):
         """The tool must end with this line alone, where `..` stands for anything, and status 1."""
         done = self.tried(verb, *words, store=store)
-        begin, dots, end = line.partition("..")
+        begin, dots, end = (NAME + line).partition("..")
         told = done.stderr.rstrip("\n")
-        is_said = told.startswith(begin) and told.endswith(end) if dots else told == line
+        is_said = told.startswith(begin) and told.endswith(end) if dots else told == begin
         if done.returncode != 1 or not is_said or "\n" in told:
             raise Failed("%s %s: status %d, told %r, and %r is wanted" % (verb, words, done.returncode,
                                                                           done.stderr[-600:], line))

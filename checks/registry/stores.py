@@ -2,6 +2,7 @@
 import gzip
 import json
 import os
+import re
 import shlex
 import shutil
 import stat
@@ -10,7 +11,7 @@ import subprocess
 from checks import ROOT
 from checks.plain import plain
 from checks.registry import made
-from checks.registry.rooms import LAYERS, LeftOut, hold, shown_by
+from checks.registry.rooms import LAYERS, NAME, LeftOut, hold, shown_by
 
 
 def mounted_layers(room, name, store=None):
@@ -103,9 +104,12 @@ def check_platforms(room):
     read = made.Read(one, "1")
     wanted, = read.json(read.top)["layers"]
     hold("the image of arm64", both.json(found[1])["layers"], [wanted])
-    for platform, line in (("linux/vax", "blob ..: nothing for linux/vax; there is linux/amd64, linux/arm64"),
-                           ("vax", "vax: no platform; linux/ARCHITECTURE[/VARIANT] is wanted")):
-        room.refused(line, "convert", "--platform", platform, source.path, room.name())
+    room.refused("blob ..: nothing for linux/vax; there is linux/amd64, linux/arm64", "convert", "--platform", "linux/vax",
+                 source.path, room.name())
+    for verb, words in (("convert", (source.path, room.name())), ("pull", ("oci:" + source.path,))):
+        done = room.tried(verb, "--platform", "windows", *words)
+        hold(verb, (2, "", "tools/layers.py %s: argument --platform: windows: no platform; linux/ARCHITECTURE[/VARIANT] is wanted; "
+                    "--help tells more\n" % verb), done)
 
 
 def check_pull(room):
@@ -228,6 +232,18 @@ def check_config(room):
     words = shlex.split(room.layers("config", "--podman", "a"))
     hold("podman", ["--entrypoint", '["/bin/say", "it\'s", "a b"]', "--workdir", "/var", "--env", "PATH=/bin",
                     "--env", "WORD=x y", "--env", "HOME=", "--user", "7:8"], words)
+    hold_user_by_name(room)
+
+
+def hold_user_by_name(room):
+    """Of a user who is no number bwrap is told nothing, and who calls the tool is told that."""
+    source = made.Layout(room.name(), {**made.RUN, "User": "www-data"})
+    source.index(made.tagged(source.image(made.LAYERS), "1"))
+    room.layers("pull", "oci:" + source.path, "named")
+    line = NAME + "named: its user www-data is no number: bwrap runs it as the user who calls bwrap\n"
+    for form, told in (("--bwrap", line), ("--podman", "")):
+        done = room.tried("config", form, "named")
+        hold(form, (0, told, form == "--podman"), (done.returncode, done.stderr, "www-data" in shlex.split(done.stdout)))
 
 
 def check_lost(room):
@@ -256,6 +272,27 @@ def check_other_forms(room):
                  "convert", where, room.name())
 
 
+def printed_examples():
+    """The commands that the page shows with what they print."""
+    with open(os.path.join(ROOT, "docs", "man", "strata-layers.1"), encoding="utf-8") as file:
+        part = file.read().partition(".SH EXAMPLES")[2].replace("\\-", "-")
+    for command, printed in re.findall(r"^\$ strata-layers (.*\n)((?:[^$.\n].*\n)*)", part, re.M):
+        yield shlex.split(command), printed
+
+
+def check_examples_of_the_page(room):
+    """The examples of the page print what they say, but for a digest; all verbs of the store are among them."""
+    source = made.Layout(os.path.join(room.path, "layout"),
+                         {"Entrypoint": ["/bin/say"], "Cmd": ["hello"], "Env": ["PATH=/bin"], "User": "7:8"})
+    source.index(made.tagged(source.image(made.LAYERS[:3]), "1"))
+    verbs = set()
+    for (verb, *words), printed in printed_examples():
+        verbs.add(verb)
+        got = room.layers(verb, *words)
+        hold(verb, *(re.sub("sha256:[0-9a-f.]+", "sha256:..", it) for it in (printed, got)))
+    hold("verbs", {"convert", "pull", "images", "verify", "config", "remove", "prune"}, verbs)
+
+
 def check_version(room):
     source = os.path.join(ROOT, "crates", "command_line", "src", "version.rt")
     if not os.path.exists(source):
@@ -266,4 +303,4 @@ def check_version(room):
 
 
 CHECKS = [check_convert, check_compress, check_platforms, check_pull, check_shared, check_rows_of_the_layers_below, check_names,
-          check_config, check_lost, check_other_forms, check_version]
+          check_config, check_lost, check_other_forms, check_examples_of_the_page, check_version]
