@@ -1,8 +1,10 @@
-"""Mounts whose server has ended: what stands at a folder, and how it is taken away."""
+"""What is mounted at a folder; mounts whose server has ended, and how they are taken away."""
 import errno
 import os
 import re
 import shlex
+
+from refused import one_line
 
 KIND = "fuse.strata"
 # what a folder answers whose mount has lost its server
@@ -37,11 +39,22 @@ def is_dead(folder):
         return fault.errno in GONE
 
 
+def away(place):
+    """What is said of how a mount is taken away."""
+    command = ["umount"] if os.geteuid() == 0 else ["fusermount3", "-u"]
+    return "`%s` takes it away" % " ".join([*command, shlex.quote(place)])
+
+
+def standing(folder):
+    """The lines that say of a mount of strata at a folder that it stands there: one or none."""
+    if mount_over(folder) == (folder, KIND):
+        yield "%s: a mount stands here already: %s" % (one_line(folder), away(folder))
+
+
 def told(folder, may_replace):
     """What is said of a dead mount."""
     place, kind = mount_over(folder)
-    command = ["umount"] if os.geteuid() == 0 else ["fusermount3", "-u"]
-    taken_away = "`%s` takes it away" % " ".join([*command, shlex.quote(place)])
+    taken_away = away(place)
     if may_replace and place == folder and kind == KIND:
         taken_away += ", and so does --replace"
     return "a dead mount stands here, whose server has ended (%s): %s" % (kind, taken_away)

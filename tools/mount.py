@@ -24,6 +24,7 @@ import subprocess
 import sys
 import threading
 
+import dead_mounts
 import ends
 from mount_options import CLEARS, SETS, Options, Wrong
 from refused import one_line
@@ -39,6 +40,11 @@ INTERRUPTED = 130
 RELAYED_READ = "max_read=131072"
 # SIGHUP too, but not under nohup
 STOPPING = [signal.SIGINT, signal.SIGTERM] + [signal.SIGHUP] * (signal.getsignal(signal.SIGHUP) != signal.SIG_IGN)
+# what strata opens when it begins, besides its program and its libraries: the loader and its lists, and the standard ends;
+# python looks for open files in the last folder
+OPENED = ("/lib64/ld-linux-x86-64.so.2", "/etc/ld.so.preload", "/etc/ld.so.cache", "/dev/null", "/proc/self/fd")
+# as many links as the kernel follows on the way to a file
+LINKS_MOST = 40
 libc = ctypes.CDLL(None, use_errno=True)
 
 
@@ -94,7 +100,7 @@ def mounted_by_helper(plan):
     """The same by fusermount3, which sends the open device through a socket."""
     helper = shutil.which("fusermount3")
     if not helper:
-        raise OSError(0, "only root may mount, and there is no fusermount3", plan.folder)
+        raise OSError(0, "only root may mount, and there is no fusermount3: install fuse3", plan.folder)
     source = plan.source.replace("\\", "\\\\").replace(",", "\\,")
     words = ",".join([*plan.words, "fsname=" + source, "subtype=strata"])
     ours, theirs = socket.socketpair()
@@ -103,7 +109,10 @@ def mounted_by_helper(plan):
         done = subprocess.run([helper, "-o", words, "--", plan.folder], stdin=subprocess.DEVNULL, pass_fds=[number],
                               env={**os.environ, "_FUSE_COMMFD": str(number)})
         if done.returncode != 0:
-            sys.exit(1)  # it has said why
+            # it has said why, but not of a mount that stands there
+            for line in dead_mounts.standing(plan.folder):
+                plan.say(line)
+            sys.exit(1)
         found = socket.recv_fds(ours, 1, 1)[1]
         if not found:
             raise OSError(0, "fusermount3 has sent no open device", plan.folder)
@@ -181,11 +190,19 @@ def status_of(server, errors, plan):
     ends.write(text)
     if status > 0:
         import mount_faults
-        for line in mount_faults.explained(text, plan.images):
+        for line in mount_faults.explained(text, plan.images, plan.store):
             plan.say(line)
     if status < 0:
         plan.say("strata was ended by signal %d" % -status)
     return status if status >= 0 else 128 - status
+
+
+def status_of_none(server, errors, plan):
+    """The status where a server has ended before the mount answered: none of success."""
+    status = status_of(server, errors, plan)
+    if status == 0:
+        plan.say("%s has ended before the mount answered" % one_line(plan.program))
+    return status or 1
 
 
 def hear(handler):
@@ -199,10 +216,10 @@ def unblock():
 
 def run(plan):
     """Mounts and serves; the status to end with."""
-    hear(signal.default_int_handler)
     # strata must not hold this script's standard error open in the background, and no folder is needed for what it says
     errors = os.fdopen(os.memfd_create("errors"), "w+b")
     signal.pthread_sigmask(signal.SIG_BLOCK, STOPPING)
+    hear(signal.default_int_handler)
     device = mounted(plan)
     try:
         server = served(plan, device, errors)
@@ -210,7 +227,9 @@ def run(plan):
         if plan.stats is not None:
             signal.signal(signal.SIGUSR1, lambda *_: server.send_signal(signal.SIGUSR1))
         is_there = (plan.background or sys.stderr.isatty()) and answers_first(plan, server)
-        return 0 if plan.background and is_there else status_of(server, errors, plan)
+        if not plan.background:
+            return status_of(server, errors, plan)
+        return 0 if is_there else status_of_none(server, errors, plan)
     except KeyboardInterrupt:
         hear(signal.SIG_IGN)
         take_away(plan.folder)
@@ -241,9 +260,8 @@ def hold_folder(plan):
     try:
         os.statvfs(os.path.join(plan.folder, ""))
     except OSError as fault:
-        if fault.errno not in (errno.ENOTCONN, errno.ECONNABORTED):
+        if fault.errno not in dead_mounts.GONE:
             raise
-        import dead_mounts
         folder = os.path.realpath(plan.folder)
         if not plan.replace or not dead_mounts.replace(folder, take_away):
             raise OSError(0, dead_mounts.told(folder, plan.may_replace), plan.folder) from None
@@ -266,8 +284,29 @@ def hold_names(plan):
             raise OSError(0, "no name in UTF-8, and strata takes no other; a link with another name will do", image) from None
 
 
+def way_to(path):
+    """What the kernel looks at on the way to a file, links among it, each without links above it."""
+    place, names, links = "/", os.path.abspath(path).split("/"), 0
+    while names:
+        name = names.pop(0)
+        if name == "..":
+            place = os.path.dirname(place)
+        elif name not in ("", "."):
+            found = os.path.join(place, name)
+            yield found
+            if links < LINKS_MOST and os.path.islink(found):
+                links += 1
+                target = os.readlink(found)
+                names = target.split("/") + names
+                place = "/" if target.startswith("/") else place
+            else:
+                place = found
+
+
 def lies_in(path, folder):
-    return os.path.realpath(path).startswith(os.path.join(os.path.realpath(folder), ""))
+    """Whether the way to a file leads through a folder."""
+    above = os.path.join(os.path.realpath(folder), "")
+    return any(found.startswith(above) for found in way_to(path))
 
 
 def libraries():
@@ -285,7 +324,7 @@ def hold_images(plan):
     for image in plan.images:
         if lies_in(image, plan.folder):
             raise OSError(0, "this image lies in the folder that it would be mounted on", image)
-    for path in (plan.program, __file__, *sorted(libraries())):
+    for path in (plan.program, __file__, *sorted(libraries()), *OPENED):
         if lies_in(path, plan.folder):
             raise OSError(0, "strata needs this file, which lies in the folder that it would mount on", path)
 
@@ -373,6 +412,8 @@ def plan_of(words, name):
 
 
 def main(words, name):
+    # until it mounts there is nothing to take away
+    signal.signal(signal.SIGINT, signal.SIG_DFL)
     ends.begin()
     plan = plan_of(words, name)
     if plan.version:

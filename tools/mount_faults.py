@@ -4,6 +4,7 @@
 """
 import os
 import re
+import resource
 import shlex
 import struct
 import zlib
@@ -12,6 +13,8 @@ import dead_mounts
 import image_files
 import tars
 from refused import Refused, shown
+from store import default_place
+from store_images import split_image
 
 UNREADABLE = re.compile(r"image (\d+): cannot be read")
 BROKEN = re.compile(r"layer (\d+) at [0-9a-f]{8,}: (.*)")
@@ -19,6 +22,8 @@ TOO_MANY = re.compile(r"layers: (\d+), allowed 1 to 128")
 ROMFS = b"-rom1fs-"
 FRONT = 36 << 10
 TAR_MOST = 10000
+# so many files strata may have open besides its images
+FILES_BESIDE = 16
 MAKE = "`genromfs -d FOLDER -f IMAGE` makes an image of a folder"
 BROKEN_IMAGE = "the file was damaged, or what made it is at fault: make it anew"
 # what each rule means, in the order in which rules are named
@@ -64,17 +69,17 @@ KINDS = (
 )
 
 
-def explained(text, images):
-    """The lines that stand behind strata's own."""
-    return [line for said in text.splitlines() for line in explained_line(said, images)]
+def explained(text, images, store):
+    """The lines that stand behind strata's own. A word that is no file was sought in the store at a place, or its usual one."""
+    return [line for said in text.splitlines() for line in explained_line(said, images, store)]
 
 
-def explained_line(said, images):
+def explained_line(said, images, store):
     found = UNREADABLE.fullmatch(said) or BROKEN.fullmatch(said)
     if found and int(found[1]) < len(images):
         number, rule = int(found[1]), found[2] if found.re is BROKEN else None
         path = images[number]
-        why = broken(path, rule) if rule else unreadable(path)
+        why = broken(path, rule) if rule else unreadable(path, len(images), store)
         return ["%s %d is %s: %s" % ("layer" if rule else "image", number, shown(os.fsencode(path)), why)]
     if TOO_MANY.fullmatch(said):
         return ["%d images were named, and 128 can be stacked: unpack some that lie on one another into one folder; %s" % (
@@ -85,20 +90,41 @@ def explained_line(said, images):
     return []
 
 
-def unreadable(path):
-    """Why a file can't be read."""
+def unreadable(path, count, store):
+    """Why a file can't be read, which is one of so many images."""
     try:
         kind = image_files.read_once(path)
         if kind is not None:
             return "it is %s, and no file" % kind
         front_of(path, 1)
-        return "it can be read now"
+        return not_open(count)
+    except FileNotFoundError:
+        sought = ", and no such image in " + shown(store or default_place())
+        return "no such file" + (sought if may_be_stored(path) else " or directory")
     except IsADirectoryError:
         return "it is a folder; " + MAKE
     except OSError as fault:
         if fault.errno in dead_mounts.GONE:
             return dead_mounts.told(os.path.realpath(path), False)
         return fault.strerror.lower()
+
+
+def not_open(count):
+    """Why strata, with so many images, could not open what can be opened here."""
+    most = resource.getrlimit(resource.RLIMIT_NOFILE)[0]
+    if 0 <= most < count + FILES_BESIDE:
+        return "too many open files: strata keeps one open for each of %d images, and a few more, and `ulimit -n` allows %d" % (
+            count, most)
+    return "it can be read now"
+
+
+def may_be_stored(path):
+    """Whether a word can be the name of an image of a store."""
+    try:
+        split_image(path)
+        return True
+    except Refused:
+        return False
 
 
 def front_of(path, size):

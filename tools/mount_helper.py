@@ -11,6 +11,7 @@ nothing was mounted.
 """
 import argparse
 import os
+import signal
 import sys
 
 import ends
@@ -60,8 +61,8 @@ def parser_of(name):
     parser = Parser(prog=name, usage="%(prog)s LOWER[:UPPER].. DIR [-sfnv] [-o OPTIONS] [-t TYPE]",
                     description="Mounts romfs images for mount(8).")
     parser.add_argument("-s", dest="sloppy", action="store_true", help="pass over options that are not known")
-    parser.add_argument("-f", dest="fake", action="store_true", help="look at all, and mount nothing")
-    parser.add_argument("-n", action="store_true", help="says nothing: no table of mounts is written")
+    parser.add_argument("-f", dest="fake", action="store_true", help="look whether the images are there, and mount nothing")
+    parser.add_argument("-n", action="store_true", help="has no effect: no table of mounts is written")
     parser.add_argument("-v", dest="verbose", action="store_true", help="say what is mounted")
     parser.add_argument("-o", metavar="OPTIONS", action="append", default=[], help="strict, workers=N, .., and fstab's own words")
     parser.add_argument("-t", metavar="TYPE", help="strata or fuse.strata")
@@ -118,6 +119,8 @@ def mounted(plan):
 
 
 def main(words, name="mount.strata"):
+    # until it mounts there is nothing to take away
+    signal.signal(signal.SIGINT, lambda *_: os._exit(INTERRUPTED))
     ends.begin()
     os.environ.clear()
     os.environ["PATH"] = PATH

@@ -37,6 +37,8 @@ class Options:
 
     def add(self, word):
         name, equals, value = word.partition("=")
+        if name == "remount":
+            raise Wrong("a mount of strata can't be changed (remount): take it away, and mount anew")
         if name in OWN:
             raise Wrong("not allowed: %s" % ", ".join(OWN))
         if name in STRATA:

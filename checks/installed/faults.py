@@ -49,13 +49,21 @@ def images(root):
         hold("of " + name, (status, lines), refused(root, "/srv/" + name))
         done = root.run("mount", "-t", "strata", "/srv/lower.romfs:/srv/" + name, "/mnt")
         hold("by mount, of " + name, (32, lines.replace("strata-mount", "mount.strata")), (done.status, done.err))
+    no_image = "no such file, and no such image in /var/lib/strata"
+    hold("no file and no image", (1, "image 1: cannot be read\nstrata-mount: image 1 is none:1: %s\n" % no_image),
+         refused(root, "none:1"))
+    done = root.run("prlimit", "--nofile=20", "strata-mount", *["/srv/lower.romfs"] * 30, "/mnt")
+    hold("the status of many files", 1, done.status)
+    hold_in("many files", "too many open files: strata keeps one open for each of 30 images, and a few more, and `ulimit -n` "
+                          "allows 20\n", done.err)
     done = root.run("strata-mount", *["/srv/lower.romfs"] * 129, "/mnt")
     hold("129 images", (3, "layers: 129, allowed 1 to 128"), (done.status, done.err.splitlines()[0]))
     hold_in("129 images", "strata-mount: 129 images were named, and 128 can be stacked", done.err)
     done = root.run("strata-mount", "/srv/lower.romfs", "/srv")
     hold("an image below the folder", (1, "strata-mount: /srv/lower.romfs: this image lies in the folder that it would be mounted "
                                           "on\n"), (done.status, done.err))
-    return "missing, a folder, cut off, empty, 129 images, one below the folder; by strata-mount and by mount"
+    return ("missing, no image of the store, a folder, cut off, empty, too many open, 129 images, one below the folder; by "
+            "strata-mount and by mount")
 
 
 def not_permitted(root):

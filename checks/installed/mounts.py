@@ -11,11 +11,12 @@ from checks.installed.roots import LeftOut, hold, hold_in, mount
 STACK = "/srv/lower.romfs:/srv/upper.romfs"
 MOUNTING = os.path.join(ROOT, "docs", "MOUNTING.md")
 DEVICE = "/dev/fuse"
-NOT_MOUNTED, WRONG_WORDS = 32, 1
+NOT_MOUNTED, WRONG_WORDS, SOME_MOUNTED = 32, 1, 64
 OTHER = 65534
 # every word of fstab(5) and mount(8) that says when, by whom, or how a file system of the usual kind is mounted
 FSTAB_WORDS = ("defaults,auto,nouser,nofail,_netdev,nonempty,async,relatime,nodiratime,lazytime,x-systemd.automount,"
-               "x-systemd.requires=srv.mount,X-mount.mkdir,comment=of a tree,strict,whole,workers=2,noexec,nosuid,nodev,allow_other")
+               "x-systemd.requires=srv.mount,x-systemd.requires-mounts-for=/data2,X-mount.mkdir,comment=of a tree,strict,whole,"
+               "workers=2,noexec,nosuid,nodev,allow_other")
 
 
 def tried(root):
@@ -61,6 +62,13 @@ def hold_stack(root, place):
     hold("a file that is whited out", 2, root.run("ls", place + "/etc/motd").status)
 
 
+def kill_server():
+    """Kills the one process of strata, and leaves a dead mount."""
+    server, = servers()
+    os.kill(server, signal.SIGKILL)
+    settle("the server is gone", [], servers)
+
+
 def fstab(*lines):
     with open("/etc/fstab", "w", encoding="ascii") as out:
         out.write("".join(line + "\n" for line in lines))
@@ -98,7 +106,15 @@ def by_fstab(root):
     root.good("umount", "/srv/other")
     root.good("umount", "-a", "-t", "fuse.strata")
     hold("mounts", [], places())
-    return "mount -a twice mounts once; mount DIR; umount -a"
+    for lines, status in (([], NOT_MOUNTED), ([STACK + " /srv/tree strata ro 0 0"], SOME_MOUNTED)):
+        fstab("/srv/none.romfs /srv/other strata ro,nofail 0 0", *lines)
+        done = root.run("mount", "-a")
+        hold("mount -a without an image", (status, 2, len(lines)), (done.status, done.err.count("\n"), len(places())))
+    fstab(STACK + " /srv/tree strata ro 0 0")
+    kill_server()
+    root.good("mount", "-a")
+    hold("mounts over a dead one", 1, len(places()))
+    return "mount -a twice mounts once; mount DIR; umount -a; an image that is missing, a dead mount"
 
 
 def words(root):
@@ -110,6 +126,9 @@ def words(root):
     shown = root.good("findmnt", "-rno", "OPTIONS", "/srv/made").strip().split(",")
     hold("options of the mount", {"ro", "noexec", "nosuid", "nodev", "allow_other"},
          {"ro", "noexec", "nosuid", "nodev", "allow_other"} & set(shown))
+    done = root.run("mount", "-o", "remount,exec", "/srv/made")
+    hold("remount", (WRONG_WORDS, "mount.strata: a mount of strata can't be changed (remount): take it away, and mount anew\n"),
+         (done.status, done.err))
     root.good("umount", "/srv/made")
     for said in ("nonsense", "ro,nonsense=3", "defaults,nonsense"):
         done = root.run("mount", "-t", "strata", STACK, "/srv/made", "-o", said)
@@ -216,10 +235,19 @@ def by_user(root):
     fstab(STACK + " /mnt/user strata user,noauto,ro 0 0")
     root.good(*other, "mount", "/mnt/user")
     hold("mounts", [("/mnt/user", STACK)], places())
+    hold_in("options", "noexec", root.good("findmnt", "-rno", "OPTIONS", "/mnt/user"))
     hold("a look", "beacon\n", root.good(*other, "cat", "/mnt/user/etc/hostname"))
     hold("root's look", 1, root.run("cat", "/mnt/user/etc/hostname").status)
+    done = root.run(*other, "strata-mount", "--background", "/srv/lower.romfs", "/mnt/user")
+    hold("the status of a second mount", 1, done.status)
+    hold_in("a second mount", "strata-mount: /mnt/user: a mount stands here already: `fusermount3 -u /mnt/user` takes it away\n",
+            done.err)
     root.good(*other, "umount", "/mnt/user")
     hold("mounts", [], places())
+    os.remove(shutil.which("fusermount3"))
+    done = root.run(*other, "strata-mount", "/srv/lower.romfs", "/mnt/user")
+    hold("without fusermount3", (1, "strata-mount: /mnt/user: only root may mount, and there is no fusermount3: install fuse3\n"),
+         (done.status, done.err))
     return "mount DIR and umount DIR by a user whom fstab lets"
 
 
@@ -227,9 +255,7 @@ def killed(root, place, *front):
     """A dead mount of the demo's stack, which the kernel still knows the root of."""
     root.good(*front, "/srv/lower.romfs", "/srv/upper.romfs", place)
     os.stat(place)
-    server, = servers()
-    os.kill(server, signal.SIGKILL)
-    settle("the server is gone", [], servers)
+    kill_server()
 
 
 def dead(root):

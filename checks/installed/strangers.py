@@ -149,6 +149,25 @@ def no_files(root):
     return "a pipe, a socket, devices, a file of /proc, a loop, an archive that says 8 GiB"
 
 
+def has_begun(process):
+    """Whether strata-mount has read its modules, of which ctypes is one, and has begun, so that SIGINT ends it at once."""
+    with open("/proc/%d/maps" % process, encoding="utf-8") as it:
+        has_modules = "_ctypes" in it.read()
+    with open("/proc/%d/status" % process, encoding="ascii") as it:
+        caught, = (int(line.split()[1], 16) for line in it if line.startswith("SigCgt:"))
+    return has_modules and not caught >> signal.SIGINT - 1 & 1
+
+
+def interrupted_early(root):
+    """SIGINT before anything is mounted ends strata-mount without a word."""
+    os.mkfifo("/srv/counts")
+    run = subprocess.Popen(("strata-mount", "--stats", "/srv/counts", LOWER, PLACE), stdin=subprocess.DEVNULL,
+                           stderr=subprocess.PIPE)
+    settle("the run has begun", True, lambda: has_begun(run.pid))
+    run.send_signal(signal.SIGINT)
+    hold("interrupted early", (b"", -signal.SIGINT, []), (run.communicate(timeout=SECONDS)[1], run.returncode, places()))
+
+
 def interrupted(root):
     """Who waits for a file that doesn't answer is ended by SIGTERM and SIGINT, and doesn't say that it is mounted."""
     begin(root)
@@ -160,17 +179,23 @@ def interrupted(root):
             run.send_signal(number)
             hold("%s, by signal %d" % (words[0], number), (wanted, []), (run.wait(SECONDS), places()))
             settle("no server is left", [], servers)
-    return "an image that never comes: 8 by mount.strata, 130 by strata-mount"
+    interrupted_early(root)
+    return "an image that never comes: 8 by mount.strata, 130 by strata-mount; before the mount nothing is said"
 
 
 def over_itself(root):
     """strata is not mounted over what it needs: it would wait for itself."""
     begin(root)
     for place, needed in (("/usr/local", "/usr/local/bin/strata"), ("/usr/local/bin", "/usr/local/bin/strata"),
-                          ("/usr/local/lib/strata", "/usr/local/lib/strata/mount.py"), ("/usr", "/usr/")):
+                          ("/usr/local/lib/strata", "/usr/local/lib/strata/mount.py"), ("/usr", "/usr/"),
+                          ("/etc", "/etc/ld.so."), ("/dev", "/dev/null"), ("/proc", "/proc/self/fd"),
+                          ("/lib64", "/lib64/ld-linux-x86-64.so.2")):
         held_refused(root, place, NOT_MOUNTED, "%s" % needed, HELPER, LOWER, place)
         held_refused(root, place, NOT_MOUNTED, "strata needs this file, which lies in the folder", HELPER, LOWER, place)
-    return "a mount over strata's own program, modules or libraries is refused"
+    link = PLACE + "/link"
+    os.symlink(LOWER, link)
+    held_refused(root, "a link to an image", NOT_MOUNTED, link + ": this image lies in the folder", HELPER, link, PLACE)
+    return "a mount over strata's program, modules or libraries, /etc, /dev, /proc, or over a link to its image is refused"
 
 
 CHECKS = (ends, surroundings, odd_words, names, no_files, interrupted, over_itself)

@@ -186,10 +186,13 @@ def refused(room):
         ([image, image], 1, "mount.py: %s/: Not a directory\n" % image),
         (["--strata", missing, image, at], 1, "mount.py: %s: no such program\n" % missing),
         (["-o", "nonsense", image, at], 1, "mount.py: %s: mount: Invalid argument\n" % at),
-        (["-o", "fd=3", image, at], 2, None), ([at], 2, None), (["--nonsense", image, at], 2, None)]
+        (["-o", "fd=3", image, at], 2, None), (["-o", "remount", image, at], 2, None), ([at], 2, None),
+        (["--nonsense", image, at], 2, None)]
     for background in ([], ["--background"]):
         for words, status, line in wanted:
             hold_refused(room, background + words, status, line)
+    hold_refused(room, ["--background", "--strata", "/bin/true", image, at], 1,
+                 "mount.py: /bin/true has ended before the mount answered\n")
     if room.is_root:
         hide_device()
         hold_refused(room, [image, at], 1, "mount.py: %s: No such file or directory\n" % DEVICE)
