@@ -263,7 +263,7 @@ def test_other_linux(room):
     image, bare = with_and_without(room)
     place = room.name()
     os.mkdir(place)
-    hold_halves(other_kernel.run_in(place, ("mtd.ko", "loop.ko", "romfs.ko"), {"with": image, "without": bare}, OTHER_LINUX))
+    hold_halves(other_kernel.run_in(place, ("loop", "romfs"), {"with": image, "without": bare}, OTHER_LINUX))
 
 
 # an image of 64 bytes with a root that holds nothing, as a dump prints it
