@@ -15,7 +15,8 @@ import secrets
 import stat
 
 from layouts import REFERENCE, Layout, has_type, parsed
-from refused import Refused, faults_below, shown
+from refused import Refused, shown
+from store import passing_file
 from store_layers import write_all
 
 NEW = ".strata-"
@@ -89,15 +90,8 @@ class LayoutWriter:
     @contextlib.contextmanager
     def new_file(self):
         name = NEW + secrets.token_hex(8)
-        flags = os.O_RDWR | os.O_CREAT | os.O_EXCL | os.O_NOFOLLOW | os.O_CLOEXEC
-        with faults_below(os.path.abspath(self.folder)):
-            number = os.open(name, flags, 0o666, dir_fd=self.root)
-            try:
-                with os.fdopen(number, "w+b", 0) as file:
-                    yield file, name
-            finally:
-                with contextlib.suppress(FileNotFoundError):
-                    os.unlink(name, dir_fd=self.root)
+        with passing_file(name, 0o666, self.root, os.path.abspath(self.folder)) as file:
+            yield file, name
 
     def keep(self, name, folder, new_name):
         os.rename(name, new_name, src_dir_fd=self.root, dst_dir_fd=folder)

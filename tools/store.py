@@ -72,6 +72,20 @@ def file_digits(number, heard=unheard):
         at += len(data)
 
 
+@contextlib.contextmanager
+def passing_file(name, mode, folder, place):
+    """A new file in an open folder, where it doesn't stay under this name; faults name the folder's place."""
+    flags = os.O_RDWR | os.O_CREAT | os.O_EXCL | os.O_NOFOLLOW | os.O_CLOEXEC
+    with faults_below(place):
+        number = os.open(name, flags, mode, dir_fd=folder)
+        try:
+            with os.fdopen(number, "w+b", 0) as file:
+                yield file
+        finally:
+            with contextlib.suppress(FileNotFoundError):
+                os.unlink(name, dir_fd=folder)
+
+
 class Store:
     """The store in a folder, which is made where `make` says so; none but its owner may look into
     it. Refused where there is none, or where the folder holds something else."""
@@ -157,15 +171,8 @@ class Store:
     def new_file(self):
         """A new file and its name in STORE/new, where it doesn't stay."""
         name = secrets.token_hex(8)
-        flags = os.O_RDWR | os.O_CREAT | os.O_EXCL | os.O_NOFOLLOW | os.O_CLOEXEC
-        with faults_below(self.place):
-            number = os.open(name, flags, 0o600, dir_fd=self.new)
-            try:
-                with os.fdopen(number, "w+b", 0) as file:
-                    yield file, name
-            finally:
-                with contextlib.suppress(FileNotFoundError):
-                    os.unlink(name, dir_fd=self.new)
+        with passing_file(name, 0o600, self.new, self.place) as file:
+            yield file, name
 
     def keep(self, file, name, folder, new_name):
         """Gives a file that is whole its place."""
