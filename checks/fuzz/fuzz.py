@@ -225,7 +225,7 @@ def serve_device(inputs, make, seen):
 
 
 def in_one_session(rng, stream):
-    """The messages of a stream whose replies don't go by their order: an INIT, and all that neither begins nor ends a session."""
+    """The messages of a stream whose replies don't go by their order: an INIT, and all that begins and ends no session."""
     messages = plain.split(stream)[0]
     first = messages[0] if messages and opcode_of(messages[0]) == INIT else init(1, flags=random_flags(rng))
     return [first, *[it for it in messages if opcode_of(it) not in (INIT, DESTROY) and len(it) <= MOST_PACKET]]

@@ -2,9 +2,10 @@
 
 Measures `serve` over an empty stream, which is reading, checking and stacking the images, and tells for each size the least
 processor time of N runs (3), user and system, and the most memory at one moment, of which some 18 MiB are not told apart.
-Images are read whole, and once more one kind of them is left in its file. They lie in memory (/dev/shm where it is there). With --drawn it draws what it measured as a picture (SVG), both axes by
-powers of ten, with the slope of each line of times: the exponent of the size that fits its last points best. A slope of 1 is
-linear, and n log n has one of about 1.1 at these sizes. Of memory it tells the bytes a node between the last two points.
+Images are read whole, and once more one kind of them is left in its file. They lie in memory (/dev/shm where it is there).
+With --drawn it draws what it measured as a picture (SVG), both axes by powers of ten, with the slope of each line of times:
+the exponent of the size that fits its last points best. A slope of 1 is linear, and n log n has one of about 1.1 at these
+sizes. Of memory it tells the bytes a node between the last two points.
 
 It judges nothing: the status is 0 where all runs end well.
 """
