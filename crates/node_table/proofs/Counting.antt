@@ -5,7 +5,8 @@ use Rattle.std.proofs.Common.{◌≡◌, ◌≢◌, ◌∙◌, sym, ap, subst, �
 use Rattle.std.specs.Prelude.{slice_get, slice_index, slice_set, fold, nat_eq, min, count_by}
 use Rattle.std.specs.List.{list_any, position_from}
 use Rattle.std.proofs.lemmas.Bool.{cases_order, eqb-true, eq-eqb, and_parts}
-use Rattle.std.proofs.lemmas.List.{get_or-take, get_or_append_left, get_or_default, get_or_push, length-map, length_push, map_push}
+use Rattle.std.proofs.lemmas.List.{get_or-take, get_or_append_left, get_or_default, get_or_push, length-map, length-take-le, length_push, map_push, replicate_more}
+use Rattle.std.proofs.lemmas.List.FromFn.{length-map-range_with_len, get_or-map-range_with_len, map-range_with_len_more}
 use Rattle.std.proofs.lemmas.List.Elements.{All-push}
 use Rattle.std.proofs.lemmas.List.Recursion.{is_count_by}
 use Rattle.std.proofs.lemmas.List.Sums.{fold-append, sum_by-append}
@@ -18,8 +19,10 @@ use Rattle.whiteout_tree.specs.declared.place.Place.{Place}
 use Rattle.whiteout_tree.specs.declared.place.Entry.{Entry}
 use Rattle.table_reader.specs.Readers.{placed}
 use Rattle.node_table.specs.Walks.{Visit}
-use Rattle.node_table.specs.Firsts.{IsFirstOf, AreFirsts}
-use Rattle.node_table.specs.Numbering.{place_key, key_of, one_more, visit_place, bare, seen, paths_of, IsFirstVisit, AreKeys, IsNumbered}
+use Rattle.node_table.specs.Firsts.{IsFirstOf, AreFirsts, AreThemselves}
+use Rattle.node_table.specs.Numbering.{place_key, key_of, one_more, visit_place, bare, seen, paths_of, IsFirstVisit, AreKeys, IsNumbered, AreNumbered, Numbering, numbers_apart, numbering_of}
+use Rattle.node_table.specs.declared.numbering.Form.{Form}
+use Rattle.node_table.specs.declared.numbering.Form.TheVariants.{Apart}
 use Rattle.node_table.proofs.Lists.{element_below, get_push, get_map, index_map, take_one_more}
 
 -- a place is told to be the same as itself
@@ -468,9 +471,9 @@ module _ (visits : List (Visit Entry)) (keys firsts : List ℕ) (are : AreKeys v
 
   -- a visit, as the code reads it, takes its number from the first place of its key
   pub taken_from_first : {first : List (Visit Entry)} {starts paths numbers : List ℕ} (i before : ℕ) → i < length visits
-      → before ≡ get_or firsts i before → length numbers ≡ length visits → IsNumbered visits i first starts paths (take i numbers)
+      → before ≡ slice_index firsts i → length numbers ≡ length visits → IsNumbered visits i first starts paths (take i numbers)
       → TakesNumber visits paths numbers i before
-  taken_from_first {first} {starts} {paths} {numbers} i before lt read room inv = record {
+  taken_from_first {first} {starts} {paths} {numbers} i before lt before_is room inv = record {
     visit = visit.0;
     here = visit.1;
     new = λ same. has_none i visit.0 lt visit.1 (sym before_is ∙ same);
@@ -485,9 +488,6 @@ module _ (visits : List (Visit Entry)) (keys firsts : List ℕ) (are : AreKeys v
       visit : (s : Visit Entry) × (s ≡ get_or visits i s)
       visit = let x = element_below visits i lt in (x.0, sym (get_or_from_slice_get visits i x.0 x.0 x.1))
 
-      before_is : before ≡ slice_index firsts i
-      before_is = read ∙ get_or_default firsts i before 0 (let level = keys_level in let same = f.level in omega arith)
-
       numbered : before ≢ i → (slice_index firsts i < i)
           × (number_of (seen visits i) (visit_place visit.0) ≡ Some (slice_index (take i numbers) (slice_index firsts i)))
       numbered other = has_number i visit.0 lt visit.1 held inv (λ e. other (before_is ∙ e))
@@ -501,3 +501,74 @@ module _ (visits : List (Visit Entry)) (keys firsts : List ℕ) (are : AreKeys v
       has : (n : ℕ) → number_of (seen visits i) (visit_place visit.0) ≡ Some n → HasNumber visits visit.0 paths i n
       has n is = let b = number_positive visits i visit.0 held lt visit.1 inv n is in
           record { is = is; positive = b.0; counted = b.1 }
+
+-- what is held of branches apart is told by how many they are
+pub apart_told : {A : Type 0} {form : Form A} {told : Numbering} (n : ℕ) → form ≡ Apart n → numbering_of form ≡ told → numbers_apart n ≡ told
+apart_told n is view = sym (ap numbering_of is) ∙ view
+
+module _ {told : Numbering} (n : ℕ) (is : numbers_apart n ≡ told) where
+  -- they have as many places
+  pub length_apart : n ≡ length told.starts
+  length_apart = sym (length-map-range_with_len (λ k. k) 0 n) ∙ ap (λ (x : Numbering). length x.starts) is
+
+  -- each stands at its number less one
+  pub start_apart : (at : ℕ) → at < length told.starts → at ≡ slice_index told.starts at
+  start_apart at within = sym (get_or-map-range_with_len (λ k. k) 0 n at at 0 (omega (arith, within, length_apart)) (omega arith))
+      ∙ ap (λ (x : Numbering). slice_index x.starts at) is
+
+  -- and has that number
+  pub number_apart : (at : ℕ) → at < length told.numbers → at + 1 ≡ slice_index told.numbers at
+  number_apart at within =
+      let level : n ≡ length told.numbers = sym (length-map-range_with_len (λ k. k + 1) 0 n)
+      ∙ ap (λ (x : Numbering). length x.numbers) is in
+      sym (get_or-map-range_with_len (λ k. k + 1) 0 n at at 0 (omega (arith, within, level)) (omega arith))
+      ∙ ap (λ (x : Numbering). slice_index x.numbers at) is
+
+-- where each place is the first of its key, no two branches have one place: as many branches as have
+-- been gone over are numbered by where they stand
+module _ (visits : List (Visit Entry)) (keys firsts : List ℕ) (are : AreKeys visits keys) (f : AreFirsts keys firsts)
+    (themselves : AreThemselves (length firsts) firsts) where
+  abbrev apart : ℕ → Numbers
+  apart i = record {
+    first = take i visits;
+    starts = (numbers_apart i).starts;
+    paths = (numbers_apart i).paths;
+    numbers = (numbers_apart i).numbers;
+  }
+
+  own_first : (i : ℕ) → i < length visits → slice_index firsts i ≡ i
+  own_first i lt = themselves.each i (omega (arith, lt, keys_level visits keys firsts are f, f.level))
+
+  apart_up_to : (i : ℕ) → i ≤ length visits
+      → IsNumbered visits i (take i visits) (numbers_apart i).starts (numbers_apart i).paths (numbers_apart i).numbers
+  apart_up_to zero le = numbers_begun visits (take 0 visits) [] [] [] (none visits) refl refl refl
+    where
+      none : (xs : List (Visit Entry)) → take 0 xs ≡ []
+      none [] = refl
+      none (x ∷ xs) = refl
+  apart_up_to (suc i) le = subst (λ n. IsNumbered visits n (take n visits) (numbers_apart n).starts (numbers_apart n).paths
+      (numbers_apart n).numbers) next
+      (is_new visits i visit.0 (apart i) lt here (apart_up_to i (omega arith)) (i + 1) (apart (i + 1))
+      (has_none visits keys firsts are f i visit.0 lt here (own_first i lt)) level (take_one_more visits i visit.0 lt here)
+      (map-range_with_len_more (λ k. k) 0 i i (omega arith)) (sym (replicate_more i 1))
+      (map-range_with_len_more (λ k. k + 1) 0 i i (omega arith)))
+    where
+      lt : i < length visits
+      lt = omega arith
+
+      next : i + 1 ≡ suc i
+      next = omega arith
+
+      visit : (s : Visit Entry) × (slice_get visits i ≡ Some s)
+      visit = element_below visits i lt
+
+      here : visit.0 ≡ get_or visits i visit.0
+      here = sym (get_or_from_slice_get visits i visit.0 visit.0 visit.1)
+
+      level : i + 1 ≡ length (take i visits) + 1
+      level = ap (λ k. k + 1) (sym (length-take-le i visits (omega arith)))
+
+  -- and so all are
+  pub numbered_apart : AreNumbered visits (numbers_apart (length visits)).starts (numbers_apart (length visits)).paths
+      (numbers_apart (length visits)).numbers
+  numbered_apart = (take (length visits) visits, apart_up_to (length visits) (omega arith))

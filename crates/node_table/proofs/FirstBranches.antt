@@ -213,6 +213,9 @@ module _ (layers : List (List ℕ)) (t : TreeRows) (root : Subtree Entry) (visit
     numbers_level : length held.numbers ≡ length visits
     numbers_level = walk.numbered.numbers_level
 
+    sizes_level : length sizes ≡ length visits
+    sizes_level = ap length sized ∙ length-map visits visit_size
+
     size_at : (k : ℕ) (visit : Visit Entry) → slice_get visits k ≡ Some visit → (k < length sizes)
         × (slice_index sizes k ≡ visit_size visit)
     size_at k visit e =
@@ -236,7 +239,7 @@ module _ (layers : List (List ℕ)) (t : TreeRows) (root : Subtree Entry) (visit
           number_is = tells j x.0 x.1 ∙ ap (λ (e : Entry). number_among visits e.place)
               (same_value t.entries j x.0.now c b.above above b.located l);
           size_is = size.1 ∙ same_size t.entries j x.0.now c b.above above b.located l;
-          ends = omega arith;
+          ends = omega (arith, sizes_level);
         }
 
     following : (j : ℕ) (s : Subtree Entry) (above : Entry) → IsLocated t.entries j s above → (ls cs : List (Subtree Entry))
@@ -281,7 +284,7 @@ module _ (layers : List (List ℕ)) (t : TreeRows) (root : Subtree Entry) (visit
           let l = slice_get_within visits p visit f.is in
           let nl = numbers_level in
           record {
-            within = omega arith;
+            within = omega (arith, sizes_level);
             each = λ cs under forest. following p visit.now b.above b.located [] cs under forest.names;
           };
     }

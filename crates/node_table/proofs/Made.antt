@@ -205,9 +205,9 @@ pub record HasStart (starts : List ℕ) (i start : ℕ) : Type 0 where
   pub more : i < length starts
   pub held : start ≡ slice_index starts i
 
--- one that is read of the same places is
-pub has_start : {starts seen : List ℕ} (i : ℕ) → seen ≡ starts → i < length seen → HasStart starts i (slice_index seen i)
-has_start i same more = record { more = omega (arith, ap length same, more); held = ap (λ xs. slice_index xs i) same }
+-- one that is read there is
+pub has_start : {starts : List ℕ} {i start : ℕ} → start ≡ slice_index starts i → i < length starts → HasStart starts i start
+has_start read more = record { more = more; held = read }
 
 -- the first branch of a number as the code reads it, at the place that is held for it: what it says
 -- agrees with the listing, and the numbers of its parent and its children stand where they are looked for

@@ -38,7 +38,7 @@ pub record HasNumberAndSize (tell : Place → ℕ) (numbers sizes : List ℕ) (a
   pub sized : at < length sizes
   pub number_is : slice_index numbers at ≡ tell c.value.place
   pub size_is : slice_index sizes at ≡ length (whole c)
-  pub ends : at + length (whole c) ≤ length numbers
+  pub ends : at + length (whole c) ≤ length sizes
 
 -- branches stand from this place on, each after the one before it and all below that
 abbrev pub AreFollowing : (Place → ℕ) → List ℕ → List ℕ → ℕ → List (Subtree Entry) → Type 0
@@ -50,7 +50,7 @@ AreFollowing tell numbers sizes at (c ∷ cs) =
 -- the children of a branch stand after it
 pub record HasChildrenAfter (tell : Place → ℕ) (numbers sizes : List ℕ) (at : ℕ)
     (branch : Subtree Entry) : Type 0 where
-  pub within : at < length numbers
+  pub within : at < length sizes
   pub each : (cs : List (Subtree Entry)) → branch.below ≡ spread cs → IsForest cs
       → AreFollowing tell numbers sizes (at + 1) cs
 

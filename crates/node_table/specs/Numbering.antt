@@ -1,10 +1,13 @@
 -- Numbers of the places of branches.
-use Rattle.std.specs.Prelude.{◌≡◌, ℕ, ◌+◌, ◌-◌, ◌*◌, ◌^◌, ◌<◌, List, [], length, map, take, min, count_by, slice_get, slice_index, Some, None, unwrap_or, All}
+use Rattle.std.specs.Prelude.{◌≡◌, ℕ, ◌+◌, ◌-◌, ◌*◌, ◌^◌, ◌<◌, List, [], length, map, take, min, count_by, slice_get, slice_index, replicate, Some, None, unwrap_or, All}
+use Rattle.std.specs.List.{range_with_len}
 use Rattle.stack_model.specs.Listing.{Entry as Listed}
 use Rattle.stack_model.specs.Numbers.{Place as ModelPlace, place, same_place, nodes, number_of}
 use Rattle.whiteout_tree.specs.declared.place.Place.{Place}
 use Rattle.whiteout_tree.specs.declared.place.Entry.{Entry}
 use Rattle.table_reader.specs.Readers.{placed}
+use Rattle.node_table.specs.declared.numbering.Form.{Form}
+use Rattle.node_table.specs.declared.numbering.Form.TheVariants.{Apart, Shared}
 use Rattle.node_table.specs.Walks.{Visit}
 
 -- a place as one number
@@ -69,6 +72,30 @@ pub record IsNumbered (visits : List (Visit Entry)) (i : ℕ) (first : List (Vis
 abbrev pub AreNumbered : List (Visit Entry) → List ℕ → List ℕ → List ℕ → Type 0
 AreNumbered visits starts paths numbers =
     (first : List (Visit Entry)) × IsNumbered visits (length visits) first starts paths numbers
+
+-- where the first branches of places stand, how many branches have each place, and the numbers of
+-- the branches' places
+pub record Numbering : Type 0 where
+  pub starts : List ℕ
+  pub paths : List ℕ
+  pub numbers : List ℕ
+
+-- those of so many branches, each with a place of its own
+abbrev pub numbers_apart : ℕ → Numbering
+numbers_apart count = record {
+  starts = map (λ k. k) (range_with_len 0 count);
+  paths = replicate count 1;
+  numbers = map (λ k. k + 1) (range_with_len 0 count);
+}
+
+-- those that are held
+abbrev pub numbering_of : {A : Type 0} → Form A → Numbering
+numbering_of (Apart count) = numbers_apart count
+numbering_of (Shared starts paths numbers) = record {
+  starts = starts.items;
+  paths = paths.items;
+  numbers = numbers.items;
+}
 
 -- the number of a place that visits have; 0 for another one
 unfoldable pub number_among : List (Visit Entry) → Place → ℕ

@@ -5,6 +5,7 @@
 //! waited for. Here a byte of some dozens is read together, before their nodes are made, and none
 //! of these reads waits for another. No node follows from what is read here.
 
+use crate::numbering::Numbered;
 use crate::walk::Walked;
 use romfs_reader::ImageView;
 use std::alloc::Allocator;
@@ -36,10 +37,10 @@ impl HeadersAhead {
         &mut self,
         images: &[ImageView<'_>],
         walk: &Walked<'_, Entry, A>,
-        starts: &[usize],
+        numbered: &Numbered<A>,
     ) {
-        if starts.len() > MANY && self.passed % TOGETHER == 0 {
-            self.read(images, walk, starts);
+        if numbered.len() > MANY && self.passed % TOGETHER == 0 {
+            self.read(images, walk, numbered);
         }
         self.passed = self.passed.wrapping_add(1);
     }
@@ -50,12 +51,12 @@ impl HeadersAhead {
         &mut self,
         images: &[ImageView<'_>],
         walk: &Walked<'_, Entry, A>,
-        starts: &[usize],
+        numbered: &Numbered<A>,
     ) {
-        if let Some(next) = starts.get(self.passed..) {
-            for start in next.iter().take(TOGETHER) {
-                self.sum ^= u64::from(byte_at(images, walk, *start).unwrap_or(0));
-            }
+        let end = numbered.len().min(self.passed.saturating_add(TOGETHER));
+        for at in self.passed..end {
+            let start = numbered.start(at);
+            self.sum ^= u64::from(byte_at(images, walk, start).unwrap_or(0));
         }
     }
 }

@@ -43,34 +43,28 @@ pub(crate) fn make<A: Allocator + Copy>(
     walk: &Walked<'_, Entry, A>,
     numbered: &Numbered<A>,
 ) -> Result<TableParts<A>, AllocError>
-    requires { StandAndAgree images.now (walk_of walk.now) numbered.now.starts.items
-        numbered.now.paths.items numbered.now.numbers.items }
+    requires { StandAndAgree images.now (walk_of walk.now) numbered.now.starts numbered.now.paths
+        numbered.now.numbers }
     ensures { IfOk result (λ made. AreMade images.now made.nodes.items made.directories) }
 {
-    let mut nodes = Vec::with_capacity(alloc, numbered.starts.len())?;
+    let mut nodes = Vec::with_capacity(alloc, numbered.len())?;
     let mut directories = Directories {
         all: Vec::new(alloc),
         rows: Vec::with_capacity(alloc, walk.visits.len())?,
         keys: Vec::with_capacity(alloc, walk.visits.len())?,
     };
     let mut ahead = HeadersAhead::new();
-    for (at, start) in numbered.starts.iter().enumerate() {
-        ahead.pass(images, walk, &numbered.starts);
-        let above = walk.above[*start];
+    for at in 0..numbered.len() {
+        ahead.pass(images, walk, numbered);
+        let start = numbered.start(at);
+        let above = walk.above[start];
         let first = First {
-            branch: walk.visits[*start],
-            start: *start,
-            parent: numbered.numbers[above],
-            paths: numbered.paths[at],
+            branch: walk.visits[start],
+            start,
+            parent: numbered.number(above),
+            paths: numbered.paths(at),
         };
-        let node = add_node(
-            alloc,
-            images,
-            walk,
-            &numbered.numbers,
-            &first,
-            &mut directories,
-        )?;
+        let node = add_node(alloc, images, walk, numbered, &first, &mut directories)?;
         nodes.push(node)?;
     }
     Ok(TableParts { nodes, directories })
@@ -82,18 +76,18 @@ fn add_node<A: Allocator + Copy>(
     alloc: A,
     images: &[ImageView<'_>],
     walk: &Walked<'_, Entry, A>,
-    numbers: &[u64],
+    numbered: &Numbered<A>,
     first: &First<'_, A>,
     into: &mut Directories<A>,
 ) -> Result<Node, AllocError>
     requires header { HasGivenHeader images.now first.now.branch.now }
     requires children { HasChildrenAfter (number_among walk.now.visits.items)
-        numbers.now walk.now.sizes.items first.now.start first.now.branch.now }
+        numbered.now.numbers walk.now.sizes.items first.now.start first.now.branch.now }
     ensures { IfOk result (λ node. AddsNode images.now (number_among walk.now.visits.items)
         first.now into.old into.new node) }
 {
     let directory = into.all.len();
-    let nlink = add_by_kind(alloc, walk, numbers, first, into)?;
+    let nlink = add_by_kind(alloc, walk, numbered, first, into)?;
     Ok(node_of(images, first.branch, nlink, directory))
 }
 
@@ -128,18 +122,18 @@ fn node_of<A: Allocator>(
 fn add_by_kind<A: Allocator + Copy>(
     alloc: A,
     walk: &Walked<'_, Entry, A>,
-    numbers: &[u64],
+    numbered: &Numbered<A>,
     first: &First<'_, A>,
     into: &mut Directories<A>,
 ) -> Result<u32, AllocError>
     requires { HasChildrenAfter (number_among walk.now.visits.items)
-        numbers.now walk.now.sizes.items first.now.start first.now.branch.now }
+        numbered.now.numbers walk.now.sizes.items first.now.start first.now.branch.now }
     ensures { IfOk result (λ nlink. AddsByKind (number_among walk.now.visits.items)
         first.now nlink into.old into.new) }
 {
     match first.branch.value().kind {
         Kind::Directory => {
-            let directories = add_directory(alloc, walk, numbers, first, into)?;
+            let directories = add_directory(alloc, walk, numbered, first, into)?;
             Ok(directories.saturating_add(2).min(u64::from(u32::MAX)) as u32)
         }
         _ => Ok(first.paths),
@@ -151,12 +145,12 @@ fn add_by_kind<A: Allocator + Copy>(
 fn add_directory<A: Allocator + Copy>(
     alloc: A,
     walk: &Walked<'_, Entry, A>,
-    numbers: &[u64],
+    numbered: &Numbered<A>,
     first: &First<'_, A>,
     into: &mut Directories<A>,
 ) -> Result<u64, AllocError>
     requires { HasChildrenAfter (number_among walk.now.visits.items)
-        numbers.now walk.now.sizes.items first.now.start first.now.branch.now }
+        numbered.now.numbers walk.now.sizes.items first.now.start first.now.branch.now }
     ensures { IfOk result (λ n. AddsDirectory (number_among walk.now.visits.items)
         first.now into.old into.new n) }
 {
@@ -165,7 +159,7 @@ fn add_directory<A: Allocator + Copy>(
     let directories = add_rows(
         alloc,
         walk,
-        numbers,
+        numbered,
         first.start + 1,
         children,
         &mut into.rows,
@@ -185,13 +179,13 @@ fn add_directory<A: Allocator + Copy>(
 fn add_rows<A: Allocator + Copy>(
     alloc: A,
     walk: &Walked<'_, Entry, A>,
-    numbers: &[u64],
+    numbered: &Numbered<A>,
     start: usize,
     children: &[Child<A>],
     rows: &mut Vec<Row<A>, A>,
 ) -> Result<u64, AllocError>
     requires { AreFollowing (number_among walk.now.visits.items)
-        numbers.now walk.now.sizes.items start children.now }
+        numbered.now.numbers walk.now.sizes.items start children.now }
     ensures { IfOk result (λ n. AddsRows (number_among walk.now.visits.items)
         children.now rows.old.items rows.new.items n) }
 {
@@ -199,7 +193,7 @@ fn add_rows<A: Allocator + Copy>(
     let mut at = start;
     for child in children {
         let entry = child.value();
-        let number = numbers[at];
+        let number = numbered.number(at);
         let size = walk.sizes[at];
         let name = child.copy_name(alloc)?;
         rows.push(Row { number, name })?;

@@ -1,22 +1,97 @@
 //! Numbers of places, in the order of their first path.
+//!
+//! Mostly each branch has a place of its own. Then where it stands tells its number, and no lists
+//! are held.
 
-ghost use Rattle.std.specs.Prelude.{◌≡◌, ◌<◌, ◌^◌, length, slice_index, slice_set, IfOk};
+ghost use Rattle.std.specs.Prelude.{◌≡◌, ◌<◌, ◌^◌, length, slice_index, slice_set, IfOk, IsTrue};
+ghost use Rattle.node_table.specs.Firsts.{AreFirsts, AreThemselves};
 ghost use Rattle.node_table.specs.Numbering.{place_key, one_more, AreKeys, AreNumbered};
 
 use crate::firsts::firsts_of;
 use name_tree::Branch;
 use std::alloc::{AllocError, Allocator};
+use std::marker::Model;
 use whiteout_tree::{Entry, Place};
 
-/// The places of branches, numbered from 1 in the order of their first branch.
+/// The places of branches, numbered from 1 in the order of their first branch. A clause sees three
+/// lists: where the first branch of each place stands among all branches; how many branches have
+/// the place, held at the greatest number of its type; and the number of each branch's place.
 #[derive(Drop)]
 pub(crate) struct Numbered<A: Allocator> {
-    /// Where the first branch of each place stands among all branches.
-    pub(crate) starts: Vec<usize, A>,
-    /// How many branches have the place, held at the greatest number of its type.
-    pub(crate) paths: Vec<u32, A>,
-    /// The number of each branch's place.
-    pub(crate) numbers: Vec<u64, A>,
+    form: Form<A>,
+}
+
+/// How numbers are held.
+#[derive(Drop)]
+pub(crate) enum Form<A: Allocator> {
+    /// So many branches, each with a place of its own.
+    Apart(usize),
+    /// Branches of which some have one place.
+    Shared {
+        starts: Vec<usize, A>,
+        paths: Vec<u32, A>,
+        numbers: Vec<u64, A>,
+    },
+}
+
+impl<A: Allocator> Model for Numbered<A> {
+    ghost use Rattle.std.specs.Prelude.{◌<◌, ◌^◌, length};
+    ghost use Rattle.node_table.specs.Numbering.{Numbering, numbering_of};
+
+    ghost Value = { Numbering };
+
+    ghost view = { λ held. numbering_of held.form };
+
+    ghost invariant = { λ held. length (numbering_of held.form).numbers < 2 ^ 64 };
+}
+
+impl<A: Allocator> Numbered<A> {
+    /// How many places there are.
+    #[inline(always)]
+    pub(crate) fn len(&self) -> usize
+        ensures { result ≡ length self.now.starts }
+    {
+        match &self.form {
+            Form::Apart(count) => *count,
+            Form::Shared { starts, .. } => starts.len(),
+        }
+    }
+
+    /// Where the first branch stands of the place with this number, less one.
+    #[inline(always)]
+    pub(crate) fn start(&self, at: usize) -> usize
+        requires { at < length self.now.starts }
+        ensures { result ≡ slice_index self.now.starts at }
+    {
+        match &self.form {
+            Form::Apart(_) => at,
+            Form::Shared { starts, .. } => starts[at],
+        }
+    }
+
+    /// How many branches have the place with this number, less one.
+    #[inline(always)]
+    pub(crate) fn paths(&self, at: usize) -> u32
+        requires { at < length self.now.paths }
+        ensures { result ≡ slice_index self.now.paths at }
+    {
+        match &self.form {
+            Form::Apart(_) => 1,
+            Form::Shared { paths, .. } => paths[at],
+        }
+    }
+
+    /// The number of the place of the branch that stands here.
+    #[inline(always)]
+    pub(crate) fn number(&self, branch: usize) -> u64
+        requires { branch < length self.now.numbers }
+        ensures { result ≡ slice_index self.now.numbers branch }
+    {
+        match &self.form {
+            Form::Apart(_) => branch as u64 + 1,
+            Form::Shared { numbers, .. } => numbers[branch],
+        }
+    }
 }
 
 // Numbers the places of these branches. It takes n log n steps.
@@ -24,14 +99,31 @@ pub(crate) fn number_places<A: Allocator + Copy>(
     alloc: A,
     visits: &[&Branch<Entry, A>],
 ) -> Result<Numbered<A>, AllocError>
-    ensures { IfOk result
-        (λ n. AreNumbered visits.now n.starts.items n.paths.items n.numbers.items) }
+    ensures { IfOk result (λ n. AreNumbered visits.now n.starts n.paths n.numbers) }
 {
-    // what stays comes first, so that what is let go lies last, where the nodes will be
-    let mut starts = Vec::with_capacity(alloc, visits.len())?;
-    let mut paths = Vec::with_capacity(alloc, visits.len())?;
     let keys = keys_of(alloc, visits)?;
     let firsts = firsts_of(alloc, &keys)?;
+    if are_themselves(&firsts) {
+        return Ok(Numbered {
+            form: Form::Apart(visits.len()),
+        });
+    }
+    number_shared(alloc, visits, keys, &firsts)
+}
+
+// The same, by the keys of the places, and where each key stands first.
+fn number_shared<A: Allocator + Copy>(
+    alloc: A,
+    visits: &[&Branch<Entry, A>],
+    keys: Vec<u64, A>,
+    firsts: &[usize],
+) -> Result<Numbered<A>, AllocError>
+    requires keys { AreKeys visits.now keys.items }
+    requires firsts { AreFirsts keys.items firsts.now }
+    ensures { IfOk result (λ n. AreNumbered visits.now n.starts n.paths n.numbers) }
+{
+    let mut starts = Vec::with_capacity(alloc, visits.len())?;
+    let mut paths = Vec::with_capacity(alloc, visits.len())?;
     // each key gives way to the number of its place
     let mut numbers = keys;
     for at in 0..visits.len() {
@@ -47,10 +139,24 @@ pub(crate) fn number_places<A: Allocator + Copy>(
         }
     }
     Ok(Numbered {
-        starts,
-        paths,
-        numbers,
+        form: Form::Shared {
+            starts,
+            paths,
+            numbers,
+        },
     })
+}
+
+// Whether each number of a list is that of its place.
+fn are_themselves(firsts: &[usize]) -> bool
+    ensures { IsTrue result → AreThemselves (length firsts.now) firsts.now }
+{
+    for (at, first) in firsts.iter().enumerate() {
+        if *first != at {
+            return false;
+        }
+    }
+    true
 }
 
 // A place as one number.

@@ -19,7 +19,7 @@ add_keys-requires g c =
     subst (λ (x : List Line). Rise (names x)) (sym fresh) (names_rise tell cs c.children-children.ensures.forest.names)
 
 pub overflow_add-first : goal.overflow_add-first
-overflow_add-first g c = omega (arith, c.requires.within)
+overflow_add-first g c = omega (arith, c.requires.within, c.args.walk.now.sizes.ok.0)
 
 pub add_rows-requires : goal.add_rows-requires
 add_rows-requires g c =

@@ -17,10 +17,10 @@ stack g c = stacked c.args.images.now c.loop-at.invariant.1
 abbrev branches : (g : Over) (c : In-loop-at g) → FirstBranches (stack g c)
 branches g c = record {
   walk = walk_of c.args.walk.now;
-  numbers = c.args.numbered.now.numbers.items;
+  numbers = c.args.numbered.now.numbers;
   first = c.loop-at.invariant.0;
-  starts = c.args.numbered.now.starts.items;
-  paths = c.args.numbered.now.paths.items;
+  starts = c.args.numbered.now.starts;
+  paths = c.args.numbered.now.paths;
   agree = c.loop-at.invariant.2;
   stand = c.loop-at.invariant.3;
 }
@@ -37,62 +37,58 @@ loop-at-init g c = (
 pub returns : goal.returns
 returns g c =
     let inv = c.loop-at.invariant in
-    let e : c.loop-at.at ≡ length inv.0 = omega (arith, ap length c.deref-start-items.ensures.value, inv.3.level) in
+    let e : c.loop-at.at ≡ length inv.0 = omega (arith, c.len-at-end.ensures, inv.3.level) in
     nodes_ended inv.2 e inv.4
 
 pub index-above-requires : goal.index-above-requires
 index-above-requires g c =
     let all = branches g (goal.at.index-above-requires g c).In-loop-at in
-    let within = above_within all (has_start c.loop-at.at c.deref-start-items.ensures.value (omega arith)) in
+    let within = above_within all (has_start c.start-start.ensures (omega (arith, c.len-at-end.ensures))) in
     omega (arith, within.placed, c.args.walk.now.above.ok.0)
 
 pub index-requires : goal.index-requires
 index-requires g c =
     let all = branches g (goal.at.index-requires g c).In-loop-at in
-    let within = start_within all (has_start c.loop-at.at c.deref-start-items.ensures.value (omega arith)) in
+    let within = start_within all (has_start c.start-start.ensures (omega (arith, c.len-at-end.ensures))) in
     omega (arith, within, c.args.walk.now.visits.ok.0)
 
-pub index-requires-in-loop-at : goal.index-requires-in-loop-at
-index-requires-in-loop-at g c =
-    let all = branches g (goal.at.index-requires-in-loop-at g c).In-loop-at in
-    let within = above_within all (has_start c.loop-at.at c.deref-start-items.ensures.value (omega arith)) in
+pub number-requires : goal.number-requires
+number-requires g c =
+    let all = branches g (goal.at.number-requires g c).In-loop-at in
+    let within = above_within all (has_start c.start-start.ensures (omega (arith, c.len-at-end.ensures))) in
     let above = c.index-above.ensures ∙ get_or_default c.args.walk.now.above.items _ c.index-above.result.now 0 within.placed in
-    omega (arith, above, within.within, c.args.numbered.now.numbers.ok.0)
+    omega (arith, above, within.within)
 
-pub index-requires-in-loop-at-2 : goal.index-requires-in-loop-at-2
-index-requires-in-loop-at-2 g c =
-    let all = branches g (goal.at.index-requires-in-loop-at-2 g c).In-loop-at in
-    let next = next_first all (has_start c.loop-at.at c.deref-start-items.ensures.value (omega arith)) _ c.index.ensures in
-    omega (arith, next.within, c.args.numbered.now.paths.ok.0)
+pub paths-requires : goal.paths-requires
+paths-requires g c =
+    let all = branches g (goal.at.paths-requires g c).In-loop-at in
+    let next = next_first all (has_start c.start-start.ensures (omega (arith, c.len-at-end.ensures))) _ c.index.ensures in
+    next.within
 
 pub add_node-requires-clause-header : goal.add_node-requires-clause-header
 add_node-requires-clause-header g c =
     let all = branches g (goal.at.add_node-requires-clause-header g c).In-loop-at in
-    let next = next_first all (has_start c.loop-at.at c.deref-start-items.ensures.value (omega arith)) _ c.index.ensures in
+    let next = next_first all (has_start c.start-start.ensures (omega (arith, c.len-at-end.ensures))) _ c.index.ensures in
     next.agrees.header
 
 pub add_node-requires-clause-children : goal.add_node-requires-clause-children
 add_node-requires-clause-children g c =
     let all = branches g (goal.at.add_node-requires-clause-children g c).In-loop-at in
-    let next = next_first all (has_start c.loop-at.at c.deref-start-items.ensures.value (omega arith)) _ c.index.ensures in
-    rw c.deref-in-loop-at.ensures.value next.children
+    let next = next_first all (has_start c.start-start.ensures (omega (arith, c.len-at-end.ensures))) _ c.index.ensures in
+    next.children
 
 pub loop-at-preserved : goal.loop-at-preserved
 loop-at-preserved g c =
     let inv = c.loop-at.invariant in
     let all = branches g (goal.at.loop-at-preserved g c).In-loop-at in
-    let next = next_first all (has_start c.loop-at.at c.deref-start-items.ensures.value (omega arith)) _ c.index.ensures in
-    let numbers = c.args.numbered.now.numbers.items in
+    let next = next_first all (has_start c.start-start.ensures (omega (arith, c.len-at-end.ensures))) _ c.index.ensures in
+    let numbers = c.args.numbered.now.numbers in
     let above = c.index-above.ensures ∙ get_or_default c.args.walk.now.above.items _ c.index-above.result.now 0 next.above.placed in
     let within = next.above.within in
-    let parent = c.index-in-loop-at.ensures
-    ∙ get_or_default numbers c.index-above.result.now c.index-in-loop-at.result.now 0 (omega (arith, above, within))
-    ∙ ap (slice_index numbers) above in
-    let paths : c.index-in-loop-at-2.result.now ≡ slice_index c.args.numbered.now.paths.items c.loop-at.at = c.index-in-loop-at-2.ensures
-    ∙ get_or_default c.args.numbered.now.paths.items c.loop-at.at c.index-in-loop-at-2.result.now 0 next.within in
+    let parent = c.number.ensures ∙ ap (slice_index numbers) above in
     let made : IsMadeOf (stack g (goal.at.loop-at-preserved g c).In-loop-at) (number_among c.args.walk.now.visits.items) _ _ _
     c.in_ok-node.node =
-    record { agrees = rw (parent, paths) next.agrees; level = inv.4.keys_level; adds = c.in_ok-node.ensures } in (
+    record { agrees = rw (parent, c.paths.ensures) next.agrees; level = inv.4.keys_level; adds = c.in_ok-node.ensures } in (
       inv.0,
       inv.1,
       inv.2,

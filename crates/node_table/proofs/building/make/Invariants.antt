@@ -12,6 +12,6 @@ use Rattle.node_table.proofs.building.make.Given as goal
 abbrev pub invariant-loop-at : goal.invariant-loop-at
 invariant-loop-at g l = (first : List (Visit Entry)) × (entries : List Listed)
     × AgreeWithListing (stacked l.images entries) (number_among l.walk.visits.items)
-    (number_above l.numbered.numbers.items l.walk.above.items) first l.numbered.starts.items l.numbered.paths.items
-    × StandAtStarts (walk_of l.walk) l.numbered.numbers.items first l.numbered.starts.items
+    (number_above l.numbered.numbers l.walk.above.items) first l.numbered.starts l.numbered.paths
+    × StandAtStarts (walk_of l.walk) l.numbered.numbers first l.numbered.starts
     × Making (stacked l.images entries) l.nodes.items l.directories l.at

@@ -2,7 +2,7 @@ use Rattle.std.proofs.Common.{◌≡◌, List, length, take}
 use Rattle.whiteout_tree.specs.declared.place.Entry.{Entry}
 use Rattle.node_table.specs.Walks.{Visit}
 use Rattle.node_table.specs.Numbering.{IsNumbered}
-use Rattle.node_table.proofs.numbering.number_places.Given as goal
+use Rattle.node_table.proofs.numbering.number_shared.Given as goal
 
 -- the places of the visits so far are numbered, and there is room for the numbers of all
 abbrev pub invariant-loop-at : goal.invariant-loop-at
