@@ -134,6 +134,8 @@ pub fn table_of_layers<R: Threads + Sync, A: Allocator + Copy>(
     ensures whole { IfOk result (λ table. table.whole ≡ layers.whole) }
 {
     let (blocks, parts) = read_all(alloc, &tree, &layers)?;
+    // what else a table holds goes where the tree was
+    drop(tree);
     let TableParts {
         mut nodes,
         directories,
