@@ -13,12 +13,12 @@ use Rattle.serve_core.specs.declared.stop.Stop.{Stop}
 use Rattle.serve_core.specs.Headline.{Bounds}
 use Rattle.serve_core.proofs.Stops.{ended_well, read_told}
 use Rattle.device_readers.specs.Laws.{HasServedBefore}
-use Rattle.device_readers.specs.Readers.{AreServedBy, HasDone, HasServed, IsNotOpenedOver}
+use Rattle.device_readers.specs.Readers.{AreServedBy, HasDone, HasServed, IsNotOpenedOver, shared}
 use Rattle.device_readers.specs.Seats.{SeatState}
 
 module _ {A : Type 0} (over : Sourced) (within : Bounds) where
   pub went_on : (first : Session) (old new : List (SeatState A)) (before : Done A)
-      → AreServedBy first over within old new (Some before)
+      → AreServedBy first (shared over within) old new (Some before)
       → (session : Session) × (is_fresh session ≡ false) × (leader began : SeatState A) × (others : List (SeatState A))
       × (old ≡ leader ∷ others) × AllZip (HasServed session over within) (began ∷ others) new
   went_on first old new before s =
@@ -34,7 +34,7 @@ module _ {A : Type 0} (over : Sourced) (within : Bounds) where
     failed = λ is. subst (WasNotBegun (answering_from first over) t) (read_told o.run.ended (sym is ∙ o.run.result_is)) o.not_begun;
   }
 
-  pub ended_before : (first : Session) (old new : List (SeatState A)) → AreServedBy first over within old new None
+  pub ended_before : (first : Session) (old new : List (SeatState A)) → AreServedBy first (shared over within) old new None
       → (leader ended : SeatState A) × (others : List (SeatState A)) × (old ≡ leader ∷ others) × (new ≡ ended ∷ others)
       × HasDone (λ result. Does (λ t. HasServedBefore first over within t result)) leader ended
   ended_before first old new s =

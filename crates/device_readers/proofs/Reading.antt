@@ -10,7 +10,7 @@ use Rattle.reply_model.specs.Readings.{Sourced}
 use Rattle.serve_loop.specs.declared.opening.Begun.{Begun}
 use Rattle.serve_loop.specs.Serving.{AreReady}
 use Rattle.serve_core.specs.Headline.{Bounds}
-use Rattle.device_readers.specs.Readers.{AreServedByAll, HasOpened, HasServed, IsServedByOne}
+use Rattle.device_readers.specs.Readers.{AreServedByAll, HasOpened, HasServed, IsServedByOne, shared}
 use Rattle.device_readers.specs.Seats.{AreNew, SeatState, devices_of, new_seat}
 
 -- a relation of two lists, place by place, of what a function makes of them
@@ -63,7 +63,7 @@ module _ {A : Type 0} (turns : ℕ) where
 module _ {A : Type 0} (first : Session) (by : Sourced) (within : Bounds) where
   -- where the session has begun, the devices may be used on
   pub ready_on : (old new : SeatState A) (begun : Begun A) → (left : Option (List ℕ)) × (old ≡ new_seat left)
-      → within.turns ≤ MAX_TURNS → HasOpened first by within old new (Some begun) → AreReady within.turns (devices_of new)
+      → within.turns ≤ MAX_TURNS → HasOpened first (shared by within) old new (Some begun) → AreReady within.turns (devices_of new)
   ready_on old new begun (left, e) few (got, put, took, held, b) =
       let p = ap (λ s. (devices_of s).source.counts.pulls) e in let n = ap (λ s. (devices_of s).source.counts.ends) e in
       let f = ap (λ s. (devices_of s).source.counts.failures) e in let g = ap (λ s. (devices_of s).sink.counts.failures) e in
@@ -73,7 +73,7 @@ module _ {A : Type 0} (first : Session) (by : Sourced) (within : Bounds) where
 
   module _ {X : Type 0} (f : X → SeatState A) where
     pub served_by_one : (xs : List X) (d y : X) → 0 < length xs
-        → HasOpened first by within (f (slice_index_or xs 0 d)) (f y) None
+        → HasOpened first (shared by within) (f (slice_index_or xs 0 d)) (f y) None
         → IsServedByOne first by within (map f xs) (map f (slice_set xs 0 y))
     served_by_one [] d y some o = absurd (omega (arith, some))
     served_by_one (x ∷ xs) d y some o = record {
@@ -86,7 +86,7 @@ module _ {A : Type 0} (first : Session) (by : Sourced) (within : Bounds) where
     }
 
     pub served_by_all : (xs : List X) (d y : X) (begun : Begun A) (new : List (SeatState A)) → 0 < length xs
-        → HasOpened first by within (f (slice_index_or xs 0 d)) (f y) (Some begun)
+        → HasOpened first (shared by within) (f (slice_index_or xs 0 d)) (f y) (Some begun)
         → AllZip (HasServed begun.session by within) (map f (slice_set xs 0 y)) new
         → AreServedByAll first by within (map f xs) new begun.done
     served_by_all [] d y begun new some o each = absurd (omega (arith, some))

@@ -16,6 +16,15 @@ use Rattle.serve_core.specs.declared.stop.Stop.{Stop}
 use Rattle.serve_core.specs.Headline.{Bounds, IsRunWithin, RunsWithin}
 use Rattle.device_readers.specs.Seats.{SeatState, devices_of}
 
+-- what readers share: a stack with the sources of its data, and the bounds of each
+pub record Shared : Type 0 where
+  pub by : Sourced
+  pub within : Bounds
+
+-- the same, of its parts
+abbrev pub shared : Sourced → Bounds → Shared
+shared by within = record { by = by; within = within }
+
 -- a stream was served over a stack to its end, or until it stopped, and its session had not begun
 pub record IsNotOpenedOver {A : Type 0} (first : Session) (by : Sourced) (within : Bounds)
     (t : Trace) (result : Result (Done A) Stop) : Type 0 where
@@ -54,13 +63,13 @@ HasServed first by within old new = HasDone (RunsWithin first by within) old new
 
 -- a reader served over a stack until its session had begun, if it had; else to the end of its
 -- stream, or until it stopped
-abbrev pub HasOpened : {A : Type 0} → Session → Sourced → Bounds → SeatState A → SeatState A
+abbrev pub HasOpened : {A : Type 0} → Session → Shared → SeatState A → SeatState A
     → Option (Begun A) → Type 0
-HasOpened first by within old new (Some begun) =
-    Does (λ t. IsOpenedOver first by within t (Ok (openings.Begun begun))) (devices_of old)
-    (devices_of new)
-HasOpened first by within old new None =
-    HasDone (λ result. Does (λ t. IsNotOpenedOver first by within t result)) old new
+HasOpened first over old new (Some begun) =
+    Does (λ t. IsOpenedOver first over.by over.within t (Ok (openings.Begun begun)))
+    (devices_of old) (devices_of new)
+HasOpened first over old new None =
+    HasDone (λ result. Does (λ t. IsNotOpenedOver first over.by over.within t result)) old new
 
 -- the reader of the first seat served until the session had begun, and this came of it; from then
 -- on all of them served, each between its own devices, in streams that begin in that session
@@ -72,7 +81,7 @@ pub record AreServedByAll {A : Type 0} (first : Session) (by : Sourced) (within 
   pub began : SeatState A
   pub begun : Begun A
   pub done_is : begun.done ≡ before
-  pub opened : HasOpened first by within leader began (Some begun)
+  pub opened : HasOpened first (shared by within) leader began (Some begun)
   pub each : AllZip (HasServed begun.session by within) (began ∷ others) new
 
 -- the reader of the first seat served alone, and the session had not begun where it ended
@@ -83,11 +92,12 @@ pub record IsServedByOne {A : Type 0} (first : Session) (by : Sourced) (within :
   pub old_is : old ≡ leader ∷ others
   pub ended : SeatState A
   pub new_is : new ≡ ended ∷ others
-  pub opened : HasOpened first by within leader ended None
+  pub opened : HasOpened first (shared by within) leader ended None
 
 -- readers served a stack and its sources, behind what came before their session; or one alone,
 -- which ended before the session had begun
-abbrev pub AreServedBy : {A : Type 0} → Session → Sourced → Bounds → List (SeatState A)
+abbrev pub AreServedBy : {A : Type 0} → Session → Shared → List (SeatState A)
     → List (SeatState A) → Option (Done A) → Type 0
-AreServedBy first by within old new (Some before) = AreServedByAll first by within old new before
-AreServedBy first by within old new None = IsServedByOne first by within old new
+AreServedBy first over old new (Some before) =
+    AreServedByAll first over.by over.within old new before
+AreServedBy first over old new None = IsServedByOne first over.by over.within old new

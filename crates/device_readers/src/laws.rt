@@ -12,7 +12,7 @@ ghost use Rattle.serve_loop.specs.declared.done.Done.{Done};
 ghost use Rattle.serve_loop.specs.Rounds.{Answering};
 ghost use Rattle.serve_loop.specs.Serving.{Does, moves_of};
 ghost use Rattle.device_readers.specs.declared.ends.End.TheVariants.{AtEnd};
-ghost use Rattle.device_readers.specs.Readers.{AreServedBy, HasDone, HasServed};
+ghost use Rattle.device_readers.specs.Readers.{AreServedBy, HasDone, HasServed, shared};
 ghost use Rattle.device_readers.specs.Seats.{SeatState, done_of_all, end_of_all};
 ghost use Rattle.device_readers.specs.Laws.{CameOf, HasReader, HasServedBefore, HaveMessages, IsToldFirst, KeepsSession, moved_at, sum_at};
 
@@ -31,7 +31,7 @@ pub fn first_fault_is_told<A: Allocator>()
 pub fn readers_go_on_in_the_session<A: Allocator>()
     ensures { (first : Session) (over : Sourced) (within : Bounds)
         (old new : List (SeatState A)) (before : Done A) →
-        AreServedBy first over within old new (Some before) → (session : Session)
+        AreServedBy first (shared over within) old new (Some before) → (session : Session)
         × (is_fresh session ≡ false) × (leader began : SeatState A)
         × (others : List (SeatState A)) × (old ≡ leader ∷ others)
         × AllZip (HasServed session over within) (began ∷ others) new }
@@ -41,7 +41,7 @@ pub fn readers_go_on_in_the_session<A: Allocator>()
 /// it got is no whole messages after which the session has begun. No other has begun.
 pub fn one_ends_before_the_session<A: Allocator>()
     ensures { (first : Session) (over : Sourced) (within : Bounds)
-        (old new : List (SeatState A)) → AreServedBy first over within old new None →
+        (old new : List (SeatState A)) → AreServedBy first (shared over within) old new None →
         (leader ended : SeatState A) × (others : List (SeatState A)) × (old ≡ leader ∷ others)
         × (new ≡ ended ∷ others)
         × HasDone (λ result. Does (λ t. HasServedBefore first over within t result)) leader ended }

@@ -9,7 +9,7 @@ ghost use Rattle.fuse_answer.specs.Puts.{sourced_by};
 ghost use Rattle.serve_core.specs.Headline.{bounds};
 ghost use Rattle.serve_loop.specs.Serving.{AreReady};
 ghost use Rattle.device_readers.specs.Seats.{AreNew, devices_of, end_of_all, seat_of};
-ghost use Rattle.device_readers.specs.Readers.{AreServedBy, HasServed};
+ghost use Rattle.device_readers.specs.Readers.{AreServedBy, HasServed, shared};
 
 use crate::ends::{End, first_told};
 use crate::seat::Seat;
@@ -48,9 +48,9 @@ pub fn serve_by_readers<
     requires some { 0 < length seats.old }
     requires new { AreNew (map (seat_of I.remaining) seats.old) }
     requires turns { terms.now.turns ≤ MAX_TURNS }
-    ensures { AreServedBy terms.now.first (sourced_by D.source served.entry)
-        (bounds terms.now.turns counted) (map (seat_of I.remaining) seats.old)
-        (map (seat_of I.remaining) seats.new) result }
+    ensures { AreServedBy terms.now.first
+        (shared (sourced_by D.source served.entry) (bounds terms.now.turns counted))
+        (map (seat_of I.remaining) seats.old) (map (seat_of I.remaining) seats.new) result }
 {
     let Begun { session, done } = seats[0].open(rt, alloc, served, terms, counted)?;
     let terms = Terms {

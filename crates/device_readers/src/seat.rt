@@ -5,7 +5,7 @@ ghost use Rattle.fuse_answer.specs.Puts.{sourced_by};
 ghost use Rattle.serve_core.specs.Headline.{bounds};
 ghost use Rattle.serve_loop.specs.Serving.{AreReady};
 ghost use Rattle.device_readers.specs.Seats.{AreNew, devices_of, new_seat, own_end, seat_of};
-ghost use Rattle.device_readers.specs.Readers.{HasOpened, HasServed};
+ghost use Rattle.device_readers.specs.Readers.{HasOpened, HasServed, shared};
 
 use crate::ends::{End, end_of_stop};
 use crate::opening::open;
@@ -62,9 +62,9 @@ impl<I: Read + Drop, O: Write + Drop, A: SharedAllocator> Seat<I, O, A> {
         counted: u64,
     ) -> Option<Begun<A>>
         requires { AreReady terms.now.turns (devices_of (seat_of I.remaining self.old)) }
-        ensures { HasOpened terms.now.first (sourced_by D.source served.entry)
-            (bounds terms.now.turns counted) (seat_of I.remaining self.old)
-            (seat_of I.remaining self.new) result }
+        ensures { HasOpened terms.now.first
+            (shared (sourced_by D.source served.entry) (bounds terms.now.turns counted))
+            (seat_of I.remaining self.old) (seat_of I.remaining self.new) result }
     {
         let opened = open(
             rt,

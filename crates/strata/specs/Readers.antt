@@ -4,7 +4,7 @@ use Rattle.command_line.specs.declared.options.Line.{Line}
 use Rattle.devices.specs.declared.limits.TheConstants.{MAX_TURNS}
 use Rattle.device_readers.specs.declared.ends.End.{End}
 use Rattle.device_readers.specs.declared.ends.End.TheVariants.{AtEnd, TakenAway, Stopped}
-use Rattle.device_readers.specs.Readers.{AreServedBy}
+use Rattle.device_readers.specs.Readers.{AreServedBy, shared}
 use Rattle.device_readers.specs.Seats.{SeatState, end_of_all, new_seat}
 use Rattle.reply_model.specs.Readings.{Sourced}
 use Rattle.serve_core.specs.Headline.{bounds}
@@ -31,7 +31,7 @@ pub record IsShared (A : Type 0) (line : Line) (end : End) : Type 0 where
   pub left : Option (List ℕ)
   pub before : Option (Done A)
   pub readers : List (SeatState A)
-  pub served : AreServedBy (first_of line) by (bounds MAX_TURNS 0)
+  pub served : AreServedBy (first_of line) (shared by (bounds MAX_TURNS 0))
       (replicate line.readers (new_seat left)) readers before
   pub end_is : end ≡ end_of_all readers
 

@@ -1,7 +1,7 @@
 use Rattle.std.proofs.Common.{◌≡◌, sym, subst, ℕ, List, map, slice_index_or, slice_set, Option}
 use Rattle.fuse_answer.specs.Puts.{sourced_by}
 use Rattle.serve_core.specs.Headline.{bounds}
-use Rattle.device_readers.specs.Readers.{AreServedBy, HasOpened}
+use Rattle.device_readers.specs.Readers.{AreServedBy, HasOpened, shared}
 use Rattle.device_readers.specs.Seats.{SeatState, new_seat, seat_of}
 use Rattle.device_readers.proofs.Reading.{at_place, ready_all, ready_new, ready_on, served_by_all, served_by_one}
 use Rattle.device_readers.proofs.readers.serve_by_readers.Goals as goal
@@ -23,8 +23,8 @@ returns-in_err-session g c =
     let by = sourced_by g.D.Contents.source c.args.served in
     let within = bounds c.args.terms.now.turns c.args.counted in
     let old = seat (slice_index_or c.args.seats.now 0 c.index-seats-0.result) in
-    let opened = subst (λ r. HasOpened first by within old (seat c.open.new.self) r) c.in_err-session.was c.open.ensures in
-    subst (λ r. AreServedBy first by within (map seat c.args.seats.now) (map seat (slice_set c.args.seats.now 0 c.open.new.self)) r)
+    let opened = subst (λ r. HasOpened first (shared by within) old (seat c.open.new.self) r) c.in_err-session.was c.open.ensures in
+    subst (λ r. AreServedBy first (shared by within) (map seat c.args.seats.now) (map seat (slice_set c.args.seats.now 0 c.open.new.self)) r)
     (sym c.from_residual.ensures)
     (served_by_one first by within seat c.args.seats.now c.index-seats-0.result c.open.new.self c.requires.some opened)
 
@@ -36,7 +36,7 @@ serve_together-requires-clause-ready g c = λ κs lives.
     let within = bounds c.args.terms.now.turns c.args.counted in
     let old = seat (slice_index_or c.args.seats.now 0 c.index-seats-0.result) in
     let new = seat c.open.new.self in
-    let opened = subst (λ r. HasOpened first by within old new r) c.in_ok-session.was c.open.ensures in
+    let opened = subst (λ r. HasOpened first (shared by within) old new r) c.in_ok-session.was c.open.ensures in
     let unused = at_place is_new seat c.args.seats.now 0 c.index-seats-0.result c.requires.some c.requires.new in
     ready_all within.turns seat c.args.seats.now c.open.new.self c.requires.some c.requires.new c.requires.turns
     (ready_on first by within old new c.in_ok-session.field-0 unused c.requires.turns opened)
@@ -48,6 +48,6 @@ returns g c =
     let by = sourced_by g.D.Contents.source c.args.served in
     let within = bounds c.args.terms.now.turns c.args.counted in
     let old = seat (slice_index_or c.args.seats.now 0 c.index-seats-0.result) in
-    let opened = subst (λ r. HasOpened first by within old (seat c.open.new.self) r) c.in_ok-session.was c.open.ensures in
+    let opened = subst (λ r. HasOpened first (shared by within) old (seat c.open.new.self) r) c.in_ok-session.was c.open.ensures in
     served_by_all first by within seat c.args.seats.now c.index-seats-0.result c.open.new.self c.in_ok-session.field-0
     (map seat c.serve_together.new.seats) c.requires.some opened c.serve_together.ensures

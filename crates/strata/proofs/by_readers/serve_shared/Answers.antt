@@ -1,5 +1,5 @@
 use Rattle.std.proofs.Common.{◌∙◌, ap, subst, map}
-use Rattle.device_readers.specs.Readers.{AreServedBy}
+use Rattle.device_readers.specs.Readers.{AreServedBy, shared}
 use Rattle.device_readers.specs.Seats.{seat_of}
 use Rattle.devices.specs.declared.limits.TheConstants.{MAX_TURNS}
 use Rattle.image_files.specs.Data.{source_of}
@@ -27,6 +27,6 @@ returns-clause-served g c =
       left = g.I.Read.remaining c.args.reader;
       before = before;
       readers = left;
-      served = subst (λ seats. AreServedBy (first_of c.args.line.now) by (bounds MAX_TURNS 0) seats left before) made served;
+      served = subst (λ seats. AreServedBy (first_of c.args.line.now) (shared by (bounds MAX_TURNS 0)) seats left before) made served;
       end_is = c.end_of_all.ensures;
     }
