@@ -15,7 +15,7 @@ use whiteout_tree::Entry;
 const TOGETHER: usize = 64;
 
 /// Of no more places than this nothing is read ahead.
-const MANY: usize = 0x4000;
+const MANY: usize = 0x8000;
 
 /// How far the places have been gone over.
 #[derive(Drop)]

@@ -33,7 +33,12 @@ impl<'t, T: Copy + Drop, A: Allocator + Copy> Walked<'t, T, A> {
 pub(crate) fn count_branches<T: Copy + Drop, A: Allocator>(branch: &Branch<T, A>) -> usize {
     let mut count: usize = 1;
     for child in branch.children() {
-        count = count.saturating_add(count_branches(child));
+        let below = if child.children().is_empty() {
+            1
+        } else {
+            count_branches(child)
+        };
+        count = count.saturating_add(below);
     }
     count
 }

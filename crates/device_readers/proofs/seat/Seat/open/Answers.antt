@@ -1,4 +1,4 @@
-use Rattle.std.proofs.Common.{rules, sym, subst, refl, Result, Ok, Err}
+use Rattle.std.proofs.Common.{rules, sym, subst, refl, Result, Ok}
 use Rattle.fuse_answer.specs.Puts.{sourced_by}
 use Rattle.fuse_device.specs.Ends.{ends}
 use Rattle.serve_core.specs.declared.stop.Stop.{Stop}
