@@ -1,6 +1,7 @@
 -- Places numbered one after another. IsNumbered is the loop over visits: it begins with none, and a
 -- visit has a place with a number (was_known) or a new one (is_new). The first place of its key
--- tells which of the two it is, and the number (taken_from_first).
+-- tells which of the two it is, and the number (taken_from_first). Where each visit's place is new,
+-- the numbers are those from 1 on (numbered_apart).
 use Rattle.std.proofs.Common.{◌≡◌, ◌≢◌, ◌∙◌, sym, ap, subst, ℕ, zero, suc, ◌+◌, ◌-◌, ◌^◌, ◌<◌, ◌≤◌, ◌⊎◌, inl, inr, List, [], ◌∷◌, ◌++◌, length, take, get_or, map, refl, arith, Bool, true, false, cond, Option, Some, None, IsSome, get_or-set_other, get_or-set_same, length-set}
 use Rattle.std.specs.Prelude.{slice_get, slice_index, slice_set, fold, nat_eq, min, count_by}
 use Rattle.std.specs.List.{list_any, position_from}
