@@ -504,7 +504,8 @@ module _ (visits : List (Visit Entry)) (keys firsts : List ℕ) (are : AreKeys v
           record { is = is; positive = b.0; counted = b.1 }
 
 -- what is held of branches apart is told by how many they are
-pub apart_told : {A : Type 0} {form : Form A} {told : Numbering} (n : ℕ) → form ≡ Apart n → numbering_of form ≡ told → numbers_apart n ≡ told
+pub apart_told : {A : Type 0} {form : Form A} {told : Numbering} (n : ℕ) → form ≡ Apart n → numbering_of form ≡ told
+    → numbers_apart n ≡ told
 apart_told n is view = sym (ap numbering_of is) ∙ view
 
 module _ {told : Numbering} (n : ℕ) (is : numbers_apart n ≡ told) where

@@ -24,7 +24,8 @@ returns-in_err-session g c =
     let within = bounds c.args.terms.now.turns c.args.counted in
     let old = seat (slice_index_or c.args.seats.now 0 c.index-seats-0.result) in
     let opened = subst (λ r. HasOpened first (shared by within) old (seat c.open.new.self) r) c.in_err-session.was c.open.ensures in
-    subst (λ r. AreServedBy first (shared by within) (map seat c.args.seats.now) (map seat (slice_set c.args.seats.now 0 c.open.new.self)) r)
+    let all = map seat (slice_set c.args.seats.now 0 c.open.new.self) in
+    subst (λ r. AreServedBy first (shared by within) (map seat c.args.seats.now) all r)
     (sym c.from_residual.ensures)
     (served_by_one first by within seat c.args.seats.now c.index-seats-0.result c.open.new.self c.requires.some opened)
 

@@ -13,8 +13,8 @@ loop-child-preserved g c =
     let tell = number_among c.args.walk.now.visits.items in
     let lt : c.loop-child.child-index < length c.args.children.now = omega arith in
     let nm : c.in_ok-name.name ≡ c.child-item.result.name = c.in_ok-name.ensures in
-    let f = follows tell c.args.numbered.now.numbers c.args.walk.now.sizes.items c.loop-child.at c.args.children.now c.loop-child.child-index
-    c.child-item.result lt c.child-item.is c.loop-child.invariant.1 in
+    let f = follows tell c.args.numbered.now.numbers c.args.walk.now.sizes.items c.loop-child.at c.args.children.now
+    c.loop-child.child-index c.child-item.result lt c.child-item.is c.loop-child.invariant.1 in
     let number : ℕ = c.number-number.result in
     let line : Line = record { number = number; name = c.in_ok-name.name } in
     let is : line ≡ line_in tell c.child-item.result = ap (λ (n : ℕ). record { number = n; name = c.in_ok-name.name })
