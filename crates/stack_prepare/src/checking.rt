@@ -16,19 +16,17 @@ use romfs_check::CheckFault;
 use romfs_format::Profile;
 use std::alloc::{AllocError, Allocator};
 use std::thread::{Threads, join};
-use work_gate::{Gate, Work};
+use work_gate::{Gate, Work, forks};
 
 /// What is kept of an image: its accessible bytes, whole or some, and its rows of attributes where
 /// the profile reads them.
 pub(crate) type Seen<I, A> = (I, Rows<A>);
 
-/// How many times a list is cut into halves that are checked at the same time.
-const FORKS: u32 = 4;
-
 /// The images, checked by the rules of a profile, in their order.
 ///
 /// `Layer` names the lowest image that breaks a rule, counted from 0, and its fault. The gate is
-/// passed before each check. At most 16 parts of a list are checked at the same time.
+/// passed before each check. As many parts of a list are checked at the same time as there are
+/// processors, 16 at most ([`forks`]).
 ///
 /// It asks for 1 to 128 images.
 pub(crate) fn check_all<
@@ -50,7 +48,7 @@ where
         AreSeen profile (map U.bytes images.items) (map (seen_by U.accessible) seen.items)) }
     ensures err { IfErr result (AreRefused profile (map U.bytes images.items)) }
 {
-    check_from(rt, alloc, 0, images, profile, gate, FORKS)
+    check_from(rt, alloc, 0, images, profile, gate, forks(rt))
 }
 
 /// A run of images, of which the lowest has the number `first`, checked: its halves at the same

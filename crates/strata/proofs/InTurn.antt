@@ -233,14 +233,14 @@ module _ {A : Type 0} {first : Session} {by : Sourced} where
 
   -- the fault that sessions end with is that of one of them, or that no client could be accepted
   pub of_sessions : {clients : Accepting} (count : ℕ) (fault : Fault) → AreServed A first by count (Some fault) clients
-      → (fault ≡ Accept) ⊎ ((number : ℕ) × (stop : Stop) × (fault ≡ InSession number stop) × (t : Trace) × IsSession {A = A} first by t
+      → (fault ≡ Accept) ⊎ ((number : ℕ) × (stop : Stop) × (fault ≡ InSession number stop) × (t : Trace) × IsSession {A = A} first by 0 t
       (Err stop))
   of_sessions count fault a =
       elim a.ends [
         | inl e ↦
             let at = stopped_first fault 1 a.served (sym e.1) in
             let s = at.3.stopped in
-            inr (at.0, at.1, at.2, s.trace, subst (λ r. IsSession first by s.trace r) at.3.result_is s.is)
+            inr (at.0, at.1, at.2, s.trace, subst (λ r. IsSession first by 0 s.trace r) at.3.result_is s.is)
         | inr e ↦ inl (cc)
       ]
 
@@ -282,25 +282,25 @@ module _ {A : Type 0} {first : Session} {by : Sourced} where
       ]
 
   -- a session that was served to its end met it once, and neither side of it failed
-  pub met_its_end : (t : Trace) (done : Done A) → IsSession first by t (Ok done) → HasMetItsEnd t
-  met_its_end t done s =
-      let counted = subst (IsCounted MAX_TURNS t) (ended_well done s.run.ended s.run.result_is) s.run.run.counted in
+  pub met_its_end : (counted : ℕ) (t : Trace) (done : Done A) → IsSession first by counted t (Ok done) → HasMetItsEnd t
+  met_its_end counted t done s =
+      let told = subst (IsCounted MAX_TURNS t) (ended_well done s.run.ended s.run.result_is) s.run.run.counted in
       record {
-        ends = counted.ends ∙ ap (λ (p : Pulls). p.ends + 1) s.first_pull;
-        reads = counted.read ∙ ap (λ (p : Pulls). p.failures + 0) s.first_pull;
-        writes = counted.write ∙ ap (λ (p : Pushes). p.failures + 0) s.first_push;
+        ends = told.ends ∙ ap (λ (p : Pulls). p.ends + 1) s.first_pull;
+        reads = told.read ∙ ap (λ (p : Pulls). p.failures + 0) s.first_pull;
+        writes = told.write ∙ ap (λ (p : Pushes). p.failures + 0) s.first_push;
       }
 
   -- one that a failed read or write ended counts that one failure
-  pub failed_to_read : (t : Trace) → IsSession {A = A} first by t (Err Read) → t.source.failures ≡ 1
-  failed_to_read t s =
-      let counted = subst (IsCounted MAX_TURNS t) (read_told s.run.ended s.run.result_is) s.run.run.counted in
-      counted.read ∙ ap (λ (p : Pulls). p.failures + 1) s.first_pull
+  pub failed_to_read : (counted : ℕ) (t : Trace) → IsSession {A = A} first by counted t (Err Read) → t.source.failures ≡ 1
+  failed_to_read counted t s =
+      let told = subst (IsCounted MAX_TURNS t) (read_told s.run.ended s.run.result_is) s.run.run.counted in
+      told.read ∙ ap (λ (p : Pulls). p.failures + 1) s.first_pull
 
-  pub failed_to_write : (t : Trace) → IsSession {A = A} first by t (Err Write) → t.sink.failures ≡ 1
-  failed_to_write t s =
-      let counted = subst (IsCounted MAX_TURNS t) (write_told s.run.ended s.run.result_is) s.run.run.counted in
-      counted.write ∙ ap (λ (p : Pushes). p.failures + 1) s.first_push
+  pub failed_to_write : (counted : ℕ) (t : Trace) → IsSession {A = A} first by counted t (Err Write) → t.sink.failures ≡ 1
+  failed_to_write counted t s =
+      let told = subst (IsCounted MAX_TURNS t) (write_told s.run.ended s.run.result_is) s.run.run.counted in
+      told.write ∙ ap (λ (p : Pushes). p.failures + 1) s.first_push
 
 -- what the status of sessions tells, whatever they end with
 pub sessions_tell : (A : Type 0) (first : Session) (by : Sourced) (count status : ℕ) (clients : Accepting)

@@ -26,7 +26,7 @@ use Rattle.strata.specs.declared.faults.Fault.{Fault}
 use Rattle.strata.specs.declared.faults.Fault.TheVariants.{ImageFile, RequestsFile, RepliesFile, BalancesFile, Bind, Accept, Broken, InSession, Stopped}
 use Rattle.strata.specs.Faults.{status_of, stop_status, out_of_memory, line_told_of}
 use Rattle.strata.specs.Images.{profile_of}
-use Rattle.strata.specs.Ending.{first_of, IsStoppedOver, IsDone, EndsInFault, EndsWith, IsOver, IsOverWith, IsRunOf}
+use Rattle.strata.specs.Ending.{counted_of, first_of, IsStoppedOver, IsDone, EndsInFault, EndsWith, IsOver, IsOverWith, IsRunOf}
 use Rattle.strata.specs.Laws.{AreBad, AreToBlame}
 use Rattle.strata.specs.Sessions.{IsSession, status_at}
 use Rattle.strata.proofs.Blames.{stop_of}
@@ -144,16 +144,16 @@ refused_bad profile images (refusals.Layer layer fault) r e =
 refused_bad profile images refusals.Memory r e = absurd (five_is_more e)
 
 -- no session is stopped for images
-session_less : {A : Type 0} (first : Session) (by : Sourced) (t : Trace) (stop : Stop) → IsSession {A = A} first by t (Err stop)
-    → stop_status stop ≢ 3
-session_less first by t (stops.Layers count) s e = never_many count s.run.ended s.run.result_is
-session_less first by t (stops.Layer layer fault) s e = never_broken layer fault s.run.ended s.run.result_is
-session_less first by t stops.Memory s e = five_is_more e
-session_less first by t (stops.BadLength at len) s e = four_is_more e
-session_less first by t (stops.CutOff at) s e = four_is_more e
-session_less first by t stops.Read s e = one_is_less e
-session_less first by t stops.Write s e = one_is_less e
-session_less first by t stops.Turns s e = four_is_more e
+session_less : {A : Type 0} (first : Session) (by : Sourced) (counted : ℕ) (t : Trace) (stop : Stop)
+    → IsSession {A = A} first by counted t (Err stop) → stop_status stop ≢ 3
+session_less first by counted t (stops.Layers count) s e = never_many count s.run.ended s.run.result_is
+session_less first by counted t (stops.Layer layer fault) s e = never_broken layer fault s.run.ended s.run.result_is
+session_less first by counted t stops.Memory s e = five_is_more e
+session_less first by counted t (stops.BadLength at len) s e = four_is_more e
+session_less first by counted t (stops.CutOff at) s e = four_is_more e
+session_less first by counted t stops.Read s e = one_is_less e
+session_less first by counted t stops.Write s e = one_is_less e
+session_less first by counted t stops.Turns s e = four_is_more e
 
 work_bad : (A : Type 0) (verb : Verb) (line : Line) (images : List (List ℕ)) (fault : Fault) (old new : Devices)
     → IsStoppedOver A verb line images fault old new → status_of fault ≡ 3 → AreBad (profile_of line) images
@@ -166,7 +166,7 @@ work_bad A verbs.Serve line images fault old new s e =
       ]
       | inr (inl r) ↦ refused_bad (profile_of line) images r.0.refusal r.0.refused
           (three_of fault (Stopped (stop_of_refusal r.0.refusal)) r.0.told e)
-      | inr (inr (inl p)) ↦ absurd (session_less (first_of line) p.by p.trace p.stop p.serving.session
+      | inr (inr (inl p)) ↦ absurd (session_less (first_of line) p.by (counted_of line p.by) p.trace p.stop p.serving.session
           (three_of fault (Stopped p.stop) p.told e))
       | inr (inr (inr b)) ↦ elim b.told [
         | inl w ↦ absurd (one_is_less (three_of fault (Stopped stops.Write) w e))
@@ -180,7 +180,7 @@ work_bad A verbs.Socket line images fault old new s e =
       | inr (inl b) ↦ absurd (one_is_less (three_of fault Bind b.told e))
       | inr (inr served) ↦ elim (of_sessions {A = A} line.sessions fault served.served) [
         | inl accept ↦ absurd (one_is_less (three_of fault Accept accept e))
-        | inr s ↦ absurd (session_less (first_of line) served.by s.3 s.1 s.4 (three_of fault (InSession s.0 s.1) s.2 e))
+        | inr s ↦ absurd (session_less (first_of line) served.by 0 s.3 s.1 s.4 (three_of fault (InSession s.0 s.1) s.2 e))
       ]
     ]
 work_bad A verbs.Check line images fault old new s e =

@@ -1,5 +1,5 @@
 -- What a command leaves behind: its status, and what its output gained.
-use Rattle.std.specs.Prelude.{◌≡◌, ◌≢◌, ◌<◌, ◌+◌, ◌⊎◌, ◌||◌, ℕ, List, true, Option, Some, None, is_some, vec_len, Result, Ok, Err, OnOk, if◌then◌else◌}
+use Rattle.std.specs.Prelude.{◌≡◌, ◌≢◌, ◌<◌, ◌+◌, ◌⊎◌, ◌||◌, ℕ, List, true, Option, Some, None, is_some, length, vec_len, Result, Ok, Err, OnOk, if◌then◌else◌}
 use Rattle.std.specs.Io.KnownBytes.{Appends, Consumes, IsAtEnd}
 use Rattle.romfs_format.specs.declared.rule.Profile.{Profile}
 use Rattle.node_attr.specs.declared.owner.TheConstants.Owner.{ROOT}
@@ -7,6 +7,7 @@ use Rattle.devices.specs.Counting.{no_pulls, no_pushes, no_accepts}
 use Rattle.devices.specs.Pushing.{HasFlushed, GainsFront}
 use Rattle.devices.specs.States.{SourceState, SinkState, Devices}
 use Rattle.stack_model.specs.Listing.{Stacked}
+use Rattle.stack_model.specs.Numbers.{nodes}
 use Rattle.serve_core.specs.declared.stop.Stop.{Stop}
 use Rattle.serve_loop.specs.declared.done.Done.{Done}
 use Rattle.stack_prepare.specs.declared.refusal.Refusal.{Refusal}
@@ -35,6 +36,11 @@ use Rattle.strata.specs.Sessions.{Accepting, AreServed, status_at, IsSession}
 -- told that the tree never changes
 abbrev pub first_of : Line → Session
 first_of line = if line.lasting || line.device then LastingFresh else Fresh
+
+-- of how many of the first nodes its lookups are counted: of all where the line names a file for
+-- their balances, else of none
+abbrev pub counted_of : Line → Sourced → ℕ
+counted_of line by = if is_some line.balances then length (nodes by.stack.entries) else 0
 
 -- the devices that a command is run between were not used before
 pub record AreNew (devices : Devices) : Type 0 where
@@ -149,7 +155,7 @@ pub record GetsReplies {F : Type 0} (file : Option F) (t : Trace)
 -- and its replies went to the output, but where the line names a file in place of one of them
 pub record IsServing {A : Type 0} (line : Line) (by : Sourced) (t : Trace)
     (result : Result (Done A) Stop) (old new : Devices) : Type 0 where
-  pub session : IsSession (first_of line) by t result
+  pub session : IsSession (first_of line) by (counted_of line by) t result
   pub asks : Asks line.requests t result old.source new.source
   pub gains : GetsReplies line.replies t old.sink new.sink
 

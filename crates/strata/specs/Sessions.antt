@@ -8,24 +8,24 @@ use Rattle.reply_model.specs.Readings.{Sourced}
 use Rattle.serve_core.specs.declared.stop.Stop.{Stop}
 use Rattle.serve_loop.specs.declared.done.Done.{Done}
 use Rattle.serve_loop.specs.Serving.{Trace}
-use Rattle.serve_core.specs.Headline.{IsRunFrom}
+use Rattle.serve_core.specs.Headline.{IsRunWithin, bounds}
 use Rattle.strata.specs.declared.faults.Fault.{Fault}
 use Rattle.strata.specs.declared.faults.Fault.TheVariants.{Accept, InSession}
 use Rattle.strata.specs.Faults.{status_of}
 
 -- a session was served over a stack and the sources of its data, between devices that were new, as
--- a stream of its own
-pub record IsSession {A : Type 0} (first : Session) (by : Sourced) (t : Trace)
+-- a stream of its own, and lookups were counted of so many of the first nodes
+pub record IsSession {A : Type 0} (first : Session) (by : Sourced) (counted : ℕ) (t : Trace)
     (result : Result (Done A) Stop) : Type 0 where
-  pub run : IsRunFrom first by MAX_TURNS t result
+  pub run : IsRunWithin first by (bounds MAX_TURNS counted) t result
   pub first_pull : t.source_before ≡ no_pulls
   pub first_push : t.sink_before ≡ no_pushes
 
--- a session: what it did, and how it ended
+-- a session at a socket: what it did, and how it ended. No lookups are counted
 pub record ServedSession (A : Type 0) (first : Session) (by : Sourced) : Type 0 where
   pub trace : Trace
   pub result : Result (Done A) Stop
-  pub is : IsSession first by trace result
+  pub is : IsSession first by 0 trace result
 
 -- the fault of the session with this number, if it stopped
 abbrev pub fault_of : {A : Type 0} → ℕ → Result (Done A) Stop → Option Fault

@@ -14,7 +14,7 @@ ghost use Rattle.strata.specs.Sessions.{accepting, fault_of, status_at, EndWith,
 use crate::faults::Fault;
 use devices::{Clients, Listening, Spout, Tap};
 use image_bytes::Contents;
-use serve_core::{Done, FreePass, MAX_TURNS, Plan, Served, Session, Stop, Terms, run_from};
+use serve_core::{Done, FreePass, MAX_TURNS, Plan, Served, Session, Stop, Terms, run_counting};
 use std::alloc::Allocator;
 use std::io::Write;
 use std::os::unix::net::{UnixListener, UnixStream};
@@ -54,8 +54,8 @@ pub fn sessions<R: Threads + Sync, A: Allocator + Copy + Send + Sync, E: Write>(
 }
 
 /// The same of any clients, over a table and its files, in streams that begin in the session
-/// `first`, as [`serve_core::run_from`] serves them. A session is one client, and none but these is
-/// accepted.
+/// `first`, as [`serve_core::run_counting`] serves them; no lookups are counted. A session is one
+/// client, and none but these is accepted.
 pub fn sessions_from<
     R: Threads + Sync,
     A: Allocator + Copy + Send + Sync,
@@ -139,7 +139,7 @@ fn serve_client<R: Threads + Sync, A: Allocator + Copy + Send + Sync, D: Content
     client: UnixStream,
     plan: Plan,
 ) -> Result<Done<A>, Stop>
-    ensures { (t : Trace) × IsSession first (sourced_by D.source served.entry) t result }
+    ensures { (t : Trace) × IsSession first (sourced_by D.source served.entry) 0 t result }
 {
     let mut source = Tap::new(&client);
     let mut sink = Spout::new(&client);
@@ -149,5 +149,6 @@ fn serve_client<R: Threads + Sync, A: Allocator + Copy + Send + Sync, D: Content
         turns: MAX_TURNS,
         gate: &FreePass,
     };
-    run_from(rt, alloc, served, &mut source, &mut sink, &terms)
+    // nobody asks for the balances of a session
+    run_counting(rt, alloc, served, &mut source, &mut sink, &terms, 0)
 }

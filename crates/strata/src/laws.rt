@@ -67,12 +67,12 @@ pub fn sessions_tell<A: Allocator>()
 /// A session counts by itself: one that was served whole met its end once, and nothing failed; one
 /// that a failed read or write stopped has that one failure.
 pub fn sessions_begin_anew<A: Allocator>()
-    ensures whole { (first : Session) (by : Sourced) (t : Trace) (done : Done A) →
-        IsSession first by t (Ok done) → HasMetItsEnd t }
-    ensures read { (first : Session) (by : Sourced) (t : Trace) →
-        IsSession {A = A} first by t (Err Read) → t.source.failures ≡ 1 }
-    ensures write { (first : Session) (by : Sourced) (t : Trace) →
-        IsSession {A = A} first by t (Err Write) → t.sink.failures ≡ 1 }
+    ensures whole { (first : Session) (by : Sourced) (counted : ℕ) (t : Trace) (done : Done A) →
+        IsSession first by counted t (Ok done) → HasMetItsEnd t }
+    ensures read { (first : Session) (by : Sourced) (counted : ℕ) (t : Trace) →
+        IsSession {A = A} first by counted t (Err Read) → t.source.failures ≡ 1 }
+    ensures write { (first : Session) (by : Sourced) (counted : ℕ) (t : Trace) →
+        IsSession {A = A} first by counted t (Err Write) → t.sink.failures ≡ 1 }
 {}
 
 /// Over an open `/dev/fuse` a status other than 0 means what it means over streams; and where the

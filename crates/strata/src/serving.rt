@@ -6,7 +6,7 @@ ghost use Rattle.devices.specs.States.{Devices, devices};
 ghost use Rattle.command_line.specs.CommandLine.{IsInLimits};
 ghost use Rattle.fuse_answer.specs.Puts.{sourced_by};
 ghost use Rattle.serve_loop.specs.Serving.{Trace, Does};
-ghost use Rattle.strata.specs.Ending.{first_of, AreNamed, AreNew, Gave, GetsReplies, IsFileFault, IsServing, IsServedWhole, IsNotServed};
+ghost use Rattle.strata.specs.Ending.{counted_of, first_of, AreNamed, AreNew, Gave, GetsReplies, IsFileFault, IsServing, IsServedWhole, IsNotServed};
 ghost use Rattle.strata.specs.Images.{ArePrepared, HaveSources, are_whole, bytes_of, sources_of};
 ghost use Rattle.strata.specs.Sessions.{IsSession};
 
@@ -15,11 +15,11 @@ use crate::faults::Fault;
 use crate::files::{create_named, open_requests};
 use crate::images::LineImages;
 use crate::preparing::prepare;
-use crate::settings::{first_of, plan_of};
+use crate::settings::{counted_of, first_of, plan_of};
 use command_line::Line;
 use devices::{Sink, Source, Spout, Tap};
 use image_bytes::Contents;
-use serve_core::{Done, FreePass, MAX_TURNS, Served, Stop, Terms, run_from};
+use serve_core::{Done, FreePass, MAX_TURNS, Served, Stop, Terms, run_counting};
 use std::alloc::Allocator;
 use std::fs::Files;
 use std::io::{Read, Write};
@@ -184,7 +184,8 @@ fn serve_source<
     requires limits { IsInLimits line.now }
     requires new { AreNew (devices (S.state source.old) (K.state output.old)) }
     ensures { (t : Trace)
-        × IsSession (first_of line.now) (sourced_by D.source served.entry) t result
+        × IsSession (first_of line.now) (sourced_by D.source served.entry)
+        (counted_of line.now (sourced_by D.source served.entry)) t result
         × Gave t result (S.state source.old) (S.state source.new)
         × GetsReplies replies t (K.state output.old) (K.state output.new) }
 {
@@ -212,7 +213,8 @@ fn serve_between<
     requires limits { IsInLimits line.now }
     requires new { AreNew (devices (S.state source.old) (K.state sink.old)) }
     ensures run { Does (λ t.
-        IsSession (first_of line.now) (sourced_by D.source served.entry) t result)
+        IsSession (first_of line.now) (sourced_by D.source served.entry)
+        (counted_of line.now (sourced_by D.source served.entry)) t result)
         (devices (S.state source.old) (K.state sink.old))
         (devices (S.state source.new) (K.state sink.new)) }
     ensures end { OnOk result (IsAtEnd (S.state source.new).left) }
@@ -223,5 +225,6 @@ fn serve_between<
         turns: MAX_TURNS,
         gate: &FreePass,
     };
-    run_from(rt, alloc, served, source, sink, &terms)
+    let counted = counted_of(line, served);
+    run_counting(rt, alloc, served, source, sink, &terms, counted)
 }

@@ -6,7 +6,8 @@
 use crate::refusing::Refusing;
 use std::alloc::Global;
 use std::sync::atomic::{AtomicU64, Ordering};
-use work_gate::{Gate, Work};
+use std::thread::Threads;
+use work_gate::{Gate, Work, forks};
 
 /// Turns of a gate: more than any schedule takes, where another worker is there.
 pub const MANY: u32 = 1 << 30;
@@ -106,11 +107,17 @@ impl Holding {
     }
 }
 
-/// Counts the pieces of one kind of work that are under way: each is held until 16 are, for 2^30
-/// turns at most, and then until 17 are, for 2^18.
+/// How many parts of a long list of layers are worked on at the same time.
+pub fn parts_of_layers<R: Threads>(rt: &R) -> u64 {
+    1 << forks(rt)
+}
+
+/// Counts the pieces of one kind of work that are under way: each is held until so many are, for
+/// 2^30 turns at most, and then until one more is, for 2^18.
 #[derive(Drop)]
 pub struct Crowd {
     work: Work,
+    parts: u64,
     inside: AtomicU64,
     most: AtomicU64,
     begun: AtomicU64,
@@ -122,18 +129,19 @@ impl Gate for Crowd {
             self.begun.fetch_add(1, Ordering::SeqCst);
             let inside = self.inside.fetch_add(1, Ordering::SeqCst).saturating_add(1);
             self.most.fetch_max(inside, Ordering::SeqCst);
-            self.hold(16, MANY);
-            self.hold(17, 1 << 18);
+            self.hold(self.parts, MANY);
+            self.hold(self.parts.saturating_add(1), 1 << 18);
             self.inside.fetch_sub(1, Ordering::SeqCst);
         }
     }
 }
 
 impl Crowd {
-    /// Nothing of this work is under way yet.
-    pub fn new(work: Work) -> Self {
+    /// Nothing of this work is under way yet. So many parts are to be at one time.
+    pub fn new(work: Work, parts: u64) -> Self {
         Self {
             work,
+            parts,
             inside: AtomicU64::new(0),
             most: AtomicU64::new(0),
             begun: AtomicU64::new(0),

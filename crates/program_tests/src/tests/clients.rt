@@ -73,11 +73,11 @@ fn no_session_follows_where_no_client_is_accepted(rt: HostRuntime) -> Result<(),
 }
 
 /// What two sessions tell where the request for memory with this number is refused, of which each
-/// makes three: for its balances, its replies and the buffer.
+/// makes two: for its replies and the buffer.
 fn told_at(refuse_at: u64) -> (u8, &'static [u8]) {
     match refuse_at {
-        1..=3 => (5, b"session 1: out of memory\n"),
-        4..=6 => (5, b"session 2: out of memory\n"),
+        1..=2 => (5, b"session 1: out of memory\n"),
+        3..=4 => (5, b"session 2: out of memory\n"),
         _ => (0, b""),
     }
 }
@@ -94,8 +94,8 @@ fn is_refused<R: Files + Net + Threads + Sync>(rt: &R, memories: &Memories) -> O
     let are_served = are_served(rt, global, plain, refusing, &listener, 2, told);
     drop(listener);
     let (first, second) = (read_of(global, first), read_of(global, second));
-    let is_first_whole = refuse_at <= 3 || first == Some(1531);
-    let is_second_whole = (4 <= refuse_at && refuse_at <= 6) || second == Some(1531);
+    let is_first_whole = refuse_at <= 2 || first == Some(1531);
+    let is_second_whole = (3 <= refuse_at && refuse_at <= 4) || second == Some(1531);
     Some(are_served == Some(true) && is_first_whole && is_second_whole)
 }
 
@@ -104,5 +104,5 @@ fn refused_memory_ends_its_session(rt: HostRuntime) {
     let requests = refuse_in_turn(rt.alloc(), |memories| {
         is_refused(&rt, memories) == Some(true)
     });
-    assert_eq!(rt; requests, Ok(6));
+    assert_eq!(rt; requests, Ok(4));
 }

@@ -7,7 +7,7 @@ use std::alloc::Global;
 use std::test::Fail;
 use std::thread::Threads;
 use table_reader::Table;
-use test_kit::gates::{Crowd, Holding, MANY, Recording};
+use test_kit::gates::{Crowd, Holding, MANY, Recording, parts_of_layers};
 use test_kit::long::{Long, stream};
 use test_kit::sample_images::{alone, empties, sample};
 use test_kit::script::script;
@@ -40,12 +40,13 @@ fn the_lowest_check_waits_for_the_next(rt: HostRuntime) {
     assert!(rt; nodes == Some(6) && !gate.is_given_up());
 }
 
-/// Checks of 128 images: of no more than 16 parts at a time.
+/// Checks of 128 images: of no more parts at a time than 16 or, on fewer processors, these.
 #[test]
-fn sixteen_parts_are_checked_at_a_time(rt: HostRuntime) {
-    let gate = Crowd::new(Work::Check);
+fn some_parts_are_checked_at_a_time(rt: HostRuntime) {
+    let parts = parts_of_layers(&rt);
+    let gate = Crowd::new(Work::Check, parts);
     let nodes = nodes_over(&rt, rt.alloc(), 128, false, &gate);
-    assert!(rt; nodes == Some(1) && gate.seen() == (128, 16));
+    assert!(rt; nodes == Some(1) && gate.seen() == (128, parts) && parts <= 16);
 }
 
 #[test]

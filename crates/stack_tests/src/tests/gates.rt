@@ -1,4 +1,5 @@
-//! Trees of layers are made at the same time, but of no more than 16 parts, each after its gate.
+//! Trees of layers are made at the same time, but of no more parts than there are processors, nor
+//! than 16, each after its gate.
 
 use super::stacks::wrong_of;
 use romfs_image::Image;
@@ -6,7 +7,7 @@ use stack_core::{Gate, Work, stack};
 use std::alloc::Global;
 use std::test::Fail;
 use std::thread::Threads;
-use test_kit::gates::{Crowd, Holding, MANY, Noting, Recording};
+use test_kit::gates::{Crowd, Holding, MANY, Noting, Recording, parts_of_layers};
 use test_kit::refusing::Refusing;
 use test_kit::sample_images::layers;
 
@@ -43,10 +44,11 @@ const LAYERS: &str = "\
 +++++++++++++++++++++++++++++++++++++++++++++++++++++++++++++++";
 
 #[test]
-fn sixteen_parts_are_stacked_at_a_time(rt: HostRuntime) {
-    let gate = Crowd::new(Work::Tree);
+fn some_parts_are_stacked_at_a_time(rt: HostRuntime) {
+    let parts = parts_of_layers(&rt);
+    let gate = Crowd::new(Work::Tree, parts);
     let wrong = wrong_of(&rt, rt.alloc(), (LAYERS, "", "7d."), &gate);
-    assert!(rt; wrong == Ok(None) && gate.seen() == (128, 16));
+    assert!(rt; wrong == Ok(None) && gate.seen() == (128, parts) && parts <= 16);
 }
 
 /// Whether these layers have a tree that shows something.

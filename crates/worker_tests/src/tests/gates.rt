@@ -111,7 +111,7 @@ fn sixteen_workers_answer_a_stream(rt: HostRuntime) -> Result<(), Fail> {
     let global = rt.alloc();
     let plan = Plan::new(16, 1).ok_or("a plan")?;
     let table = sample_table(&rt, global).ok_or("a table")?;
-    let gate = Crowd::new(Work::Batch);
+    let gate = Crowd::new(Work::Batch, 16);
     let spread = spreads(&rt, global, &table, plan, &gate);
     drop(table);
     assert!(rt; spread? && gate.seen() == (24, 16));

@@ -1,0 +1,25 @@
+//! How often a list of work is cut in two.
+
+ghost use Rattle.std.specs.Prelude.{◌≤◌};
+ghost use Rattle.work_gate.specs.declared.limits.TheConstants.{MAX_FORKS};
+
+use crate::limits::MAX_FORKS;
+use std::thread::{Threads, available_parallelism};
+
+/// How often a list is cut into halves that are worked on at the same time: as often as gives each
+/// processor a part, once at least, and four times at most. To start a thread takes about as long
+/// as a small layer, so more parts than processors only cost time and memory.
+pub fn forks<R: Threads>(rt: &R) -> u32
+    ensures { (1 ≤ result) × (result ≤ MAX_FORKS) }
+{
+    let processors = match available_parallelism(rt) {
+        Ok(count) => count.get(),
+        Err(_) => 1,
+    };
+    match processors {
+        0..=2 => 1,
+        3..=4 => 2,
+        5..=8 => 3,
+        _ => MAX_FORKS,
+    }
+}
