@@ -40,9 +40,10 @@ INTERRUPTED = 130
 RELAYED_READ = "max_read=131072"
 # SIGHUP too, but not under nohup
 STOPPING = [signal.SIGINT, signal.SIGTERM] + [signal.SIGHUP] * (signal.getsignal(signal.SIGHUP) != signal.SIG_IGN)
-# what strata opens when it begins, besides its program and its libraries: the loader and its lists, and the standard ends;
-# python looks for open files in the last folder
-OPENED = ("/lib64/ld-linux-x86-64.so.2", "/etc/ld.so.preload", "/etc/ld.so.cache", "/dev/null", "/proc/self/fd")
+# what strata opens when it begins, besides its program and its libraries: the loader and its lists, the standard ends, and
+# what tells how many processors there are; python looks for open files in the last folder
+OPENED = ("/lib64/ld-linux-x86-64.so.2", "/etc/ld.so.preload", "/etc/ld.so.cache", "/dev/null",
+          "/sys/devices/system/cpu/online", "/sys/fs/cgroup/cpu.max", "/proc/self/fd")
 # as many links as the kernel follows on the way to a file
 LINKS_MOST = 40
 libc = ctypes.CDLL(None, use_errno=True)

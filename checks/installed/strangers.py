@@ -189,13 +189,13 @@ def over_itself(root):
     for place, needed in (("/usr/local", "/usr/local/bin/strata"), ("/usr/local/bin", "/usr/local/bin/strata"),
                           ("/usr/local/lib/strata", "/usr/local/lib/strata/mount.py"), ("/usr", "/usr/"),
                           ("/etc", "/etc/ld.so."), ("/dev", "/dev/null"), ("/proc", "/proc/self/fd"),
-                          ("/lib64", "/lib64/ld-linux-x86-64.so.2")):
+                          ("/sys", "/sys/devices/system/cpu/online"), ("/lib64", "/lib64/ld-linux-x86-64.so.2")):
         held_refused(root, place, NOT_MOUNTED, "%s" % needed, HELPER, LOWER, place)
         held_refused(root, place, NOT_MOUNTED, "strata needs this file, which lies in the folder", HELPER, LOWER, place)
     link = PLACE + "/link"
     os.symlink(LOWER, link)
     held_refused(root, "a link to an image", NOT_MOUNTED, link + ": this image lies in the folder", HELPER, link, PLACE)
-    return "a mount over strata's program, modules or libraries, /etc, /dev, /proc, or over a link to its image is refused"
+    return "a mount over strata's program, modules or libraries, /etc, /dev, /proc, /sys, or over a link to its image is refused"
 
 
 CHECKS = (ends, surroundings, odd_words, names, no_files, interrupted, over_itself)

@@ -42,6 +42,10 @@ first_of line = if line.lasting || line.device then LastingFresh else Fresh
 abbrev pub counted_of : Line → Sourced → ℕ
 counted_of line by = if is_some line.balances then length (nodes by.stack.entries) else 0
 
+-- a stream was served over a stack and its sources as a session of its own, as the line says
+abbrev pub IsSessionOf : {A : Type 0} → Line → Sourced → Trace → Result (Done A) Stop → Type 0
+IsSessionOf line by t result = IsSession (first_of line) by (counted_of line by) t result
+
 -- the devices that a command is run between were not used before
 pub record AreNew (devices : Devices) : Type 0 where
   pub pulls : devices.source.counts ≡ no_pulls
@@ -155,7 +159,7 @@ pub record GetsReplies {F : Type 0} (file : Option F) (t : Trace)
 -- and its replies went to the output, but where the line names a file in place of one of them
 pub record IsServing {A : Type 0} (line : Line) (by : Sourced) (t : Trace)
     (result : Result (Done A) Stop) (old new : Devices) : Type 0 where
-  pub session : IsSession (first_of line) by (counted_of line by) t result
+  pub session : IsSessionOf line by t result
   pub asks : Asks line.requests t result old.source new.source
   pub gains : GetsReplies line.replies t old.sink new.sink
 

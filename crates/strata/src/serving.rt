@@ -6,9 +6,8 @@ ghost use Rattle.devices.specs.States.{Devices, devices};
 ghost use Rattle.command_line.specs.CommandLine.{IsInLimits};
 ghost use Rattle.fuse_answer.specs.Puts.{sourced_by};
 ghost use Rattle.serve_loop.specs.Serving.{Trace, Does};
-ghost use Rattle.strata.specs.Ending.{counted_of, first_of, AreNamed, AreNew, Gave, GetsReplies, IsFileFault, IsServing, IsServedWhole, IsNotServed};
+ghost use Rattle.strata.specs.Ending.{AreNamed, AreNew, Gave, GetsReplies, IsFileFault, IsServing, IsServedWhole, IsSessionOf, IsNotServed};
 ghost use Rattle.strata.specs.Images.{ArePrepared, HaveSources, are_whole, bytes_of, sources_of};
-ghost use Rattle.strata.specs.Sessions.{IsSession};
 
 use crate::balances::tell_balances;
 use crate::faults::Fault;
@@ -184,8 +183,7 @@ fn serve_source<
     requires limits { IsInLimits line.now }
     requires new { AreNew (devices (S.state source.old) (K.state output.old)) }
     ensures { (t : Trace)
-        × IsSession (first_of line.now) (sourced_by D.source served.entry)
-        (counted_of line.now (sourced_by D.source served.entry)) t result
+        × IsSessionOf line.now (sourced_by D.source served.entry) t result
         × Gave t result (S.state source.old) (S.state source.new)
         × GetsReplies replies t (K.state output.old) (K.state output.new) }
 {
@@ -212,9 +210,7 @@ fn serve_between<
 ) -> Result<Done<A>, Stop>
     requires limits { IsInLimits line.now }
     requires new { AreNew (devices (S.state source.old) (K.state sink.old)) }
-    ensures run { Does (λ t.
-        IsSession (first_of line.now) (sourced_by D.source served.entry)
-        (counted_of line.now (sourced_by D.source served.entry)) t result)
+    ensures run { Does (λ t. IsSessionOf line.now (sourced_by D.source served.entry) t result)
         (devices (S.state source.old) (K.state sink.old))
         (devices (S.state source.new) (K.state sink.new)) }
     ensures end { OnOk result (IsAtEnd (S.state source.new).left) }
