@@ -11,7 +11,7 @@ use layer_tree::{Place, Tree, lay, tree_of};
 use romfs_reader::{Image, ImageView, views_of};
 use std::alloc::{AllocError, Allocator};
 use std::thread::{Threads, join};
-use work_gate::{Gate, Work, forks};
+use work_gate::{Gate, Work, forks_of};
 
 /// The tree of a list of layers, the lowest first, as [`stack_views`] makes it of the images that
 /// are lent.
@@ -31,7 +31,7 @@ pub fn stack<R: Threads + Sync, A: Allocator + Copy + Send + Sync, G: Gate + Syn
 /// The tree of a list of layers, the lowest first.
 ///
 /// The list is cut in two, and so on, and as many parts are stacked at the same time as there are
-/// processors, 16 at most ([`forks`]). The gate is passed with `Work::Tree` and the layer's number
+/// processors, 16 at most ([`forks_of`]). The gate is passed with `Work::Tree` and the layer's number
 /// before its tree is made. Images are only read. A path that is in all of n layers is gone over
 /// log n times. `AllocError` comes only where memory was refused, in whichever thread.
 pub fn stack_views<R: Threads + Sync, A: Allocator + Copy + Send + Sync, G: Gate + Sync>(
@@ -44,7 +44,8 @@ pub fn stack_views<R: Threads + Sync, A: Allocator + Copy + Send + Sync, G: Gate
     requires few { length images.now ≤ MAX_LAYERS }
     ensures { IfOk result (λ tree. IsTreeOf 0 images.now tree) }
 {
-    stack_from(rt, alloc, 0, images, gate, forks(rt))
+    let forks = forks_of(rt, images.len());
+    stack_from(rt, alloc, 0, images, gate, forks)
 }
 
 /// Where the entry stands that a path shows; none where the path is not shown.

@@ -16,7 +16,7 @@ use romfs_check::CheckFault;
 use romfs_format::Profile;
 use std::alloc::{AllocError, Allocator};
 use std::thread::{Threads, join};
-use work_gate::{Gate, Work, forks};
+use work_gate::{Gate, Work, forks_of};
 
 /// What is kept of an image: its accessible bytes, whole or some, and its rows of attributes where
 /// the profile reads them.
@@ -26,7 +26,7 @@ pub(crate) type Seen<I, A> = (I, Rows<A>);
 ///
 /// `Layer` names the lowest image that breaks a rule, counted from 0, and its fault. The gate is
 /// passed before each check. As many parts of a list are checked at the same time as there are
-/// processors, 16 at most ([`forks`]).
+/// processors, 16 at most ([`forks_of`]).
 ///
 /// It asks for 1 to 128 images.
 pub(crate) fn check_all<
@@ -48,7 +48,8 @@ where
         AreSeen profile (map U.bytes images.items) (map (seen_by U.accessible) seen.items)) }
     ensures err { IfErr result (AreRefused profile (map U.bytes images.items)) }
 {
-    check_from(rt, alloc, 0, images, profile, gate, forks(rt))
+    let forks = forks_of(rt, images.len());
+    check_from(rt, alloc, 0, images, profile, gate, forks)
 }
 
 /// A run of images, of which the lowest has the number `first`, checked: its halves at the same

@@ -23,3 +23,10 @@ pub fn forks<R: Threads>(rt: &R) -> u32
         _ => MAX_FORKS,
     }
 }
+
+/// The same for a list of so many items. Of one or two nobody asks how many processors there are.
+pub fn forks_of<R: Threads>(rt: &R, items: usize) -> u32
+    ensures { (1 ≤ result) × (result ≤ MAX_FORKS) }
+{
+    if items <= 2 { 1 } else { forks(rt) }
+}

@@ -12,4 +12,4 @@ mod halving;
 pub mod limits;
 
 pub use gate::{FreePass, Gate, Work};
-pub use halving::forks;
+pub use halving::{forks, forks_of};
