@@ -5,12 +5,13 @@
 //! [`run`]. For every list of images, request stream, cutting of its pulls and [`Terms`], the bytes
 //! that are put are the definition's replies, one after another; or the images are refused, and no
 //! device is called. [`run_from`] serves over a table and the files of its layers: the data of a
-//! READ are then such as its layer's file may give, or the reply is EIO's. [`run_counting`] is that,
-//! and counts lookups of some nodes alone, or of none, as the program does. `_as` takes a profile of
-//! rules, and `_owned` an owner besides, of all that has no row of attributes. What serving
-//! promises at each end is said by `IsRun` in `serve_loop`'s `specs/Serving`, and over images by
-//! `ServesBetween` in `specs/Headline`; [`laws`] draw from it what each end means. [`Stop`] joins
-//! what the two halves tell: why images were refused, and why a stream was not served to its end.
+//! READ are then such as its layer's file may give, or the reply is EIO's. [`run_counting`] is
+//! that, and counts lookups of some nodes alone, or of none, as the program does. `_as` takes a
+//! profile of rules, and `_owned` an owner besides, of all that has no row of attributes. What
+//! serving promises at each end is said by `IsRun` in `serve_loop`'s `specs/Serving`, and over
+//! images by `ServesBetween` in `specs/Headline`; [`laws`] draw from it what each end means.
+//! [`Stop`] joins what the two halves tell: why images were refused, and why a stream was not
+//! served to its end.
 #![tactic(auto)]
 
 pub mod laws;

@@ -31,9 +31,9 @@ pub fn stack<R: Threads + Sync, A: Allocator + Copy + Send + Sync, G: Gate + Syn
 /// The tree of a list of layers, the lowest first.
 ///
 /// The list is cut in two, and so on, and as many parts are stacked at the same time as there are
-/// processors, 16 at most ([`forks_of`]). The gate is passed with `Work::Tree` and the layer's number
-/// before its tree is made. Images are only read. A path that is in all of n layers is gone over
-/// log n times. `AllocError` comes only where memory was refused, in whichever thread.
+/// processors, 16 at most ([`forks_of`]). The gate is passed with `Work::Tree` and the layer's
+/// number before its tree is made. Images are only read. A path that is in all of n layers is gone
+/// over log n times. `AllocError` comes only where memory was refused, in whichever thread.
 pub fn stack_views<R: Threads + Sync, A: Allocator + Copy + Send + Sync, G: Gate + Sync>(
     rt: &R,
     alloc: A,
