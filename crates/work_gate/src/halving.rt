@@ -1,6 +1,6 @@
 //! How often a list of work is cut in two.
 
-ghost use Rattle.std.specs.Prelude.{◌≤◌};
+ghost use Rattle.std.specs.Prelude.{◌≡◌, ◌≤◌, ◌<◌, ◌-◌, ◌^◌};
 ghost use Rattle.work_gate.specs.declared.limits.TheConstants.{MAX_FORKS};
 
 use crate::limits::MAX_FORKS;
@@ -12,21 +12,31 @@ use std::thread::{Threads, available_parallelism};
 pub fn forks<R: Threads>(rt: &R) -> u32
     ensures { (1 ≤ result) × (result ≤ MAX_FORKS) }
 {
-    let processors = match available_parallelism(rt) {
-        Ok(count) => count.get(),
+    match available_parallelism(rt) {
+        Ok(count) => forks_for(count.get()),
         Err(_) => 1,
-    };
+    }
+}
+
+/// The same for a list of so many items. Of one or two nobody asks how many processors there are.
+pub fn forks_of<R: Threads>(rt: &R, items: usize) -> u32
+    ensures range { (1 ≤ result) × (result ≤ MAX_FORKS) }
+    ensures two { items ≤ 2 → result ≡ 1 }
+{
+    if items <= 2 { 1 } else { forks(rt) }
+}
+
+// How often a list is cut for so many processors: so that each has a part, if that is not too
+// often, and once less would not be enough.
+fn forks_for(processors: usize) -> u32
+    ensures range { (1 ≤ result) × (result ≤ MAX_FORKS) }
+    ensures enough { result < MAX_FORKS → processors ≤ 2 ^ result }
+    ensures least { 1 < result → 2 ^ (result - 1) < processors }
+{
     match processors {
         0..=2 => 1,
         3..=4 => 2,
         5..=8 => 3,
         _ => MAX_FORKS,
     }
-}
-
-/// The same for a list of so many items. Of one or two nobody asks how many processors there are.
-pub fn forks_of<R: Threads>(rt: &R, items: usize) -> u32
-    ensures { (1 ≤ result) × (result ≤ MAX_FORKS) }
-{
-    if items <= 2 { 1 } else { forks(rt) }
 }
