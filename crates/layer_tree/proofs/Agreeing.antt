@@ -2,12 +2,11 @@
 -- its run does, and a header has one entry in a run (one_entry): so the two tell the same at each
 -- path.
 use Rattle.std.proofs.Common.{◌≡◌, ◌∙◌, sym, ap, subst, ℕ, List, refl, Option, Some, None, Bool, true, false}
-use Rattle.romfs_format.specs.declared.head.Kind.{Kind}
-use Rattle.romfs_format.specs.Fields.{kind}
+use Rattle.romfs_format.specs.Heads.{head_of}
 use Rattle.romfs_format.specs.Links.{IsFinal}
 use Rattle.stack_model.specs.Stack.{Path}
 use Rattle.whiteout_tree.specs.declared.place.Entry.{Entry}
-use Rattle.whiteout_tree.specs.Trees.{TreeRows, entry_at, cuts_at, IsEntryOf, IsTreeOf}
+use Rattle.whiteout_tree.specs.Trees.{TreeRows, entry_at, entry_of, cuts_at, IsEntryOf, IsTreeOf}
 use Rattle.layer_tree.proofs.Joining.{some_and}
 use Rattle.whiteout_tree.proofs.Listed.{one_end}
 
@@ -19,10 +18,9 @@ one_entry first layers i h e f w x =
     let b : w.end.0 ≡ x.end.0 = cc in
     let header : e.place.header ≡ f.place.header = one_end x.end.0 h _ _ (subst (λ a. IsFinal a h e.place.header) b w.end.2) x.end.2 in
     let layer : e.place.layer ≡ f.place.layer = w.layer ∙ sym x.layer in
-    let kinds : e.kind ≡ f.kind = w.end.3 ∙ ap (λ a. kind a e.place.header) b ∙ ap (kind x.end.0) header ∙ sym x.end.3 in
-    ap (λ (k : Kind). record { kind = k; place = e.place }) kinds
-    ∙ ap (λ (l : ℕ). record { kind = f.kind; place = record { layer = l; header = e.place.header } }) layer
-    ∙ ap (λ (p : ℕ). record { kind = f.kind; place = record { layer = f.place.layer; header = p } }) header
+    w.end.3 ∙ ap (λ l. entry_of l (head_of w.end.0 e.place.header)) layer
+    ∙ ap (λ a. entry_of f.place.layer (head_of a e.place.header)) b
+    ∙ ap (λ p. entry_of f.place.layer (head_of x.end.0 p)) header ∙ sym x.end.3
 
 module _ (first : ℕ) (layers : List (List ℕ)) (s t : TreeRows) (is : IsTreeOf first layers s) (it : IsTreeOf first layers t) where
   by_entry : (path : Path) (o p : Option Entry) → entry_at s path ≡ o → entry_at t path ≡ p → o ≡ p

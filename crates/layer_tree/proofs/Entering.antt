@@ -1,7 +1,7 @@
 -- The entry of a header, by where its hard links end. entered says which entry it is;
 -- directory_stays and no_directory say that directories end at themselves, and that nothing else
 -- ends at one.
-use Rattle.std.proofs.Common.{◌≡◌, ◌≢◌, ◌∙◌, sym, ap, subst, ℕ, inr, List}
+use Rattle.std.proofs.Common.{◌≡◌, ◌≢◌, sym, ap, subst, ℕ, inr, List, refl}
 use Rattle.romfs_format.specs.declared.head.Head.{Head}
 use Rattle.romfs_format.specs.declared.head.Kind.TheVariants.{Directory}
 use Rattle.romfs_format.specs.Fields.{kind}
@@ -11,6 +11,7 @@ use Rattle.romfs_reader.proofs.Keeps.{not_directory}
 use Rattle.romfs_reader.proofs.Given.{From, from_inside, hard_member}
 use Rattle.romfs_reader.specs.Readers.{IsGiven}
 use Rattle.whiteout_tree.specs.declared.place.Entry.{Entry}
+use Rattle.whiteout_tree.specs.Trees.{entry_of}
 use Rattle.layer_tree.specs.Reading.{IsEntryIn}
 
 -- no hard link leads on from a directory
@@ -24,12 +25,11 @@ no_directory a i h e from n (follows l f) = λ k. (
     let m = hard_member a i h from l in
     not_directory a i h (m, l, (e, follows l f, (from_inside a i e (inr (inr (h, m, follows l f))), k))))
 
--- an entry with the place and the kind of where a header ends is that header's
+-- the entry of where a header ends is that header's
 pub entered : (a : List ℕ) (layer h : ℕ) (end : Head) (entry : Entry) → IsGiven a end → IsFinal a h end.offset
-    → entry.place.layer ≡ layer → entry.place.header ≡ end.offset → entry.kind ≡ end.kind
-    → IsEntryIn a layer h entry
-entered a layer h end entry g f l p k = record {
-  number = l;
-  final = subst (λ x. IsFinal a h x) (sym p) f;
-  kind = k ∙ ap (λ (x : Head). x.kind) g.is ∙ ap (λ x. kind a x) (sym p);
-}
+    → entry ≡ entry_of layer end → IsEntryIn a layer h entry
+entered a layer h end entry g f e = subst (IsEntryIn a layer h) (sym e) (record {
+  number = refl;
+  final = f;
+  is_read = ap (entry_of layer) g.is;
+})

@@ -24,6 +24,7 @@ use Rattle.whiteout_tree.specs.Marks.{united}
 use Rattle.layer_tree.specs.Reading.{IsNamedMember, AreByName, HasNamed, CutsFrom, CutsAt, IsEntryIn, IsBranchOf, RemovesFrom, IsBranchAlone, AreBranchesOf, IsMadeOf, IsBlank, AreBuilt, AreWhiteouts, rest_of_opaque}
 use Rattle.whiteout_tree.proofs.NoDirectory.{not_directory}
 use Rattle.whiteout_tree.proofs.Cutting.{nothing_cut, cut_same, cut_through, by_name, by_through}
+use Rattle.whiteout_tree.proofs.Listed.{kind_read}
 use Rattle.layer_tree.proofs.Removing.{file_covers}
 use Rattle.layer_tree.proofs.Joining.{cut_united}
 use Rattle.layer_tree.proofs.Stepping.{all_cut}
@@ -193,7 +194,7 @@ module _ (a : List ℕ) (layer h : ℕ) (ms : List NamedMember) (es : List (Subt
     down path (inr c) = c
 
     is_folder : is_directory entry.kind ≡ true
-    is_folder = ap is_directory (in_layer.kind ∙ final_directory a h entry.place.header in_layer.final directory)
+    is_folder = ap is_directory (kind_read a entry in_layer.is_read ∙ final_directory a h entry.place.header in_layer.final directory)
 
     in_turn : (w x y z k : Bool) → k ≡ false → ((w || (x || y)) || ((k || false) || z)) ≡ (w || ((x || z) || y))
     in_turn true x y z k e = refl

@@ -16,6 +16,7 @@ use Rattle.whiteout_tree.specs.declared.place.Entry.{Entry}
 use Rattle.whiteout_tree.specs.declared.place.Mark.{Mark}
 use Rattle.whiteout_tree.specs.Marks.{covered_by, removed_by, is_plain}
 use Rattle.whiteout_tree.specs.Trees.{IsEntryOf, IsTreeOf}
+use Rattle.whiteout_tree.proofs.Listed.{kind_read}
 use Rattle.layer_tree.specs.Reading.{CutsFrom, CutsAt, IsEntryIn, IsBranchOf, RemovesFrom}
 use Rattle.layer_tree.proofs.Plain.{plain_is}
 
@@ -108,7 +109,7 @@ module _ (a : List ℕ) (i : IsImage a) where
   module _ (layer : ℕ) (e : Subtree Entry) (k : Subtree Mark) (b : IsBranchOf a layer (root a) e)
       (m : RemovesFrom a (root a) (at_path (whole k)) e) where
     in_run : (h : ℕ) (x : Entry) → IsEntryIn a layer h x → IsEntryOf layer (a ∷ []) 0 h x
-    in_run h x w = record { layer = omega (arith, w.number); end = (a, refl, w.final, w.kind) }
+    in_run h x w = record { layer = omega (arith, w.number); end = (a, refl, w.final, w.is_read) }
 
     is_shown : (path : Path) (j h : ℕ) → Shows (a ∷ []) path j h → IsSomeAnd (at_path (whole e) path) (λ x. IsEntryOf layer (a ∷ []) j h x)
     is_shown path j h s =
@@ -143,8 +144,8 @@ module _ (a : List ℕ) (i : IsImage a) where
 
     -- the root's entry is a directory
     pub root_stays : e.value.kind ≡ Directory
-    root_stays = let w = b.shown [] (root a) tt refl in w.kind ∙ final_directory a (root a) e.value.place.header w.final
-        (root_directory a i)
+    root_stays = let w = b.shown [] (root a) tt refl in kind_read a e.value w.is_read
+        ∙ final_directory a (root a) e.value.place.header w.final (root_directory a i)
 
     -- no mark cuts the root
     pub root_kept : k.value.cut ≡ false

@@ -13,6 +13,7 @@ use Rattle.romfs_reader.proofs.Paths.{one_header}
 use Rattle.stack_model.specs.Stack.{Path, IsPlain, IsIn, HasDirectory, Cuts, IsFree, IsTop}
 use Rattle.whiteout_tree.specs.declared.place.Entry.{Entry}
 use Rattle.whiteout_tree.specs.Trees.{TreeRows, entry_at, IsEntryOf, IsTreeOf}
+use Rattle.whiteout_tree.proofs.Listed.{kind_read}
 use Rattle.layer_tree.proofs.Layered.{final_directory, last_member, opened_directory}
 
 -- all layers are sound images
@@ -118,7 +119,7 @@ module _ (first : ℕ) (layers : List (List ℕ)) (im : AreImages layers) (t : T
       elim (is_directory_or_not d.kind) [
         | inl k ↦ k
         | inr k ↦ absurd (clash layers im q n w.0 w.1 u.0 u.1 u.3.end.0 w.2.0 w.2.1 u.2.1 u.3.end.1
-            (λ x. k (u.3.end.3 ∙ final_directory u.3.end.0 u.1 d.place.header u.3.end.2 x)))
+            (λ x. k (kind_read u.3.end.0 d u.3.end.3 ∙ final_directory u.3.end.0 u.1 d.place.header u.3.end.2 x)))
       ]
 
   -- one name above an entry of a tree there is a directory

@@ -18,6 +18,7 @@ use Rattle.layer_tree.specs.declared.members.KeyedMember.{KeyedMember}
 use Rattle.layer_tree.specs.declared.reading.Branches.{Branches}
 use Rattle.layer_tree.specs.Members.{NamedMember, members_in, IsRead}
 use Rattle.whiteout_tree.specs.Marks.{removed_by}
+use Rattle.whiteout_tree.specs.Trees.{IsReadIn}
 
 -- the member comes before the other one by its name
 abbrev pub IsBefore : NamedMember → NamedMember → Type 0
@@ -83,7 +84,7 @@ CutsAt a h path = (kind a h ≢ Directory) ⊎ CutsFrom a h path
 pub record IsEntryIn (a : List ℕ) (layer h : ℕ) (entry : Entry) : Type 0 where
   pub number : entry.place.layer ≡ layer
   pub final : IsFinal a h entry.place.header
-  pub kind : entry.kind ≡ kind a entry.place.header
+  pub is_read : IsReadIn a entry
 
 -- the branch has the entries of all plain paths from the header h
 pub record IsBranchOf (a : List ℕ) (layer h : ℕ) (b : Subtree Entry) : Type 0 where

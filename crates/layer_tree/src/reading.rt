@@ -10,7 +10,7 @@
 
 ghost use Rattle.std.specs.Prelude.{◌≡◌, ◌≢◌, [], ◌∷◌, ◌++◌, ◌↔◌, length, All, IfOk, OnOk, IsTrue, MatchOption, is_some};
 ghost use Rattle.romfs_reader.specs.Images.{IsImage};
-ghost use Rattle.whiteout_tree.specs.Trees.{IsTreeOf};
+ghost use Rattle.whiteout_tree.specs.Trees.{IsTreeOf, entry_of};
 ghost use Rattle.name_tree.specs.Rows.{NamesRise, named};
 ghost use Rattle.layer_tree.specs.Members.{members_in, IsRead};
 ghost use Rattle.layer_tree.specs.Reading.{IsReadable, IsAtDepth, AddsMade, AreMadeOf, IsBlank, AreBuilt, AreWhiteouts, AreMembersAt, IsFolder, rest_of_opaque};
@@ -310,11 +310,9 @@ fn add_mark<A: Allocator>(
     Ok(())
 }
 
-/// The entry of a header whose hard links end at `end`: the kind and the place of that.
+/// The entry of a header whose hard links end at `end`.
 fn entry_at(layer: u16, end: &Head) -> Entry
-    ensures layer { result.place.layer ≡ layer }
-    ensures header { result.place.header ≡ end.now.offset }
-    ensures kind { result.kind ≡ end.now.kind }
+    ensures { result ≡ entry_of layer end.now }
 {
     let place = Place {
         layer,
@@ -322,7 +320,11 @@ fn entry_at(layer: u16, end: &Head) -> Entry
     };
     Entry {
         kind: end.kind,
+        exec: end.exec,
         place,
+        spec: end.spec,
+        size: end.size,
+        name_len: end.name_len,
     }
 }
 

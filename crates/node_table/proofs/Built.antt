@@ -1,28 +1,22 @@
--- The rows of children and the node of a branch. Rowing is the loop over children: it starts with
+-- The rows of children. Rowing is the loop over children: it starts with
 -- none, a child is a directory or another (follows tells where it stands), and it ends with
--- AddsRows. read_of has what the node of a branch says.
+-- AddsRows.
 use Rattle.std.proofs.Common.{◌≡◌, ◌∙◌, sym, ap, subst, ℕ, zero, suc, ◌+◌, ◌-◌, ◌<◌, ◌≤◌, List, [], ◌∷◌, ◌++◌, length, map, take, drop, get_or, refl, arith, append_assoc, length-append, Bool, true, false}
 use Rattle.std.specs.List.{AllByRecursion}
 use Rattle.std.specs.declared.cmp.Ordering.TheVariants.{Less}
 use Rattle.std.proofs.lemmas.List.Sums.{count_by_more_yes, count_by_more_no}
 use Rattle.std.proofs.lemmas.List.{append-nil, map_push, take_all, take_rest, drop_at}
-use Rattle.std.proofs.lemmas.Option.{get_or_from_slice_get}
 use Rattle.romfs_format.specs.declared.head.Kind.{Kind}
 use Rattle.romfs_format.specs.declared.head.Kind.TheVariants.{Directory}
 use Rattle.stack_model.specs.Attributes.{is_directory}
 use Rattle.name_tree.specs.Rows.{Subtree, whole, NamesRise, name_cmp}
-use Rattle.romfs_format.specs.declared.head.Head.{Head}
-use Rattle.romfs_format.specs.Heads.{head_of}
-use Rattle.romfs_reader.specs.declared.parts.Part.{Part}
-use Rattle.romfs_reader.specs.Readers.{IsDataPart}
-use Rattle.table_reader.specs.declared.node.Node.{Node}
 use Rattle.whiteout_tree.specs.declared.place.Place.{Place}
 use Rattle.whiteout_tree.specs.declared.place.Entry.{Entry}
 use Rattle.name_lookup.specs.Names.{Rise}
 use Rattle.table_reader.specs.Rows.{Line, names}
 use Rattle.table_reader.specs.Directories.{HeldDirectories}
 use Rattle.node_table.specs.declared.building.First.{First}
-use Rattle.node_table.specs.Building.{line_in, count_directories, HasNumberAndSize, AreFollowing, AddsRows, AddsLinked, AddsNothing, AddsByKind, IsReadFrom, IsReadOf}
+use Rattle.node_table.specs.Building.{line_in, count_directories, HasNumberAndSize, AreFollowing, AddsRows, AddsLinked, AddsNothing, AddsByKind}
 use Rattle.whiteout_tree.proofs.NoDirectory.{not_directory}
 use Rattle.node_table.proofs.Lists.{take_one_more}
 
@@ -114,62 +108,6 @@ names_rise tell (c ∷ cs) r zero (suc j) d l m = after cs r.0 j (omega arith)
     after (s ∷ cs) a (suc j) m = after cs a.1 j (omega arith)
 names_rise tell (c ∷ cs) r (suc i) zero d l m = absurd (omega arith)
 names_rise tell (c ∷ cs) r (suc i) (suc j) d l m = names_rise tell cs r.1 i j d (omega arith) (omega arith)
-
--- what the code reads of a branch: its entry, the header at its place, and where its data lie
-pub record ReadsBranch (layers : List (List ℕ)) (branch : Subtree Entry) : Type 0 where
-  pub entry : Entry
-  pub head : Head
-  pub part : Part
-  pub image : List ℕ
-  pub entry_is : entry ≡ branch.value
-  pub image_is : image ≡ get_or layers entry.place.layer image
-  pub head_is : head ≡ head_of image entry.place.header
-  pub data_is : IsDataPart image head.offset part
-
--- it is known of what the calls give that read it
-abbrev pub reads_branch : {layers : List (List ℕ)} {branch : Subtree Entry} {entry : Entry} {head : Head} {part : Part} {image : List ℕ}
-    → entry ≡ branch.value → image ≡ get_or layers entry.place.layer image → head ≡ head_of image entry.place.header
-    → IsDataPart image head.offset part → ReadsBranch layers branch
-reads_branch entry_is image_is head_is data_is = record {
-  entry = _;
-  head = _;
-  part = _;
-  image = _;
-  entry_is = entry_is;
-  image_is = image_is;
-  head_is = head_is;
-  data_is = data_is;
-}
-
--- the node of a branch, how often it is linked, and where its directory stands
-module _ {layers : List (List ℕ)} {branch : Subtree Entry} (reads : ReadsBranch layers branch) (nlink at : ℕ) where
-  abbrev node : Node
-  node = record {
-    kind = reads.entry.kind;
-    place = reads.entry.place;
-    exec = reads.head.exec;
-    part = reads.part;
-    mode = 0;
-    nlink = nlink;
-    rdev = reads.head.spec;
-    directory = at;
-  }
-
-  read_from : IsReadFrom reads.image reads.entry.place.header node
-  read_from = record {
-    data_is = subst (λ (x : Head). IsDataPart reads.image x.offset reads.part) reads.head_is reads.data_is;
-    exec_is = ap (λ (x : Head). x.exec) reads.head_is;
-    spec_is = ap (λ (x : Head). x.spec) reads.head_is;
-  }
-
-  -- it is what the branch and its header say
-  pub read_of : IsReadOf layers branch node
-  read_of = record {
-    kind_is = ap (λ (e : Entry). e.kind) reads.entry_is;
-    place_is = ap (λ (e : Entry). e.place) reads.entry_is;
-    read = λ image at. subst (λ x. IsReadFrom x reads.entry.place.header node)
-        (reads.image_is ∙ get_or_from_slice_get layers reads.entry.place.layer image reads.image at) read_from;
-  }
 
 -- what a directory adds, and what any other branch does
 module _ {A : Type 0} (tell : Place → ℕ) (first : First A) (nlink : ℕ) (old new : HeldDirectories) where

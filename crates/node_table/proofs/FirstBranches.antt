@@ -182,7 +182,7 @@ module _ (layers : List (List ℕ)) (t : TreeRows) (root : Subtree Entry) (visit
       let v = visit.now.value in
       let p = visit_placed j visit f.is in
       record {
-        header = record { image = p.image; is = p.is; given = p.given };
+        header = record { image = p.image; is = p.is; given = p.given; is_read = p.is_read };
         data_is = λ image s. let z : Some p.image ≡ Some image = sym p.is ∙ s in let q : p.image ≡ image = cc in
             subst (λ x. data_in x v.place.header ≡ data_of layers (visit_place visit)) q (data_placed layers v p);
         kind_is = kind_placed layers v p;

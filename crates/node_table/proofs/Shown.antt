@@ -28,20 +28,20 @@ use Rattle.stack_model.proofs.Listings.{led_to}
 use Rattle.name_tree.specs.Rows.{Rows, at_path, PathsRise, name_cmp}
 use Rattle.name_tree.proofs.Paths.{same_path_or_not}
 use Rattle.whiteout_tree.specs.declared.place.Entry.{Entry}
-use Rattle.whiteout_tree.specs.Trees.{TreeRows, IsTreeOf, listed, listing}
+use Rattle.whiteout_tree.specs.Trees.{TreeRows, IsTreeOf, IsReadIn, listed, listing}
 use Rattle.romfs_reader.proofs.Paths.{leads_to}
-use Rattle.whiteout_tree.proofs.Listed.{is_listing}
+use Rattle.whiteout_tree.proofs.Listed.{is_listing, kind_read}
 use Rattle.table_reader.specs.Readers.{placed}
 use Rattle.name_tree.proofs.Lists.{all_get}
 
--- an entry's place is in an image of the stack, which gives its header, and the entry's kind is
--- that header's
+-- an entry's place is in an image of the stack, which gives its header, and the entry says what that
+-- header says
 pub record IsPlaced (layers : List (List ℕ)) (e : Entry) : Type 0 where
   pub image : List ℕ
   pub is : slice_get layers e.place.layer ≡ Some image
   pub sound : IsImage image
   pub given : IsGiven image (head_of image e.place.header)
-  pub kind_is : e.kind ≡ kind image e.place.header
+  pub is_read : IsReadIn image e
 
 given_at : (a : List ℕ) (i : IsImage a) (path : Path) (h e : ℕ) → Has a path h → IsFinal a h e → IsGiven a (head_of a e)
 given_at a i path h e l f = record {
@@ -113,7 +113,7 @@ rows_placed layers t is sound = both (λ (r : Path × Entry). at_path t.entries 
           is = l.is;
           sound = s;
           given = given_at l.bytes s l.path l.first r.1.place.header l.has l.ends;
-          kind_is = w.end.3 ∙ ap (λ x. kind x r.1.place.header) (sym b);
+          is_read = subst (λ x. IsReadIn x r.1) (sym b) w.end.3;
         }
 
 -- the data of a header, as the listing's definitions have them
@@ -155,7 +155,7 @@ module _ (layers : List (List ℕ)) (e : Entry) (p : IsPlaced layers e) where
 
   -- a placed entry's kind is what the layers have at its place
   pub kind_placed : e.kind ≡ kind_at layers (placed e.place)
-  kind_placed = p.kind_is ∙ ap (λ x. kind x e.place.header) (sym layer_is)
+  kind_placed = kind_read p.image e p.is_read ∙ ap (λ x. kind x e.place.header) (sym layer_is)
 
   -- the offset of a placed entry's header fits in 32 bits
   pub header_small : e.place.header < 2 ^ 32

@@ -8,6 +8,7 @@ use Rattle.stack_model.specs.Attributes.{is_directory, mode_of, rdev_of}
 use Rattle.name_tree.specs.Rows.{Subtree, spread, whole, IsForest}
 use Rattle.whiteout_tree.specs.declared.place.Place.{Place}
 use Rattle.whiteout_tree.specs.declared.place.Entry.{Entry}
+use Rattle.whiteout_tree.specs.Trees.{IsReadIn}
 use Rattle.table_reader.specs.declared.node.Node.{Node}
 use Rattle.table_reader.specs.declared.directory.Directory.{Directory}
 use Rattle.name_lookup.specs.Keyed.{AddsKeys}
@@ -75,11 +76,13 @@ pub record StandAtStarts (walk : Walk Entry) (numbers : List ℕ) (first : List 
       → HasChildrenAfter (number_among walk.visits) numbers walk.sizes (slice_index starts k)
       visit.now
 
--- the header at a branch's place is one that the place's image gives
+-- the header at a branch's place is one that the place's image gives, and the branch says what it
+-- says
 pub record HasGivenHeader (layers : List (List ℕ)) (branch : Subtree Entry) : Type 0 where
   pub image : List ℕ
   pub is : slice_get layers branch.value.place.layer ≡ Some image
   pub given : IsGiven image (head_of image branch.value.place.header)
+  pub is_read : IsReadIn image branch.value
 
 -- the node holds what the header says of the kind's data, permissions and device, as it stands
 pub record IsReadFrom (image : List ℕ) (header : ℕ) (node : Node) : Type 0 where

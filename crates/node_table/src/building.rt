@@ -7,7 +7,6 @@ ghost use Rattle.node_table.specs.Building.{AreFollowing, HasChildrenAfter, HasG
 ghost use Rattle.node_table.specs.Building.{AddsRows, AddsDirectory, AddsByKind, AddsNode, IsReadOf};
 ghost use Rattle.node_table.specs.Agreement.{StandAndAgree, AreMade};
 
-use crate::ahead::HeadersAhead;
 use crate::numbering::Numbered;
 use crate::walk::Walked;
 use name_lookup::add_keys;
@@ -53,9 +52,7 @@ pub(crate) fn make<A: Allocator + Copy>(
         rows: Vec::with_capacity(alloc, walk.visits.len())?,
         keys: Vec::with_capacity(alloc, walk.visits.len())?,
     };
-    let mut ahead = HeadersAhead::new();
     for at in 0..numbered.len() {
-        ahead.pass(images, walk, numbered);
         let start = numbered.start(at);
         let above = walk.above[start];
         let first = First {
@@ -103,17 +100,16 @@ fn node_of<A: Allocator>(
     ensures nlink { result.nlink ≡ nlink }
     ensures directory { result.directory ≡ directory }
 {
-    let Entry { kind, place } = branch.value();
-    let image = &images[place.layer as usize];
-    let head = image.given(place.header);
+    let said = branch.value();
+    let image = &images[said.place.layer as usize];
     Node {
-        kind,
-        place,
-        exec: head.exec,
-        part: image.data_part(&head),
+        kind: said.kind,
+        place: said.place,
+        exec: said.exec,
+        part: image.given_part(said.place.header, said.kind, said.name_len, said.size),
         mode: 0,
         nlink,
-        rdev: head.spec,
+        rdev: said.spec,
         directory,
     }
 }

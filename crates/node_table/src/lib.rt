@@ -11,7 +11,6 @@
 //! stack, on `romfs_reader` for its images, on `name_lookup` for look-ups, and on `rayon`.
 #![tactic(auto)]
 
-mod ahead;
 mod building;
 mod completing;
 mod firsts;

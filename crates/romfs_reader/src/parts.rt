@@ -1,10 +1,10 @@
 //! What the readers of an image read, from its bytes.
 
 ghost use Rattle.std.specs.Prelude.{◌≡◌, ◌≢◌, [], ◌+◌, ◌^◌, ◌<◌, ◌≤◌, length, IsTrue, IsFalse, IfSome, All, slice_get};
-ghost use Rattle.romfs_format.specs.Fields.{root as root_of, cleared};
+ghost use Rattle.romfs_format.specs.Fields.{root as root_of, cleared, kind as kind_in, size as size_in};
 ghost use Rattle.romfs_format.specs.Links.{IsFinal};
 ghost use Rattle.romfs_reader.specs.Images.{IsImage};
-ghost use Rattle.romfs_format.specs.Heads.{name_of, IsHeadIn};
+ghost use Rattle.romfs_format.specs.Heads.{name_of, head_of, IsHeadIn};
 ghost use Rattle.romfs_reader.specs.Readers.{data_of_header, IsHeadAt, IsGiven, IsPart, IsDataPart, AreMembers, bytes_at};
 
 use crate::members::Members;
@@ -128,12 +128,30 @@ pub(crate) fn data_part(image: &Held<'_>, head: &Head) -> Part
     requires given { IsGiven image.now head.now }
     ensures { IsDataPart image.now head.now.offset result }
 {
-    match head.kind {
+    said_part(image, head.offset, head.kind, head.name_len, head.size)
+}
+
+/// Where the data of the header at an offset lie, by what it says of them.
+pub(crate) fn said_part(
+    image: &Held<'_>,
+    offset: u32,
+    kind: Kind,
+    name_len: u32,
+    size: u32,
+) -> Part
+    requires image { IsImage image.now }
+    requires given { IsGiven image.now (head_of image.now offset) }
+    requires kind { kind ≡ kind_in image.now offset }
+    requires name { name_len ≡ length (name_of image.now offset) }
+    requires size { size ≡ size_in image.now offset }
+    ensures { IsDataPart image.now offset result }
+{
+    match kind {
         Kind::Regular | Kind::SymLink => {
-            let start = head.name_at as usize + padded(head.name_len as usize + 1);
+            let start = offset as usize + HEAD_SIZE + padded(name_len as usize + 1);
             Part {
                 start: start as u32,
-                len: head.size,
+                len: size,
             }
         }
         _ => Part { start: 0, len: 0 },

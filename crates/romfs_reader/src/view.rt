@@ -1,7 +1,7 @@
 //! Sound images that are lent, and what is read from them.
 
 ghost use Rattle.std.specs.Prelude.{◌≡◌, ◌≢◌, ◌⊎◌, [], ◌+◌, ◌≤◌, length, Some, IsNone, All, slice_get, IfOk, IfSome};
-ghost use Rattle.romfs_format.specs.Fields.{root as root_of, name};
+ghost use Rattle.romfs_format.specs.Fields.{root as root_of, name, kind as kind_in, size as size_in};
 ghost use Rattle.romfs_format.specs.Heads.{name_of, head_of};
 ghost use Rattle.romfs_format.specs.Links.{IsFinal};
 ghost use Rattle.romfs_reader.specs.Images.{IsImage};
@@ -11,7 +11,7 @@ use crate::ends::Ends;
 use crate::image::Image;
 use crate::members::Members;
 use crate::parts::{
-    Part, byte_in, data_part, end_of, members_of, name_in, named_at, part_of, place_at,
+    Part, byte_in, data_part, end_of, members_of, name_in, named_at, part_of, place_at, said_part,
 };
 use held_image::Held;
 use held_image::read::{copy_some, head_at, head_named, name_of};
@@ -184,6 +184,18 @@ impl<'a> ImageView<'a> {
         ensures { IsDataPart self.now head.now.offset result }
     {
         data_part(&self.image, head)
+    }
+
+    /// The same of the header at an offset at which this image gave one before, by its kind, the
+    /// length of its name and the size of its data in bytes, so that it is not read again.
+    pub fn given_part(&self, offset: u32, kind: Kind, name_len: u32, size: u32) -> Part
+        requires head { IsGiven self.now (head_of self.now offset) }
+        requires kind { kind ≡ kind_in self.now offset }
+        requires name { name_len ≡ length (name_of self.now offset) }
+        requires size { size ≡ size_in self.now offset }
+        ensures { IsDataPart self.now offset result }
+    {
+        said_part(&self.image, offset, kind, name_len, size)
     }
 
     /// The bytes of a part that lies in the image; none of an image that stays in its file.

@@ -1,6 +1,7 @@
 -- The entries of a tree in the order of their paths are the listing of its run (`is_listing`): they
 -- rise, an entry at a path is among them (`among_at`) and each of them is at its path (`at_among`);
--- and hard links end at one header (`one_end`), so each is at the place that is shown.
+-- and hard links end at one header (`one_end`), so each is at the place that is shown. Its kind is
+-- that of the header there (`kind_read`).
 use Rattle.std.proofs.Common.{◌≡◌, ◌∙◌, sym, ap, subst, ℕ, inl, inr, List, [], ◌∷◌, map, refl, arith, Option, Some, None}
 use Rattle.std.specs.Prelude.{IsSomeAnd}
 use Rattle.std.specs.List.{AllByRecursion}
@@ -8,13 +9,14 @@ use Rattle.std.specs.Cmp.Lexicographic.{slice_cmp}
 use Rattle.std.specs.Ordering.{ordering_reverse}
 use Rattle.std.specs.declared.cmp.Ordering.TheVariants.{Less, Greater}
 use Rattle.std.proofs.lemmas.Cmp.{nat_list_cmp_total, lists_total}
+use Rattle.romfs_format.specs.Fields.{kind}
 use Rattle.romfs_format.specs.Links.{IsFinal, stays, follows}
 use Rattle.stack_model.specs.Stack.{Path, Shows}
 use Rattle.stack_model.specs.Listing.{Entry as Listed, path_cmp, Rises, IsAmong, IsShown, IsFinalIn, IsListing}
 use Rattle.name_tree.specs.Rows.{at_path, PathsRise, name_cmp}
 use Rattle.name_tree.proofs.Paths.{same_path_or_not}
 use Rattle.whiteout_tree.specs.declared.place.Entry.{Entry}
-use Rattle.whiteout_tree.specs.Trees.{TreeRows, IsTreeOf, listed, listing}
+use Rattle.whiteout_tree.specs.Trees.{TreeRows, IsTreeOf, IsReadIn, listed, listing}
 
 not_before_itself : (p : Path) → path_cmp p p ≡ Less → ⊥
 not_before_itself p e = let s = (lists_total nat_list_cmp_total).antisymm p p in let r : Less ≡ Greater = sym e ∙ s
@@ -26,6 +28,10 @@ one_end a h e f (stays n) (stays m) = refl
 one_end a h e f (stays n) (follows l r) = absurd (n l)
 one_end a h e f (follows l r) (stays m) = absurd (m l)
 one_end a h e f (follows l r) (follows m s) = one_end a _ e f r s
+
+-- an entry has the kind of the header at its place
+pub kind_read : (a : List ℕ) (entry : Entry) → IsReadIn a entry → entry.kind ≡ kind a entry.place.header
+kind_read a entry r = ap (λ (e : Entry). e.kind) r
 
 rises_listed : (rows : List (Path × Entry)) → PathsRise rows → Rises (map listed rows)
 rises_listed [] r = tt

@@ -1,7 +1,8 @@
 -- What a tree says of a run of layers: the entry at each path that the run shows, and which paths
 -- the run cuts.
 use Rattle.std.specs.Prelude.{◌≡◌, ℕ, ◌+◌, ◌↔◌, List, ◌∷◌, ◌++◌, map, Bool, ◌&&◌, Option, Some, slice_get, IsTrue, IsSomeAnd}
-use Rattle.romfs_format.specs.Fields.{kind}
+use Rattle.romfs_format.specs.declared.head.Head.{Head}
+use Rattle.romfs_format.specs.Heads.{head_of}
 use Rattle.romfs_format.specs.Links.{IsFinal}
 use Rattle.stack_model.specs.Stack.{Path, Shows, IsCut}
 use Rattle.stack_model.specs.Listing.{Entry as Listed}
@@ -34,12 +35,27 @@ pub record AreChildren (t : TreeRows) (path : Path) (children : List (Subtree En
   pub at : (name : List ℕ) (q : Path)
       → entry_at t (path ++ name ∷ q) ≡ at_path (spread children) (name ∷ q)
 
+-- the entry of a header that ends all hard links, in a layer
+abbrev pub entry_of : ℕ → Head → Entry
+entry_of layer head = record {
+  kind = head.kind;
+  exec = head.exec;
+  place = record { layer = layer; header = head.offset };
+  spec = head.spec;
+  size = head.size;
+  name_len = head.name_len;
+}
+
+-- the entry says what the header at its place says
+abbrev pub IsReadIn : List ℕ → Entry → Type 0
+IsReadIn a entry = entry ≡ entry_of entry.place.layer (head_of a entry.place.header)
+
 -- the entry is that of the header h in layer i of a run whose lowest layer is the first: it has the
--- place and the kind of the header where hard links from h end
+-- place of the header where hard links from h end, and says what that says
 pub record IsEntryOf (first : ℕ) (layers : List (List ℕ)) (i h : ℕ) (entry : Entry) : Type 0 where
   pub layer : entry.place.layer ≡ first + i
   pub end : (a : List ℕ) × (slice_get layers i ≡ Some a) × IsFinal a h entry.place.header
-      × (entry.kind ≡ kind a entry.place.header)
+      × IsReadIn a entry
 
 -- the tree is that of the run of layers whose lowest has the number first: it has an entry exactly
 -- at each path that the run shows, and it cuts exactly what the run cuts

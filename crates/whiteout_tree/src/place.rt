@@ -14,12 +14,21 @@ pub struct Place {
     pub header: u32,
 }
 
-/// What a path shows.
+/// What a path shows: where it stands, and what the header there says of its file, so that it is
+/// not read again.
 #[derive(Clone, Copy, PartialEq, Eq, Drop)]
 pub struct Entry {
-    /// The kind of the header at the place; never a hard link.
+    /// The kind of the header; never a hard link.
     pub kind: Kind,
+    /// Whether the file is executable.
+    pub exec: bool,
     pub place: Place,
+    /// spec.info as it stands: the numbers of a device.
+    pub spec: u32,
+    /// The size of its data, in bytes.
+    pub size: u32,
+    /// How long the header's own name is; its data stand behind that.
+    pub name_len: u32,
 }
 
 /// What layers remove from those below them (OCI image specification, layer chapter, "Whiteouts").

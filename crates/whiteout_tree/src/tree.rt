@@ -18,7 +18,7 @@ const MARKER: &[u8; 4] = b".wh.";
 /// An entry with its name, and all below it in the order of names.
 pub type Child<A> = Branch<Entry, A>;
 
-const _: () = prove!(size_of::<Child<Global>>() <= 64);
+const _: () = prove!(size_of::<Child<Global>>() <= 72);
 
 /// What a run of layers shows and cuts.
 #[derive(Drop)]

@@ -3,6 +3,7 @@ use Rattle.std.proofs.lemmas.List.{append-nil}
 use Rattle.romfs_format.specs.declared.head.Head.{Head}
 use Rattle.romfs_format.specs.declared.head.Kind.TheVariants.{Directory}
 use Rattle.romfs_format.specs.Fields.{kind}
+use Rattle.whiteout_tree.proofs.Listed.{kind_read}
 use Rattle.layer_tree.proofs.Entering.{no_directory, entered}
 use Rattle.layer_tree.proofs.Folding.{single}
 use Rattle.layer_tree.proofs.reading.add_file.Goals as goal
@@ -14,10 +15,10 @@ returns g c =
     let read = c.requires.read in
     let other : kind a c.args.head.now.offset ≢ Directory = λ k. c.requires.other (ap (λ (x : Head). x.kind) read.given.is ∙ k) in
     let entry = entered a c.args.layer.now.number c.args.head.now.offset c.in_ok-end.end
-    c.entry_at-entry.result (search rules) (search rules) c.entry_at-entry.ensures.layer
-    c.entry_at-entry.ensures.header c.entry_at-entry.ensures.kind in
+    c.entry_at-entry.result (search rules) (search rules) c.entry_at-entry.ensures in
     let file : c.entry_at-entry.result.kind ≢ Directory = λ k. no_directory a read.sound c.args.head.now.offset
-    c.entry_at-entry.result.place.header read.given.from other entry.final (sym entry.kind ∙ k) in
+    c.entry_at-entry.result.place.header read.given.from other entry.final
+    (sym (kind_read a c.entry_at-entry.result entry.is_read) ∙ k) in
     record {
       made = record {
         made = (c.leaf.result, None);

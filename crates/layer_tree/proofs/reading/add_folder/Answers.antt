@@ -23,8 +23,7 @@ returns-then-is_plain g c =
     let e : c.in_ok-own_name.own_name ≡ c.args.name.now = c.in_ok-own_name.ensures in
     let directory : kind a h ≡ Directory = sym (ap (λ (x : Head). x.kind) c.requires.given.is) ∙ c.requires.directory in
     let entry = entered a c.args.layer.now.number h c.args.head.now c.entry_at-own_entry.result c.requires.given
-    (directory_stays a h directory) c.entry_at-own_entry.ensures.layer c.entry_at-own_entry.ensures.header
-    c.entry_at-own_entry.ensures.kind in
+    (directory_stays a h directory) c.entry_at-own_entry.ensures in
     record {
       made = (c.new.result, None);
       is = rw (c.new.ensures, e) (plain_folder a c.args.layer.now.number h (members_in a c.args.members.now) c.args.below.entries.items

@@ -45,7 +45,6 @@ returns g c =
     ∙ ap (λ ks. is_some (named rest_of_opaque ks)) c.deref.ensures.value in
     let whole : (c.has_opaque-opaque.result ≡ true) ↔ HasNamed a h opaque = subst (λ b. (b ≡ true) ↔ HasNamed a h opaque) (sym is) held in
     let entry = entered a c.args.layer.now.number h c.args.head.now c.entry_at-entry.result c.requires.given
-    (directory_stays a h directory) c.entry_at-entry.ensures.layer c.entry_at-entry.ensures.header
-    c.entry_at-entry.ensures.kind in
+    (directory_stays a h directory) c.entry_at-entry.ensures in
     rw (c.new-entries.ensures, c.new-marks.ensures, e, f)
     (folder _ _ _ _ _ _ _ _ found c.has_opaque-opaque.result whole directory c.entry_at-entry.result entry c.args.name.now)
