@@ -132,13 +132,7 @@ pub(crate) fn data_part(image: &Held<'_>, head: &Head) -> Part
 }
 
 /// Where the data of the header at an offset lie, by what it says of them.
-pub(crate) fn said_part(
-    image: &Held<'_>,
-    offset: u32,
-    kind: Kind,
-    name_len: u32,
-    size: u32,
-) -> Part
+pub(crate) fn said_part(image: &Held<'_>, offset: u32, kind: Kind, name_len: u32, size: u32) -> Part
     requires image { IsImage image.now }
     requires given { IsGiven image.now (head_of image.now offset) }
     requires kind { kind ≡ kind_in image.now offset }
