@@ -8,6 +8,8 @@ use Rattle.memchr.specs.Find.{IsFirstByte, is_byte}
 use Rattle.byteorder.specs.Endian.{big_number}
 use Rattle.romfs_format.specs.Fields.{word, ended, name_field}
 use Rattle.held_image.specs.Blocks.{byte_of, filled, IsRun, IsFront}
+use Rattle.romfs_format.specs.Heads.{name_of}
+use Rattle.held_image.proofs.NameBytes.{name_taken, name_within}
 use Rattle.held_image.proofs.Fields.{big_same, word_same, ended_none, ended_at}
 
 pub filled_long : (size : ℕ) (blocks bytes : List ℕ) → length (filled size blocks bytes) ≡ size
@@ -47,6 +49,27 @@ pub word_front : (a : List ℕ) (at reach : ℕ) (xs : List ℕ) → IsFront a a
     → word xs k ≡ word a (at + k)
 word_front a at reach xs f k l m = word_same xs a k (at + k) (λ i n.
     sym (f.is (k + i) (omega arith) (omega arith)) ∙ ap (λ x. get_or a x 0) (let g : at + (k + i) ≡ at + k + i = omega arith in g))
+
+-- a name of this length is as many of the bytes behind its header
+pub name_front : (a : List ℕ) (h : ℕ) (xs : List ℕ) → IsFront a (h + 16) 272 xs → (n : ℕ) → n ≡ length (name_of a h) → n ≤ length xs
+    → h + 16 ≤ length a → take n xs ≡ name_of a h
+name_front a h xs f n e l m =
+    let w = name_within a h m in
+    let d = length-drop (h + 16) a in
+    let p = length-take-le n xs l in
+    let q = length-take-le n (drop (h + 16) a) (omega arith) in
+    ext_get_or 0 _ _ (omega arith) (λ i o.
+    get_or-take n xs i 0 (omega arith) ∙ sym (f.is i (omega arith) (omega arith)) ∙ sym (get_or-drop (h + 16) a i 0)
+    ∙ sym (get_or-take n (drop (h + 16) a) i 0 (omega arith)))
+    ∙ ap (λ k. take k (drop (h + 16) a)) e ∙ name_taken a h
+
+-- a word of the filled list, by bytes of a block
+pub word_of_block : (size : ℕ) (blocks bytes : List ℕ) (at : ℕ) (xs : List ℕ)
+    → ((i : ℕ) → i < length xs → byte_of blocks bytes (at + i) ≡ get_or xs i 0)
+    → (k : ℕ) → k + 4 ≤ length xs → at + k + 4 ≤ size → word xs k ≡ word (filled size blocks bytes) (at + k)
+word_of_block size blocks bytes at xs is k l m = word_same xs (filled size blocks bytes) k (at + k) (λ i n.
+    sym (is (k + i) (omega arith)) ∙ ap (byte_of blocks bytes) (let g : at + (k + i) ≡ at + k + i = omega arith in g)
+    ∙ sym (filled_at size blocks bytes (at + k + i) (omega arith)))
 
 module _ (a near : List ℕ) (at room : ℕ) (size : length a ≡ at + room) (front : IsFront a at 256 near) where
   long : length (name_field a at) ≡ min 256 room
@@ -115,11 +138,12 @@ module _ (a near : List ℕ) (at room : ℕ) (size : length a ≡ at + room) (fr
         (reads (length field) (omega arith) ∙ ap (λ x. get_or a (at + x) 0) m ∙ front.stops (omega arith))
 
 -- a word of the filled list, by a run, or by its four bytes
-pub word_of_run : (size : ℕ) (blocks bytes : List ℕ) (at : ℕ) (xs : List ℕ) → IsRun blocks bytes at xs → 4 ≤ length xs → at + 4 ≤ size
+pub word_of_run : (size : ℕ) (blocks bytes : List ℕ) (at : ℕ) (xs : List ℕ)
+    → ((i : ℕ) → i < length xs → byte_of blocks bytes (at + i) ≡ get_or xs i 0) → 4 ≤ length xs → at + 4 ≤ size
     → big_number 4 xs ≡ word (filled size blocks bytes) at
 unfolding word
-word_of_run size blocks bytes at xs r l m = big_same xs (drop at (filled size blocks bytes)) (λ i n.
-    sym (r.is i (omega arith)) ∙ sym (filled_at size blocks bytes (at + i) (omega arith))
+word_of_run size blocks bytes at xs is l m = big_same xs (drop at (filled size blocks bytes)) (λ i n.
+    sym (is i (omega arith)) ∙ sym (filled_at size blocks bytes (at + i) (omega arith))
     ∙ sym (get_or-drop at (filled size blocks bytes) i 0))
 
 pub word_of_bytes : (size : ℕ) (blocks bytes : List ℕ) (at : ℕ) → at + 4 ≤ size → (x y z w : ℕ)

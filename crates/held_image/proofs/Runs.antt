@@ -1,5 +1,6 @@
 -- The bytes of blocks: of one that is kept (byte_kept), of none (byte_none), and of a row of them
--- (run_is). Blocks as far apart as their numbers are a row (dense_row).
+-- (run_is). Blocks as far apart as their numbers are a row (dense_row), and a block that stands
+-- somewhere has that rank (rank_here); block_is is the rest of one.
 use Rattle.std.proofs.Common.{◌≡◌, ◌≢◌, ◌∙◌, sym, ap, ℕ, zero, suc, ◌+◌, ◌-◌, ◌*◌, ◌/◌, ◌%◌, ◌-◌, ◌<◌, ◌≤◌, ◌==◌, inl, inr, if◌then◌else◌, List, [], ◌∷◌, length, take, drop, get_or, refl, arith, length-drop, length-take-le}
 use Rattle.std.proofs.lemmas.List.{get_or-drop, get_or-take}
 use Rattle.std.proofs.lemmas.Bool.{cases_lt}
@@ -44,6 +45,16 @@ gap blocks r i (suc n) l =
     let a = r.above (i + n) (i + suc n) (omega arith) l in
     omega arith
 
+-- a block that stands here has a rank as great
+pub rank_here : (blocks : List ℕ) → Rises blocks → (block at : ℕ) → at < length blocks → get_or blocks at 0 ≡ block
+    → IsRank blocks block at
+rank_here blocks r block at l e = record {
+  within = omega arith;
+  below = λ i m. let a = r.above i at m l in omega arith;
+  above = λ i m n. let a = gap blocks r at (i - at) (omega arith) in
+      let f = ap (λ x. get_or blocks x 0) (let g : at + (i - at) ≡ i = omega arith in g) in omega arith;
+}
+
 -- so those between two that are as far apart as their numbers have all numbers between
 between : (blocks : List ℕ) → Rises blocks → (at block n : ℕ) → at + n < length blocks → get_or blocks at 0 ≡ block
     → get_or blocks (at + n) 0 ≡ block + n → (i : ℕ) → i ≤ n → get_or blocks (at + i) 0 ≡ block + i
@@ -86,6 +97,19 @@ module _ (blocks bytes : List ℕ) (kept : IsKept blocks bytes) (at : ℕ) where
           | inr q ↦ (let j : i ≡ rank = omega arith in n (omega arith) (ap (λ x. get_or blocks x 0) (sym j) ∙ e))
         ]
       ]
+
+  -- what is left of a block that stands at a position
+  pub block_is : (k n : ℕ) → k < length blocks → get_or blocks k 0 ≡ at / 16 → n ≡ 16 - at % 16 → (i : ℕ)
+      → i < length (take n (drop (k * 16 + at % 16) bytes))
+      → byte_of blocks bytes (at + i) ≡ get_or (take n (drop (k * 16 + at % 16) bytes)) i 0
+  block_is k n l e is_n i m =
+      let b = kept.long in
+      let d = length-drop (k * 16 + at % 16) bytes in
+      let long = length-take-le n (drop (k * 16 + at % 16) bytes) (omega arith) in
+      byte_kept blocks bytes (at + i) k kept.rises l (e ∙ (let g : at / 16 ≡ (at + i) / 16 = omega arith in g))
+      ∙ ap (λ x. get_or bytes x 0) (let g : 16 * k + (at + i) % 16 ≡ k * 16 + at % 16 + i = omega arith in g)
+      ∙ sym (get_or-drop (k * 16 + at % 16) bytes i 0)
+      ∙ sym (get_or-take n (drop (k * 16 + at % 16) bytes) i 0 (omega arith))
 
   module _ (k count n : ℕ) (row : AreInRow blocks k (at / 16) count) (is_n : n ≡ 16 * count - at % 16) where
     long : length (take n (drop (k * 16 + at % 16) bytes)) ≡ n

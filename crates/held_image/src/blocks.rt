@@ -82,6 +82,22 @@ fn run<'a>(blocks: &Numbers<'_>, bytes: &'a [u8], at: u32) -> &'a [u8]
     &bytes[from..(position + count) * BLOCK_SIZE]
 }
 
+/// The kept bytes from a place on, up to the end of its block; none where that is not kept.
+fn rest_of_block<'a>(blocks: &Numbers<'_>, bytes: &'a [u8], at: u32) -> &'a [u8]
+    requires { IsKept blocks.now.all.now bytes.now }
+    ensures { (i : ℕ) → i < length result.now →
+        byte_of blocks.now.all.now bytes.now (at + i) ≡ get_or result.now i 0 }
+{
+    let block = at / 16;
+    let position = blocks.rank(block);
+    let all = blocks.all;
+    if position == all.len() || all[position] != block {
+        return &[];
+    }
+    let from = position * BLOCK_SIZE + at as usize % BLOCK_SIZE;
+    &bytes[from..(position + 1) * BLOCK_SIZE]
+}
+
 /// The byte at a place.
 fn byte_in(blocks: &Numbers<'_>, bytes: &[u8], at: u32) -> u8
     requires { IsKept blocks.now.all.now bytes.now }
@@ -100,7 +116,7 @@ pub(crate) fn word_in(blocks: &Numbers<'_>, bytes: &[u8], size: u32, at: u32) ->
     requires at { at + 4 ≤ size }
     ensures { result ≡ word_of (filled size blocks.now.all.now bytes.now) at }
 {
-    let near = run(blocks, bytes, at);
+    let near = rest_of_block(blocks, bytes, at);
     if near.len() >= 4 {
         return BigEndian::read_u32(near);
     }
@@ -251,6 +267,10 @@ pub(crate) fn head_in_blocks(
     requires name { name_len ≡ length (name_of (filled size blocks.now.all.now bytes.now) at) }
     ensures { result ≡ head_of (filled size blocks.now.all.now bytes.now) at }
 {
+    let near = rest_of_block(blocks, bytes, at);
+    if near.len() >= HEAD_SIZE {
+        return head_with(at, word(near, 0), word(near, 4), word(near, 8), name_len);
+    }
     let first = word_in(blocks, bytes, size, at);
     let spec = word_in(blocks, bytes, size, at + 4);
     let data_size = word_in(blocks, bytes, size, at + 8);
@@ -274,18 +294,25 @@ pub(crate) fn text_of_blocks<'a>(
     text_in(run(blocks, bytes, at), at, size)
 }
 
-/// The name of the header at a place, of an image of this size; the empty one where it has no end.
+/// The name of the header at a place, of an image of this size, by its length; the empty one where
+/// it has no end.
 #[cold]
 pub(crate) fn name_of_blocks<'a>(
     blocks: &Numbers<'_>,
     bytes: &'a [u8],
     size: u32,
     at: u32,
+    name_len: u32,
 ) -> &'a [u8]
     requires kept { IsKept blocks.now.all.now bytes.now }
     requires inside { at + HEAD_SIZE ≤ size }
+    requires name { name_len ≡ length (name_of (filled size blocks.now.all.now bytes.now) at) }
     ensures { result.now ≡ name_of (filled size blocks.now.all.now bytes.now) at }
 {
+    let near = run(blocks, bytes, at + HEAD_SIZE as u32);
+    if name_len as usize <= near.len() {
+        return &near[..name_len as usize];
+    }
     match text_of_blocks(blocks, bytes, size, at + HEAD_SIZE as u32) {
         Some(name) => name,
         None => &[],

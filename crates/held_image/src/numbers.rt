@@ -9,7 +9,7 @@
 //! It takes some 4 bytes for every four blocks, at most 8 where they do not lie evenly, and is made
 //! in one step for each of them and one for each stretch.
 
-ghost use Rattle.std.specs.Prelude.{◌≡◌, ◌<◌, ◌≤◌, ◌^◌, length, IsTrue, IfSome};
+ghost use Rattle.std.specs.Prelude.{◌≡◌, ◌<◌, ◌≤◌, ◌^◌, length, slice_index, IsTrue, IfSome};
 ghost use Rattle.held_image.specs.Blocks.{Rises, IsRank, HoldsRank};
 
 use std::alloc::{AllocError, Allocator};
@@ -19,6 +19,9 @@ const FEW: usize = 4;
 
 /// How many numbers a stretch has at least that is cut into parts.
 const MANY: usize = 32;
+
+/// How many numbers from the first of a stretch on are looked at one by one.
+const NEAR: usize = 2 * FEW;
 
 /// The numbers of blocks, rising, with what is noted of them.
 #[derive(Clone, Copy)]
@@ -39,8 +42,32 @@ impl<'a> Numbers<'a> {
         requires { Rises self.now.all.now }
         ensures { IsRank self.now.all.now block result }
     {
+        if let Some(position) = self.near(block) {
+            return position;
+        }
         let within = self.within(block);
         rank_within(self.all, within, block)
+    }
+
+    // Where the block stands, if all up to it are kept, or it is among the first of its stretch.
+    #[inline(always)]
+    fn near(&self, block: u32) -> Option<usize>
+        ensures { IfSome result (λ at. (at < length self.now.all.now)
+            × (slice_index self.now.all.now at ≡ block)) }
+    {
+        let all = self.all;
+        let first = block as usize;
+        if first < all.len() && all[first] == block {
+            return Some(first);
+        }
+        let low = self.noted(block)?.low;
+        let high = all.len().min(low.saturating_add(NEAR));
+        for position in low..high {
+            if all[position] == block {
+                return Some(position);
+            }
+        }
+        None
     }
 
     // Between which positions the rank of a block is.

@@ -188,7 +188,7 @@ pub fn name_of<'a>(image: &Held<'a>, at: u32, name_len: u32) -> &'a [u8]
             size,
             blocks,
             bytes,
-        } => name_of_blocks(&blocks, bytes, size, at),
+        } => name_of_blocks(&blocks, bytes, size, at, name_len),
     }
 }
 

@@ -4,7 +4,7 @@ use Rattle.held_image.proofs.blocks.word_in.Goals as goal
 
 pub returns-then-near-ge4 : goal.returns-then-near-ge4
 returns-then-near-ge4 c =
-    c.read_u32.ensures ∙ word_of_run c.args.size _ _ c.args.at _ c.run-near.ensures (omega arith) c.requires.at
+    c.read_u32.ensures ∙ word_of_run c.args.size _ _ c.args.at _ c.rest_of_block-near.ensures (omega arith) c.requires.at
 
 pub returns : goal.returns
 returns c = c.read_u32-2.ensures
