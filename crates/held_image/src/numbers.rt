@@ -8,6 +8,9 @@
 //! held against the numbers at its ends, and where it is wrong, or there is none, all are searched.
 //! It takes some 4 bytes for every four blocks, at most 8 where they do not lie evenly, and is made
 //! in one step for each of them and one for each stretch.
+//!
+//! Most blocks are found before: where all up to one are kept, it stands where its number says, and
+//! of a stretch the first eight numbers are looked at one by one.
 
 ghost use Rattle.std.specs.Prelude.{◌≡◌, ◌<◌, ◌≤◌, ◌^◌, length, slice_index, IsTrue, IfSome};
 ghost use Rattle.held_image.specs.Blocks.{Rises, IsRank, HoldsRank};
@@ -42,7 +45,7 @@ impl<'a> Numbers<'a> {
         requires { Rises self.now.all.now }
         ensures { IsRank self.now.all.now block result }
     {
-        if let Some(position) = self.near(block) {
+        if let Some(position) = self.found_soon(block) {
             return position;
         }
         let within = self.within(block);
@@ -51,7 +54,7 @@ impl<'a> Numbers<'a> {
 
     // Where the block stands, if all up to it are kept, or it is among the first of its stretch.
     #[inline(always)]
-    fn near(&self, block: u32) -> Option<usize>
+    fn found_soon(&self, block: u32) -> Option<usize>
         ensures { IfSome result (λ at. (at < length self.now.all.now)
             × (slice_index self.now.all.now at ≡ block)) }
     {
