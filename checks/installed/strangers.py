@@ -98,7 +98,7 @@ def surroundings(root):
 def odd_words(root):
     """Numbers out of range, and very long or odd words, are refused before anything is mounted, in one line."""
     begin(root)
-    for said in ("readers=0", "readers=65", "readers=" + "9" * 50000, "workers=0", "uid=" + "9" * 50000, "a\nb", "nonsense," * 9000):
+    for said in ("readers=0", "readers=65", "readers=" + "9" * 50000, "workers=0", "workers=65", "uid=" + "9" * 50000, "a\nb", "nonsense," * 9000):
         done = held_refused(root, said[:20], WRONG_WORDS, "mount.strata: ", HELPER, LOWER, PLACE, "-o", said)
         hold("lines of %s" % said[:20], (1, True), (done.err.count("\n"), len(done.err) < 5000))
     hold("many words", 0, root.run(HELPER, LOWER, PLACE, "-o", "readers=00064," + "x-a,ro," * 15000).status)
