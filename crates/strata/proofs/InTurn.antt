@@ -21,7 +21,7 @@ use Rattle.serve_core.proofs.Stops.{ended_well, read_told, write_told}
 use Rattle.strata.specs.declared.faults.Fault.{Fault}
 use Rattle.strata.specs.declared.faults.Fault.TheVariants.{Accept, InSession}
 use Rattle.strata.specs.Faults.{status_of}
-use Rattle.strata.specs.Laws.{IsWhole, HasMetItsEnd, TellsOfSessions}
+use Rattle.strata.specs.Laws.{IsOfFirstStopped, IsWhole, HasMetItsEnd, TellsOfSessions}
 use Rattle.strata.specs.Sessions.{accepting, accept_failures, fault_of, first_fault, or_later, status_at, Accepting, AreServed, EndWith, IsSession, ServedSession}
 use Rattle.strata.proofs.Ended.{fault_status}
 
@@ -231,6 +231,26 @@ module _ {A : Type 0} {first : Session} {by : Sourced} where
             },
           )
 
+  -- the fault of sessions is that of the first of them that stopped
+  pub first_told : (served : List (ServedSession A first by)) (fault : Fault) → first_fault 1 served ≡ Some fault
+      → IsOfFirstStopped served fault
+  first_told served fault e =
+      let at = stopped_first fault 1 served e in
+      let f = at.3 in (
+        at.0,
+        at.1,
+        at.2,
+        record {
+          before = f.before;
+          stopped = f.stopped;
+          after = f.after;
+          served_are = f.served_are;
+          number_is = f.number_is;
+          whole = f.whole;
+          result_is = f.result_is;
+        },
+      )
+
   -- the fault that sessions end with is that of one of them, or that no client could be accepted
   pub of_sessions : {clients : Accepting} (count : ℕ) (fault : Fault) → AreServed A first by count (Some fault) clients
       → (fault ≡ Accept) ⊎ ((number : ℕ) × (stop : Stop) × (fault ≡ InSession number stop) × (t : Trace) × IsSession {A = A} first by 0 t
@@ -255,26 +275,10 @@ module _ {A : Type 0} {first : Session} {by : Sourced} where
   tells count status (Some fault) e a =
       elim a.ends [
         | inl s ↦
-            let at = stopped_first fault 1 a.served (sym s.1) in
-            let f = at.3 in
+            let at = first_told a.served fault (sym s.1) in
             record {
               served = a.served;
-              which = inr (inl (
-                s.0,
-                at.0,
-                at.1,
-                ap Some at.2,
-                e ∙ ap status_of at.2,
-                record {
-                  before = f.before;
-                  stopped = f.stopped;
-                  after = f.after;
-                  served_are = f.served_are;
-                  number_is = f.number_is;
-                  whole = f.whole;
-                  result_is = f.result_is;
-                },
-              ));
+              which = inr (inl (s.0, at.0, at.1, ap Some at.2, e ∙ ap status_of at.2, at.3));
             }
         | inr s ↦
             let is : fault ≡ Accept = cc in

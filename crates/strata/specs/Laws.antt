@@ -47,6 +47,13 @@ pub record IsFirstStopped {A : Type 0} {first : Session} {by : Sourced}
   pub whole : AllByRecursion IsWhole before
   pub result_is : stopped.result ≡ Err stop
 
+-- the fault says of the first of these sessions that stopped how it did, by its number
+abbrev pub IsOfFirstStopped : {A : Type 0} {first : Session} {by : Sourced}
+    → List (ServedSession A first by) → Fault → Type 0
+IsOfFirstStopped served fault =
+    (number : ℕ) × (stop : Stop) × (fault ≡ InSession number stop)
+    × IsFirstStopped served number stop
+
 -- what the fault and the status of sessions tell: all were served, and to their end; or all were
 -- served, and they are those of the first that stopped; or fewer were
 pub record TellsOfSessions (A : Type 0) (first : Session) (by : Sourced)

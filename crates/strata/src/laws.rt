@@ -24,10 +24,10 @@ ghost use Rattle.romfs_check.specs.declared.refusal.CheckFault.{CheckFault};
 ghost use Rattle.romfs_check.specs.Refusals.{IsRefusal};
 ghost use Rattle.romfs_format.specs.Profiles.{asks_sums, reads_attributes};
 ghost use Rattle.romfs_format.specs.Rules.{IsSound};
-ghost use Rattle.strata.specs.Sessions.{status_at, Accepting, AreServed, EndWith, IsSession};
+ghost use Rattle.strata.specs.Sessions.{first_fault, status_at, Accepting, AreServed, EndWith, IsSession, ServedSession};
 ghost use Rattle.strata.specs.declared.faults.Fault.{Fault};
 ghost use Rattle.strata.specs.declared.faults.Fault.TheVariants.{Stopped};
-ghost use Rattle.strata.specs.Laws.{AreToBlame, HasMetItsEnd, HasStatusOf, TellsOfSessions};
+ghost use Rattle.strata.specs.Laws.{AreToBlame, HasMetItsEnd, HasStatusOf, IsOfFirstStopped, TellsOfSessions};
 ghost use Rattle.strata.specs.Mounts.{is_taken_away, status_on_device, IsRunOnDevice, IsTakenAway, StopsWhere};
 
 use std::alloc::Allocator;
@@ -62,6 +62,8 @@ pub fn sessions_tell<A: Allocator>()
     ensures statuses { (first : Session) (by : Sourced) (count status : ℕ)
         (clients : Accepting) → EndWith A first by count status clients →
         (fault : Option Fault) × TellsOfSessions A first by count fault status }
+    ensures stopped { (first : Session) (by : Sourced) (served : List (ServedSession A first by))
+        (fault : Fault) → first_fault 1 served ≡ Some fault → IsOfFirstStopped served fault }
 {}
 
 /// A session counts by itself: one that was served whole met its end once, and nothing failed; one

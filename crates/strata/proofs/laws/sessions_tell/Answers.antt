@@ -1,5 +1,5 @@
 use Rattle.std.proofs.Common.{refl}
-use Rattle.strata.proofs.InTurn.{sessions_tell, tells}
+use Rattle.strata.proofs.InTurn.{first_told, sessions_tell, tells}
 use Rattle.strata.proofs.laws.sessions_tell.Goals as goal
 
 pub returns-clause-faults : goal.returns-clause-faults
@@ -7,3 +7,6 @@ returns-clause-faults g c = λ first by count fault clients a. tells count _ fau
 
 pub returns-clause-statuses : goal.returns-clause-statuses
 returns-clause-statuses g c = sessions_tell g.row.A.Denot
+
+pub returns-clause-stopped : goal.returns-clause-stopped
+returns-clause-stopped g c = λ first by served fault e. first_told served fault e
