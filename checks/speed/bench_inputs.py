@@ -208,9 +208,31 @@ def names_of_two_keys(count=65_000):
     return [layer(chained("regular", [(b"p", b"q")[number % 2] * 249 + b"%06d" % number for number in numbers]))]
 
 
+# what the words of a name of 24 bytes are multiplied by before their sum is its hash (`hashed` of name_lookup)
+FIRST, MIDDLE, LAST = 0xff51_afd7_ed55_8ccd, 0xc4ce_b9fe_1a85_ec53, 0xd6e8_feb8_6659_fd93
+
+
+def names_of_one_hash(count):
+    """Names of 24 bytes, each with the last word that makes this sum 0."""
+    found, number, undone = [], 0, pow(LAST, -1, 1 << 64)
+    while len(found) < count:
+        word = b"%08d" % number
+        last = -int.from_bytes(word, "little") * (FIRST + MIDDLE) * undone % (1 << 64)
+        name = word * 2 + last.to_bytes(8, "little")
+        if b"\0" not in name and b"/" not in name:
+            found.append(name)
+        number += 1
+    return found
+
+
+def names_alike_by_hash(count=65_000):
+    """Names of 24 bytes that have one hash."""
+    return [layer(chained("regular", names_of_one_hash(count)))]
+
+
 STACKS = {it.__name__: it for it in (
     names_and_markers, layers_of_markers, hidden_and_back, opaque_layers, same_paths, many_links, links_in_folders,
-    links_to_links, deep_folders, long_names, names_of_two_keys)}
+    links_to_links, deep_folders, long_names, names_of_two_keys, names_alike_by_hash)}
 
 
 # --- streams of dear requests: an image, an honest stream and a hostile one of the same size ---
@@ -239,23 +261,6 @@ def lookups_of_long_names(count=65_000):
     wanted = [rng.randrange(count) for _ in range(3 * count)]
     return (laid_out(heads), of_requests(lambda unique, it: lookup(unique, 1, b"%06d" % it + b"q" * 249), wanted),
             of_requests(lambda unique, it: lookup(unique, 1, b"q" * 249 + b"%06d" % it), wanted))
-
-
-# what the words of a name of 24 bytes are multiplied by before their sum is its hash (`hashed` of name_lookup)
-FIRST, MIDDLE, LAST = 0xff51_afd7_ed55_8ccd, 0xc4ce_b9fe_1a85_ec53, 0xd6e8_feb8_6659_fd93
-
-
-def names_of_one_hash(count):
-    """Names of 24 bytes, each with the last word that makes this sum 0."""
-    found, number, undone = [], 0, pow(LAST, -1, 1 << 64)
-    while len(found) < count:
-        word = b"%08d" % number
-        last = -int.from_bytes(word, "little") * (FIRST + MIDDLE) * undone % (1 << 64)
-        name = word * 2 + last.to_bytes(8, "little")
-        if b"\0" not in name and b"/" not in name:
-            found.append(name)
-        number += 1
-    return found
 
 
 def lookups_of_one_hash(count=65_000):
