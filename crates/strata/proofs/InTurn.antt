@@ -168,7 +168,8 @@ module _ {A : Type 0} {first : Session} {by : Sourced} where
     };
   }
 
-  none_stopped : (n : ℕ) (served : List (ServedSession A first by)) → first_fault n served ≡ None → AllByRecursion IsWhole served
+  -- where there is none, all sessions were served to their end
+  pub none_stopped : (n : ℕ) (served : List (ServedSession A first by)) → first_fault n served ≡ None → AllByRecursion IsWhole served
   unfolding first_fault
   none_stopped n [] e = tt
   none_stopped n (s ∷ more) e = go (fault_of n s.result) refl (none_stopped (n + 1) more) e

@@ -1,6 +1,7 @@
 //! What the exit statuses mean, by what [`crate::command`] and [`crate::sessions_from`] promise.
 
-ghost use Rattle.std.specs.Prelude.{◌≡◌, ◌≢◌, ◌≤◌, ◌⊎◌, ◌↔◌, ℕ, List, [], Bool, true, false, length, is_some, Option, Some, Ok, Err};
+ghost use Rattle.std.specs.Prelude.{◌≡◌, ◌≢◌, ◌≤◌, ◌⊎◌, ◌↔◌, ℕ, List, [], Bool, true, false, length, is_some, Option, Some, None, Ok, Err};
+ghost use Rattle.std.specs.List.{AllByRecursion};
 ghost use Rattle.command_line.specs.CommandLine.{IsRefused, IsMisnumbered, IsCrossed};
 ghost use Rattle.command_line.specs.declared.options.Line.{Line};
 ghost use Rattle.command_line.specs.declared.options.Verb.TheVariants as verbs;
@@ -27,7 +28,7 @@ ghost use Rattle.romfs_format.specs.Rules.{IsSound};
 ghost use Rattle.strata.specs.Sessions.{first_fault, status_at, Accepting, AreServed, EndWith, IsSession, ServedSession};
 ghost use Rattle.strata.specs.declared.faults.Fault.{Fault};
 ghost use Rattle.strata.specs.declared.faults.Fault.TheVariants.{Stopped};
-ghost use Rattle.strata.specs.Laws.{AreToBlame, HasMetItsEnd, HasStatusOf, IsOfFirstStopped, TellsOfSessions};
+ghost use Rattle.strata.specs.Laws.{AreToBlame, HasMetItsEnd, HasStatusOf, IsOfFirstStopped, IsWhole, TellsOfSessions};
 ghost use Rattle.strata.specs.Mounts.{is_taken_away, status_on_device, IsRunOnDevice, IsTakenAway, StopsWhere};
 
 use std::alloc::Allocator;
@@ -54,7 +55,8 @@ pub fn each_status_has_its_faults()
 
 /// Sessions end with no fault and 0 where all of them were served to their end; else with the fault
 /// of the first that stopped, which has its number, and with its status; or with 1 after fewer
-/// sessions than were asked for, since no client could be accepted.
+/// sessions than were asked for, since no client could be accepted. Of any sessions in a row the
+/// fault is that of the first of these that stopped, and there is none where none did.
 pub fn sessions_tell<A: Allocator>()
     ensures faults { (first : Session) (by : Sourced) (count : ℕ) (fault : Option Fault)
         (clients : Accepting) → AreServed A first by count fault clients →
@@ -64,6 +66,8 @@ pub fn sessions_tell<A: Allocator>()
         (fault : Option Fault) × TellsOfSessions A first by count fault status }
     ensures stopped { (first : Session) (by : Sourced) (served : List (ServedSession A first by))
         (fault : Fault) → first_fault 1 served ≡ Some fault → IsOfFirstStopped served fault }
+    ensures whole { (first : Session) (by : Sourced) (served : List (ServedSession A first by)) →
+        first_fault 1 served ≡ None → AllByRecursion IsWhole served }
 {}
 
 /// A session counts by itself: one that was served whole met its end once, and nothing failed; one
