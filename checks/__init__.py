@@ -4,7 +4,7 @@ import sys
 
 ROOT = os.path.dirname(os.path.dirname(os.path.abspath(__file__)))
 TOOLS = ROOT + "/tools"
-# modules of tools/ are named here as they name one another: `import layers`
+# packages of tools/ are named here as they name one another: `from strata_layers import layouts`
 sys.path.insert(1, TOOLS)
 
 # each file that is started, by the last part of its path

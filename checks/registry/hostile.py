@@ -276,8 +276,9 @@ def check_full_disk(room):
 def check_progress(room):
     """A line of progress on a terminal, which is taken away at the end; no word of it elsewhere."""
     source = made.layout(room.name(), large_layers(2))
-    code = ("import sys; sys.path.insert(0, %r); import progress; progress.FIRST_AFTER = progress.NEXT_AFTER = 0;"
-            "import layers; sys.exit(layers.main(sys.argv[1:]))" % TOOLS)
+    code = ("import sys; sys.path.insert(0, %r); from strata_format import progress;"
+            "progress.FIRST_AFTER = progress.NEXT_AFTER = 0;"
+            "from strata_layers import command; sys.exit(command.main(sys.argv[1:]))" % TOOLS)
     words = [sys.executable, "-B", "-c", code, "pull", "--store", room.store, "oci:" + source.path, "a:1"]
     ours, theirs = os.openpty()
     run = subprocess.Popen(words, stdout=subprocess.DEVNULL, stderr=theirs, env=room.environment)
