@@ -12,6 +12,8 @@ import secrets
 
 from strata_format.refused import faults_below
 
+# how a stranger's file is opened: no link is followed, and no pipe is waited for
+READING = os.O_RDONLY | os.O_NOFOLLOW | os.O_NONBLOCK | os.O_CLOEXEC
 # so many bytes are copied at once
 PIECE = 1 << 26
 
