@@ -82,7 +82,7 @@ def test_command(room):
 def test_wrong_words(room):
     """Wrong words are told in one line, which says what is wrong with them, with status 2."""
     place = layout_of(room.name(), [archive([file("a", b"1")])]).path
-    verbs = "no such folder, and no verb; the verbs are convert, pull, images, verify, remove, prune, config, attributes"
+    verbs = "no such folder, and no verb; the verbs are image, convert, pull, images, verify, remove, prune, config, attributes"
     for line, *words in (
             ("a verb is missing, or LAYOUT[:TAG] FOLDER",),
             ("FOLDER is missing, where the images of %s go" % place, place),

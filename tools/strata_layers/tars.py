@@ -10,12 +10,13 @@ import re
 import struct
 
 from strata_format.refused import Refused, shown
+from strata_layers.entries import (BLOCK_DEVICE, CHARACTER, DIRECTORY, FIFO, FILES, HARD, SYMBOLIC,
+                                   Entry)
 
 BLOCK = 512
 PIECE = 1 << 20
 # so long may an extended header or a long name be
 SPECIAL_MOST = 1 << 20
-FILES, HARD, SYMBOLIC, CHARACTER, BLOCK_DEVICE, DIRECTORY, FIFO = (b"0", b"\0", b"7"), b"1", b"2", b"3", b"4", b"5", b"6"
 SPARSE = b"S"
 # entries behind whose header no data stand, whatever size it says
 BARE = (HARD, SYMBOLIC, CHARACTER, BLOCK_DEVICE, DIRECTORY, FIFO)
@@ -31,18 +32,6 @@ SPARSE_FRONT = b"GNU.sparse."
 NUMBERS = {b"%07o\0" % value: value for value in (0, 0o400, 0o444, 0o555, 0o600, 0o644, 0o700, 0o755, 0o777, 1000)}
 DECIMAL = re.compile(rb"(-?)([0-9]{1,18})(?:\.([0-9]*))?")
 SECOND = 10 ** 9
-
-
-class Entry:
-    """An entry of an archive: its name and link as they stand there, when it was last changed, in seconds since 1970 and
-    nanoseconds, the names of its extended attributes, and of a file its data as pieces."""
-
-    __slots__ = ("kind", "name", "link", "mode", "uid", "gid", "size", "major", "minor", "time", "attributes", "data")
-
-    def __init__(self, kind, name, link):
-        self.kind, self.name, self.link = kind, name, link
-        self.mode = self.uid = self.gid = self.size = self.major = self.minor = 0
-        self.time, self.attributes, self.data = (0, 0), (), iter(())
 
 
 def text(field):

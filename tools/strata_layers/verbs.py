@@ -1,5 +1,7 @@
-"""The verbs of strata-layers: convert, pull, images, verify, remove, prune, config, attributes."""
+"""The verbs of strata-layers: image, convert, pull, images, verify, remove, prune, config,
+attributes."""
 import argparse
+import shlex
 import sys
 import textwrap
 
@@ -8,6 +10,7 @@ from strata_format.refused import Refused, bytes_of, one_line, shown
 from strata_format.version import command
 from strata_layers.convert import convert
 from strata_layers.folder_attributes import add_attributes
+from strata_layers.image_file import write_image_file
 from strata_layers.image_config import config_lines, sandbox_words, untold_user
 from strata_layers.layouts import platform_said
 from strata_layers.lost import Lost
@@ -46,6 +49,14 @@ def print_line(text):
 def told(lost):
     for line in lost.lines():
         ends.write(line + "\n")
+
+
+def run_image(asked):
+    lost = Lost(asked.leave_out)
+    write_image_file(asked.folder, asked.image, lost, asked.upper)
+    told(lost)
+    print_line("%s %s DIR" % (command("mount"), shlex.quote(asked.image)))
+    return 0
 
 
 def run_convert(asked):
@@ -117,6 +128,9 @@ def run_attributes(asked):
 
 
 HELP = {
+    "image": "Makes an image of romfs of a folder, or of an archive of tar on standard input (-),"
+             " with modes, owners, times, hard links and special files. Prints the command that"
+             " mounts it. An image of this name is replaced. The same folder gives the same bytes.",
     "convert": "Writes an image layout whose layers are images of romfs, made of those of LAYOUT in"
                " the same order. Layers are made in the store, each once, and copied from there."
                " Prints the new layout as skopeo names it.",
@@ -138,6 +152,10 @@ HELP = {
 }
 
 
+# verbs that need no store
+STORELESS = ("image", "attributes")
+
+
 def parser():
     it = Parser(prog=command("layers"))
     verbs = it.add_subparsers(dest="verb", required=True)
@@ -146,7 +164,7 @@ def parser():
                                     formatter_class=form, help=text.split(";")[0])
              for verb, text in HELP.items()}
     for verb, part in parts.items():
-        if verb != "attributes":
+        if verb not in STORELESS:
             part.add_argument("--store", metavar="DIR", default=default_place(),
                               help="where layers are kept (default: %(default)s)")
     add_words(parts)
@@ -155,6 +173,13 @@ def parser():
 
 def add_words(parts):
     """What each verb is asked."""
+    parts["image"].add_argument("--upper", action="store_true",
+                                help="FOLDER is the upper folder of a mount of overlayfs: its"
+                                     " whiteouts and opaque folders become those of layers")
+    parts["image"].add_argument("--leave-out", action="store_true",
+                                help="leave out what no image holds, and name it")
+    parts["image"].add_argument("folder", metavar="FOLDER|-")
+    parts["image"].add_argument("image", metavar="IMAGE")
     platform = "linux/ARCHITECTURE[/VARIANT]; by default this machine's"
     parts["convert"].add_argument("--platform", metavar="PLATFORM", type=platform_or_all,
                                   help=platform + "; all: every one")
@@ -177,7 +202,7 @@ def add_words(parts):
                       help="as words of podman run, before --rootfs")
 
 
-RUNS = {"convert": run_convert, "pull": run_pull, "images": run_images, "verify": run_verify,
+RUNS = {"image": run_image, "convert": run_convert, "pull": run_pull, "images": run_images, "verify": run_verify,
         "remove": run_remove, "prune": run_prune, "config": run_config,
         "attributes": run_attributes}
 
