@@ -14,7 +14,7 @@ SCRIPT = b"""#!/bin/sh
 for name in of-root of-tape of-worker of-all; do
     (read -r word < /data/$name) 2> /dev/null && echo $name
 done
-while read -r inside outside count; do echo "is $inside $outside"; done < /proc/self/uid_map
+while read -r what one rest; do case $what in Uid:|Gid:) echo "$what $one";; esac; done < /proc/self/status
 (: > /data/new) 2> /dev/null && echo written
 exit 0
 """
@@ -55,10 +55,10 @@ def ran(room, words, command):
 
 # by the user that an image says: what its program reads, and as whom it runs
 SEEN = {
-    "": ["of-root", "of-tape", "of-worker", "of-all", "is 0 0"],
-    "worker": ["of-tape", "of-worker", "of-all", "is 1000 1000"],
-    "1000:1000": ["of-worker", "of-all", "is 1000 1000"],
-    "nobody": ["of-all", "is 65534 65534"],
+    "": ["of-root", "of-tape", "of-worker", "of-all", "Uid: 0", "Gid: 0"],
+    "worker": ["of-tape", "of-worker", "of-all", "Uid: 1000", "Gid: 1000"],
+    "1000:1000": ["of-worker", "of-all", "Uid: 1000", "Gid: 1000"],
+    "nobody": ["of-all", "Uid: 65534", "Gid: 65534"],
 }
 
 
@@ -94,7 +94,7 @@ def check_users_of_other_callers(room):
     hold("refused", (None, True), (command, "the image's user is 1000:1000, and you are 65534:65534" in fault))
     command = room.ran(*become, sys.executable, "-B", LAYERS, "config", "--store", room.store, "--bwrap", "--as-caller", "app",
                        "--ro-bind", at, "/", *OPTIONS)
-    hold("his own rights", ["of-all", "is 1000 65534"], ran(room, become, command))
+    hold("his own rights", ["of-all", "Uid: 1000", "Gid: 1000"], ran(room, become, command))
     hold("words", "bwrap", shlex.split(command)[0])
 
 
