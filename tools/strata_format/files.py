@@ -12,6 +12,8 @@ import secrets
 
 from strata_format.refused import faults_below
 
+# how a stranger's file is opened: no link is followed, and no pipe is waited for
+READING = os.O_RDONLY | os.O_NOFOLLOW | os.O_NONBLOCK | os.O_CLOEXEC
 # so many bytes are copied at once
 PIECE = 1 << 26
 
@@ -44,8 +46,9 @@ class NewFile:
         self.file = os.fdopen(os.open(self.passing, flags, mode, dir_fd=folder), "w+b", 0)
 
     def keep(self, folder, name):
-        """Gives the file, which is whole, its name in an open folder of the same file system, in the
-        place of what had this name. One that is lasting is on the disk before, and its name behind."""
+        """Gives the file, which is whole, its name in an open folder of the same file system, in
+        the place of what had this name. One that is lasting is on the disk before, and its name
+        behind."""
         if self.is_lasting:
             os.fsync(self.file.fileno())
         os.rename(self.passing, name, src_dir_fd=self.folder, dst_dir_fd=folder)
@@ -61,8 +64,8 @@ class NewFile:
 
 @contextlib.contextmanager
 def new_file(folder, place, mode, front="", is_lasting=False):
-    """A new file of a mode in an open folder, whose passing name begins with `front`; faults name the
-    folder's place."""
+    """A new file of a mode in an open folder, whose passing name begins with `front`; faults name
+    the folder's place."""
     with faults_below(place):
         new = NewFile(folder, mode, front, is_lasting)
         try:

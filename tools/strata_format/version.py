@@ -1,5 +1,5 @@
-"""Where this strata stands, installed or in a checkout, and its version, as the program says it too:
-`strata-layers 1.0.0`."""
+"""Where this strata stands, installed or in a checkout, and its version, as the program says it
+too: `strata-layers 1.0.0`."""
 import os
 import re
 

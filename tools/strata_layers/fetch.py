@@ -18,7 +18,7 @@ import sys
 from strata_format.refused import Refused, faults_below, shown
 from strata_format.system import libc
 from strata_layers.layout_images import layers_in
-from strata_layers.layout_writer import json_bytes
+from strata_layers.layout_writer import LAYOUT, LAYOUT_FILE, json_bytes
 from strata_layers.layouts import INDEXES, JSON_MOST, Layout, chosen, descriptor_of, field, parsed
 
 TRANSPORT = "docker://"
@@ -112,8 +112,8 @@ def write_known(folder, known):
     for layer in known:
         with open(os.path.join(blobs, layer.digits), "wb") as out:
             out.truncate(layer.size)
-    with open(os.path.join(folder, "oci-layout"), "wb") as out:
-        out.write(json_bytes({"imageLayoutVersion": "1.0.0"}))
+    with open(os.path.join(folder, LAYOUT_FILE), "wb") as out:
+        out.write(json_bytes(LAYOUT))
 
 
 @contextlib.contextmanager

@@ -34,8 +34,8 @@ class ImageFolder:
         return self.new[-1].file
 
     def keep(self):
-        """Gives the images their names, of as many digits as the last one needs, so that their order
-        is that of names; their paths."""
+        """Gives the images their names, of as many digits as the last one needs, so that their
+        order is that of names; their paths."""
         digits = max(2, len(str(len(self.new) - 1)))
         names = ["%0*d.romfs" % (digits, number) for number in range(len(self.new))]
         for new, name in zip(self.new, names):

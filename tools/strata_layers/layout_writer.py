@@ -17,6 +17,8 @@ from strata_format.refused import Refused, shown
 from strata_layers.layouts import REFERENCE, Layout, has_type, parsed, split_at_folder
 
 NEW = ".strata-"
+# the file that makes a folder a layout, and what it says
+LAYOUT_FILE, LAYOUT = "oci-layout", {"imageLayoutVersion": "1.0.0"}
 TAG = re.compile(r"[A-Za-z0-9](-?[A-Za-z0-9._:@/+-])*")
 FICLONE = 0x40049409
 
@@ -63,7 +65,7 @@ class LayoutWriter:
         if os.listdir(self.root):
             Layout(self.folder)
         else:
-            self.write(self.root, "oci-layout", json_bytes({"imageLayoutVersion": "1.0.0"}))
+            self.write(self.root, LAYOUT_FILE, json_bytes(LAYOUT))
 
     # --- files ---
 

@@ -18,6 +18,7 @@ import platform
 import re
 import stat
 
+from strata_format.files import READING
 from strata_format.progress import unheard
 from strata_format.refused import Refused, shown
 
@@ -110,10 +111,6 @@ def digest_of(it):
 
 
 # --- blobs ---
-
-# no link is followed, and no pipe is waited for
-READING = os.O_RDONLY | os.O_NOFOLLOW | os.O_NONBLOCK | os.O_CLOEXEC
-
 
 def why_not(fault):
     return "is a symbolic link" if fault.errno == errno.ELOOP else os.strerror(fault.errno).lower()

@@ -21,7 +21,7 @@ import shutil
 import stat
 
 from strata_format import ends
-from strata_format.files import make_folder, new_file, open_folder, write_all
+from strata_format.files import READING, make_folder, new_file, open_folder, write_all
 from strata_format.progress import unheard
 from strata_format.refused import Refused, faults_below, shown
 
@@ -31,8 +31,6 @@ DIGEST = re.compile(r"sha256:[0-9a-f]{64}")
 DAMAGED = ".damaged"
 PIECE = 1 << 18
 SMALL_MOST = 8 << 20
-# no link is followed, and no pipe is waited for
-READING = os.O_RDONLY | os.O_NOFOLLOW | os.O_NONBLOCK | os.O_CLOEXEC
 
 
 def default_place():

@@ -17,7 +17,8 @@ MNT_DETACH, UMOUNT_NOFOLLOW = 2, 8
 
 
 def mounted(plan):
-    """An open /dev/fuse that is mounted on a folder: by mount(2) where that may be, and else by fusermount3."""
+    """An open /dev/fuse that is mounted on a folder: by mount(2) where that may be, and else by
+    fusermount3."""
     device = mounted_by_kernel(plan)
     return mounted_by_helper(plan) if device is None else device
 

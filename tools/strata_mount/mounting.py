@@ -9,9 +9,9 @@ import threading
 
 from strata_format import ends
 from strata_format.refused import one_line
+from strata_mount import preconditions
 from strata_mount.device import DEVICE, answers, mounted, take_away
 from strata_mount.options import Options
-from strata_mount.preconditions import find_images, hold_folder, hold_here, hold_images, hold_names
 
 RELAY = os.path.join(os.path.dirname(os.path.realpath(__file__)), "relay.py")
 INTERRUPTED = 130
@@ -21,7 +21,8 @@ INTERRUPTED = 130
 
 def serve_words(plan):
     """How strata is called."""
-    words = [plan.program, "serve", "--device", "--attributes", *["--strict"] * plan.strict, *["--whole"] * plan.whole]
+    words = [plan.program, "serve", "--device", "--attributes"]
+    words += ["--strict"] * plan.strict + ["--whole"] * plan.whole
     words += ["--workers", str(plan.workers)] * (plan.workers is not None)
     words += ["--readers", str(plan.readers)] * (plan.readers is not None)
     words += ["--owner", plan.owner] * (plan.owner is not None)
@@ -40,18 +41,22 @@ def relay_words(plan, errors, counts):
 
 
 def served(plan, device, errors, counts):
-    """Starts strata on an open device, away from the signals of the terminal and from this folder. The device is open there
-    alone from then on."""
-    words, numbers = relay_words(plan, errors, counts) if plan.is_relayed() else ([], plan.marks)
+    """Starts strata on an open device, away from the signals of the terminal and from this folder.
+    The device is open there alone from then on."""
+    words, numbers = [], plan.marks
+    if plan.is_relayed():
+        words, numbers = relay_words(plan, errors, counts)
     try:
-        return subprocess.Popen([*words, *serve_words(plan)], stdin=device, stdout=device, pass_fds=numbers,
-                                stderr=None if plan.debug else errors, start_new_session=True, cwd="/", preexec_fn=unblock)
+        return subprocess.Popen([*words, *serve_words(plan)], stdin=device, stdout=device,
+                                stderr=None if plan.debug else errors, pass_fds=numbers,
+                                start_new_session=True, cwd="/", preexec_fn=unblock)
     finally:
         os.close(device)
 
 
 def answers_first(plan, server):
-    """Whether a mount answers before its server ends. A thread asks, so that signals are heard here."""
+    """Whether a mount answers before its server ends. A thread asks, so that signals are heard
+    here."""
     told = []
     asking = threading.Thread(target=lambda: told.append(answers(plan.folder)), daemon=True)
     asking.start()
@@ -63,7 +68,8 @@ def answers_first(plan, server):
 
 
 def status_of(server, errors, plan):
-    """The status with which strata ends, which is waited for; its line is passed on, with what stands behind it."""
+    """The status with which strata ends, which is waited for; its line is passed on, with what
+    stands behind it."""
     status = server.wait()
     errors.seek(0)
     text = errors.read().decode(errors="replace")
@@ -98,6 +104,12 @@ def hear(handler):
         signal.signal(each, handler)
 
 
+def interrupt(*_):
+    """Ends what is waited for, once: no signal is heard after it."""
+    hear(signal.SIG_IGN)
+    raise KeyboardInterrupt
+
+
 def unblock():
     signal.pthread_sigmask(signal.SIG_UNBLOCK, stopping())
 
@@ -105,11 +117,13 @@ def unblock():
 # --- from the mount to its end ---
 
 def run(plan, counts):
-    """Mounts and serves; the status to end with. Requests are counted in the open file `counts`, unless that is None."""
-    # strata must not hold this script's standard error open in the background, and no folder is needed for what it says
+    """Mounts and serves; the status to end with. Requests are counted in the open file `counts`,
+    unless that is None."""
+    # strata must not hold this script's standard error open in the background, and no folder is
+    # needed for what it says
     errors = os.fdopen(os.memfd_create("errors"), "w+b")
     signal.pthread_sigmask(signal.SIG_BLOCK, stopping())
-    hear(signal.default_int_handler)
+    hear(interrupt)
     device = mounted(plan)
     try:
         server = served(plan, device, errors, counts)
@@ -122,8 +136,8 @@ def run(plan, counts):
 
 
 def waited(plan, server, errors):
-    """Waits until a server has ended, or, in the background, until the mount answers; the status to end with, or None where
-    that is interrupted."""
+    """Waits until a server has ended, or, in the background, until the mount answers; the status to
+    end with, or None where that is interrupted."""
     try:
         unblock()
         if plan.stats is not None:
@@ -133,7 +147,6 @@ def waited(plan, server, errors):
             return status_of(server, errors, plan)
         return 0 if is_there else status_of_none(server, errors, plan)
     except KeyboardInterrupt:
-        hear(signal.SIG_IGN)
         return None
 
 
@@ -148,21 +161,23 @@ def interrupted(plan, server):
 
 def counts_of(plan):
     """An open file in which requests are counted, or None where they are not."""
-    return None if plan.stats is None else os.open(plan.stats, os.O_WRONLY | os.O_CREAT | os.O_CLOEXEC, 0o666)
+    if plan.stats is None:
+        return None
+    return os.open(plan.stats, os.O_WRONLY | os.O_CREAT | os.O_CLOEXEC, 0o666)
 
 
 def attempt(plan):
     """Mounts by a plan, or says why nothing can be mounted; the status to end with."""
     try:
-        hold_here([*plan.images, plan.folder])
-        hold_folder(plan)
-        find_images(plan)
-        hold_names(plan)
+        preconditions.hold_here([*plan.images, plan.folder])
+        preconditions.hold_folder(plan)
+        preconditions.find_images(plan)
+        preconditions.hold_names(plan)
         program = shutil.which(plan.program)
         if not program:
             raise OSError(0, "no such program", plan.program)
         plan.folder, plan.program = os.path.realpath(plan.folder), os.path.abspath(program)
-        hold_images(plan)
+        preconditions.hold_images(plan)
         return run(plan, counts_of(plan))
     except OSError as fault:
         plan.say_fault(fault)
@@ -174,7 +189,8 @@ def attempt(plan):
 def hints(fault, plan):
     """What to do about a fault of a mount, where that is known."""
     if fault.filename == DEVICE and fault.errno in (errno.ENOENT, errno.ENODEV, errno.EPERM):
-        yield "the kernel's FUSE is not to be had here: `modprobe fuse`, or a container with `--device /dev/fuse`"
+        yield ("the kernel's FUSE is not to be had here: `modprobe fuse`, or a container with "
+               "`--device /dev/fuse`")
     unknown = Options(",".join(plan.words)).unknown
     if fault.errno == errno.EINVAL and unknown:
         yield "-o: not known: %s" % one_line(", ".join(unknown))

@@ -1,12 +1,14 @@
-"""What must hold before a mount: the folder is there, the images can be named, and strata needs nothing below the folder."""
+"""What must hold before a mount: the folder is there, the images can be named, and strata needs
+nothing below the folder."""
 import os
 
 from strata_format.version import PACKAGES, TOP
 from strata_mount import dead_mounts
 from strata_mount.device import take_away
 
-# what strata opens when it begins, besides its program and its libraries: the loader and its lists, the standard ends, and
-# what tells how many processors there are; python looks for open files in the last folder
+# what strata opens when it begins, besides its program and its libraries: the loader and its lists,
+# the standard ends, and what tells how many processors there are; python looks for open files in
+# the last folder
 OPENED = ("/lib64/ld-linux-x86-64.so.2", "/etc/ld.so.preload", "/etc/ld.so.cache", "/dev/null",
           "/sys/devices/system/cpu/online", "/sys/fs/cgroup/cpu.max", "/proc/self/fd")
 # as many links as the kernel follows on the way to a file
@@ -23,8 +25,8 @@ def hold_here(names):
 
 
 def has_lost_server(folder):
-    """Whether a mount stands at a folder whose server has ended; OSError where the folder is not there. It is statvfs that
-    asks, since the kernel keeps a root's attributes."""
+    """Whether a mount stands at a folder whose server has ended; OSError where the folder is not
+    there. It is statvfs that asks, since the kernel keeps a root's attributes."""
     try:
         os.statvfs(os.path.join(folder, ""))
         return False
@@ -56,7 +58,8 @@ def hold_names(plan):
         try:
             os.fsencode(os.path.abspath(image)).decode("utf-8")
         except UnicodeDecodeError:
-            raise OSError(0, "no name in UTF-8, and strata takes no other; a link with another name will do", image) from None
+            why = "no name in UTF-8, and strata takes no other; a link with another name will do"
+            raise OSError(0, why, image) from None
 
 
 def way_to(path):
@@ -100,10 +103,12 @@ def packages():
 
 
 def hold_images(plan):
-    """Looks that no image lies below the folder, nor strata itself: it would wait for itself to open it."""
+    """Looks that no image lies below the folder, nor strata itself: it would wait for itself to
+    open it."""
     for image in plan.images:
         if lies_in(image, plan.folder):
             raise OSError(0, "this image lies in the folder that it would be mounted on", image)
     for path in (plan.program, *packages(), *sorted(libraries()), *OPENED):
         if lies_in(path, plan.folder):
-            raise OSError(0, "strata needs this file, which lies in the folder that it would mount on", path)
+            why = "strata needs this file, which lies in the folder that it would mount on"
+            raise OSError(0, why, path)
