@@ -1,7 +1,7 @@
 # make test: the merge gate. It holds the public calls against their table, proves every crate from nothing, tries the wrong bodies, and runs all tests and cases.
 # make build: the proved program, as build/strata. make demo: shows it at work.
 # make kept: the same, proved so that `rt check` in a crate's folder and make trials then prove what has changed alone.
-# make doors: the public calls against their table. make links: all that README.md and docs/ name is there, and no paragraph or page is too long.
+# make doors: the public calls against their table. make links: all that README.md and docs/ name is there, and no paragraph is too long.
 # make crate_order: crates.txt stands in the order of layers. make logic: the program names the logic of this prover. None of these wants
 # a proof.
 # make cases: the cases alone, on build/strata. make plant: sees that the cases notice wrong lines.
