@@ -2,9 +2,8 @@
 # make build: the proved program, as build/strata. make demo: shows it at work.
 # make kept: the same, proved so that `rt check` in a crate's folder and make trials then prove what has changed alone.
 # make doors: the public calls against their table. make links: all that README.md and docs/ name is there, and no paragraph is too long.
-# make crate_order: crates.txt stands in the order of layers. make crate_picture: docs/crates.svg is what crates.txt gives, and make
-# pictures draws it. make logic: the program names the logic of this prover. None of these wants
-# a proof.
+# make crate_order: crates.txt stands in the order of layers. make logic: the program names the logic of this prover. make pictures:
+# draws docs/crates.svg and docs/mounts.svg anew. None of these wants a proof.
 # make cases: the cases alone, on build/strata. make plant: sees that the cases notice wrong lines.
 # make mounted [STRATA=PROGRAM]: real mounts, looked at through the kernel; with STRATA_READERS=N in the environment, each by N readers.
 # make layers: tools/layers.py on layouts made on the spot, and, where umoci stands, on images that umoci makes.
@@ -21,7 +20,7 @@
 # make install [PREFIX=/usr/local] [DESTDIR=], make uninstall: what make build has made, with man pages and the mount helper.
 # make deb, make dist [PACKAGES=build]: a Debian package, a tar of the same files. make installed: all of these in fresh roots.
 # Each of these starts a file of checks/ by `python3 checks NAME WORDS..`; `python3 checks` lists them.
-.PHONY: test build kept demo doors links crate_order crate_picture logic cases layers registry mounted plant trials wrong_bodies bench growth fuzz threads soak demo_files needed pictures
+.PHONY: test build kept demo doors links crate_order logic cases layers registry mounted plant trials wrong_bodies bench growth fuzz threads soak demo_files needed pictures
 .PHONY: install uninstall deb dist installed
 
 PYTHON = python3 -B
@@ -31,7 +30,7 @@ test: needed
 	$(CHECKS) doors
 	$(CHECKS) links
 	$(CHECKS) crate_order
-	$(CHECKS) crate_picture
+	$(CHECKS) pictures
 	$(CHECKS) logic
 	$(CHECKS) ci
 	$(CHECKS) wrong_bodies
@@ -63,11 +62,11 @@ demo: build/strata
 	@$(PYTHON) tools/show.py demo/requests.fuse build/replies
 	cat build/balances
 
-doors links crate_order crate_picture logic: needed
+doors links crate_order logic: needed
 	$(CHECKS) $@
 
 pictures:
-	$(CHECKS) crate_picture --drawn
+	$(CHECKS) pictures --drawn
 
 cases: build/strata
 	$(CHECKS) cases build/strata

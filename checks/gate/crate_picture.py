@@ -1,19 +1,15 @@
-"""Draws docs/crates.svg, the way of the data through the crates, from crates.txt: python3 checks crate_picture [--drawn FILE]
+"""Draws docs/crates.svg, the way of the data through the crates, from crates.txt; part of `python3 checks pictures`.
 
 Each group of crates.txt is a band with its comment, in the order of the file, and each crate a box in it, below those of its
 band that it uses. A line leads from a crate to one that uses it, if that uses it by no other way. Crates of the first group are
-used nearly everywhere, and tests by no program, so that these have no lines and tests no band. Without --drawn it sees that the
-picture is the one that crates.txt gives now; the status is 1 if it is not.
+used nearly everywhere and have no lines. Tests, which no program links, are left out.
 """
 import html
-import sys
 import textwrap
 
-from checks import ROOT
 from checks.gate.crate_order import groups
 from checks.gate.crates import crates_below, crates_used
 
-PICTURE = "docs/crates.svg"
 TESTS = "# tests"
 WIDTH, TITLE, LEFT, BOX, TALL, STEP, GAP = 980, 200, 220, 128, 26, 48, 18
 MOST = 5  # boxes in a row
@@ -142,24 +138,3 @@ def picture():
             '<defs><marker id="end" viewBox="0 0 8 8" refX="6" refY="4" markerWidth="7" markerHeight="7" orient="auto">'
             '<path d="M0 0 L8 4 L0 8 z" fill="#779"/></marker></defs>']
     return "\n".join([*head, *back, *lines, *front, "</svg>", ""])
-
-
-def is_drawn():
-    """Whether the picture is the one that crates.txt gives."""
-    with open("%s/%s" % (ROOT, PICTURE), encoding="utf-8") as it:
-        return it.read() == picture()
-
-
-def main(words):
-    if words[:1] == ["--drawn"]:
-        with open(words[1] if words[1:] else "%s/%s" % (ROOT, PICTURE), "w", encoding="utf-8") as out:
-            out.write(picture())
-        return 0
-    if not is_drawn():
-        print("%s is not what crates.txt gives: `make pictures` draws it" % PICTURE)
-        return 1
-    return 0
-
-
-if __name__ == "__main__":
-    sys.exit(main(sys.argv[1:]))
