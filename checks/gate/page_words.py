@@ -1,24 +1,31 @@
 """Sees that no page has more words than its reader has time for; part of `python3 checks links`.
 
-Words are counted as `wc -w` does. The pages of WAITING are still longer; once none waits, README.md, docs/*.md and
-docs/man/* are also held to MOST_TOGETHER.
+Words are counted as `wc -w` does. README.md, docs/*.md and docs/man/* are also held to MOST_TOGETHER.
 """
 import os
 
 from checks import ROOT
 
 MOST = {
+    "README.md": 1100,
     "docs/ARCHITECTURE.md": 4000,
     "docs/CHANGING.md": 3000,
     "docs/DECISIONS.md": 5000,
     "docs/DEFINITIONS.md": 6000,
     "docs/GATE.md": 1000,
+    "docs/LIMITS.md": 1200,
+    "docs/MOUNTING.md": 2200,
     "docs/NOTEBOOK.md": 4000,
     "docs/PROMISES.md": 2500,
     "docs/SPEED.md": 1200,
     "docs/TRIALS.md": 1000,
+    "docs/USE.md": 3000,
+    "docs/man/mount.strata.8": 1000,
+    "docs/man/strata-attributes.5": 900,
+    "docs/man/strata-layers.1": 1100,
+    "docs/man/strata-mount.1": 1000,
+    "docs/man/strata.1": 1100,
 }
-WAITING = {"README.md": 1100}
 MOST_TOGETHER = 38000
 
 
@@ -43,5 +50,5 @@ def long_pages():
         if words.get(page, 0) > most:
             yield "%s: %d words, allowed %d" % (page, words[page], most)
     together = sum(words.values())
-    if not WAITING and together > MOST_TOGETHER:
+    if together > MOST_TOGETHER:
         yield "all pages: %d words, allowed %d" % (together, MOST_TOGETHER)
