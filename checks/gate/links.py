@@ -3,8 +3,8 @@
 Looked at are links and the headings that they lead to; paths from the root of the repository, and from the folder of a
 crate; file names alone, which some folder must have; `make TARGET`; and `python3 checks NAME`. In a path `*` stands for
 anything, and so does a word like NAME. How long a paragraph may be says paragraphs.py, and a page page_words.py; no line
-of README.md is too long for a terminal. It reads files alone. What is not there and what is too long is a line each, and
-then the status is 1.
+of README.md is too long for a terminal. Which turns are not plain English says phrases.py. It reads files alone. What is
+not there, too long or odd is a line each, and then the status is 1.
 """
 import fnmatch
 import os
@@ -12,8 +12,9 @@ import re
 import sys
 
 from checks import ROOT, STARTED
-from checks.gate.page_words import long_pages
+from checks.gate.page_words import long_pages, pages
 from checks.gate.paragraphs import long_paragraphs
+from checks.gate.phrases import odd_phrases
 
 BUILT = (".git", "build", "out", "__pycache__")
 PAGES = ("README.md", *sorted("docs/" + name for name in os.listdir(ROOT + "/docs") if name.endswith(".md")))
@@ -97,14 +98,16 @@ def long_lines(page):
 
 def main():
     there, wrong, long = There(), [], [*long_pages(), *long_lines("README.md")]
+    odd = [line for page in pages() for line in odd_phrases(page)]
     for page in PAGES:
         text = read(page)
         long += long_paragraphs(page, text)
         wrong += ["%s: %s" % (page, it) for it in [*wrong_links(page, text), *wrong_names(text, there)]]
     wrong += ["checks/__init__.py: %s" % path for path in STARTED if not there.has("checks/%s.py" % path)]
-    print("".join("%s is not there\n" % line for line in wrong) + "".join(line + "\n" for line in long)
-          + "%d pages, %d names not there, %d pages, paragraphs or lines too long" % (len(PAGES), len(wrong), len(long)))
-    return 1 if wrong or long else 0
+    print("".join("%s is not there\n" % line for line in wrong) + "".join(line + "\n" for line in [*long, *odd])
+          + "%d pages, %d names not there, %d pages, paragraphs or lines too long, %d odd phrases" % (
+              len(PAGES), len(wrong), len(long), len(odd)))
+    return 1 if wrong or long or odd else 0
 
 
 if __name__ == "__main__":
