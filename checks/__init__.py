@@ -13,4 +13,4 @@ STARTED = (
     "layers/layers_umoci", "registry/registry", "speed/bench", "speed/growth",
     "soak/soak", "threads/threads", "gate/ci", "gate/prove", "gate/costs", "gate/trials", "gate/wrong_bodies", "gate/leave_out",
     "gate/plant", "gate/doors", "gate/links", "gate/crate_order",
-    "gate/logic", "demo/demo_files", "demo/demo_layout", "demo/record")
+    "gate/logic", "gate/pictures", "demo/demo_files", "demo/demo_layout", "demo/record")

@@ -20,7 +20,8 @@ PROGRAMS = (
 # the folder of the packages that these programs are made of
 MODULES = "lib/strata"
 # what says how it is used, and its limits
-DOCUMENTS = (("README.md",), ("docs", "USE.md"), ("docs", "MOUNTING.md"))
+DOCUMENTS = (("README.md",), ("LICENSE-MIT",), ("LICENSE-APACHE",), ("docs", "USE.md"), ("docs", "MOUNTING.md"),
+             ("docs", "LIMITS.md"))
 COMPLETIONS = {
     "bash": "share/bash-completion/completions", "zsh": "share/zsh/site-functions", "fish": "share/fish/vendor_completions.d"}
 

@@ -263,12 +263,12 @@ def refuse_image(room, words, *lines):
 
 
 def test_refused_images(room):
-    folder, image = made_folder(room), room.name()
-    refuse_image(room, (room.path + "/none", image), "%s/none: no such file or directory" % room.path)
+    folder, image, none = made_folder(room), room.name(), room.path + "/none"
+    refuse_image(room, (none, image), none + ": no such file or directory")
     refuse_image(room, (folder + "/su", image), "%s/su: not a directory" % folder)
     refuse_image(room, (folder, folder), "%s: is there, and no file" % folder)
     refuse_image(room, (folder, "/dev/null"), "/dev/null: is there, and no file")
-    refuse_image(room, (folder, room.path + "/none/x"), "%s/none: no such file or directory" % room.path)
+    refuse_image(room, (folder, none + "/x"), none + ": no such file or directory")
     line = "an image can't be made within the folder that it is made of"
     refuse_image(room, (folder, folder + "/d1/x.romfs"), line)
     expect({*os.listdir(folder + "/d1")} == {"large", "s", "closed", "su2"}, "something was left")

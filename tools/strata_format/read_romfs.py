@@ -86,6 +86,15 @@ class ReadImage:
                 return None
         return at
 
+    def data_at(self, at, most):
+        """The first bytes of the regular file whose header stands there, `most` of them at most; none
+        where no such file stands there."""
+        found = self.header(at) if at is not None else None
+        if found is None or found[1] != romfs.REGULAR:
+            return b""
+        start = at + 16 + len(romfs.padded_name(self.name_at(at + 16) or b""))
+        return self.data[start:min(start + min(found[3], most), self.full)]
+
     def end(self, at):
         """The header that a hard link leads to in the end, or None; any other header itself."""
         seen = set()

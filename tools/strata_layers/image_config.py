@@ -1,12 +1,9 @@
 """What an image's configuration says of how it is run, for people and for the programs that run
 it."""
 import json
-import re
 import shlex
 
 from strata_format.refused import Refused
-
-NUMBERS = re.compile(r"([0-9]+)(?::([0-9]+))?")
 
 
 def is_text(value):
@@ -65,24 +62,37 @@ def config_lines(config):
     yield " ".join(["user", *([shlex.quote(it.user)] if it.user else [])])
 
 
-def untold_user(config):
-    """The user whom the words for bwrap don't say, since he is no number; else None."""
-    user = RunConfig(config).user
-    return user if user and not NUMBERS.fullmatch(user) else None
+def become(user, caller):
+    """The words before bwrap by which the caller, a user's and a group's number, becomes the user;
+    refused where he may not."""
+    if (user.uid, user.gid) == caller:
+        return []
+    if caller[0] != 0:
+        raise Refused("the image's user is %d:%d, and you are %d:%d; root can run it as that user, and"
+                      " --as-caller runs it with your rights under that number"
+                      % (user.uid, user.gid, *caller))
+    groups = ["--groups", ",".join(map(str, user.groups))] if user.groups else ["--clear-groups"]
+    return ["setpriv", "--reuid", str(user.uid), "--regid", str(user.gid), *groups, "--inh-caps=-all"]
 
 
-def bwrap_words(it):
-    """The last words of bwrap: environment, folder, user where it is a number, and the program. No
-    word of the image is taken as an option."""
-    words = ["--clearenv"]
+def renumbered(user, caller):
+    """The words of bwrap by which the caller's own rights have the user's numbers in the sandbox."""
+    if caller[0] == 0:
+        raise Refused("--as-caller would give root's rights to the image's user; leave it out")
+    return ["--unshare-user", "--uid", str(user.uid), "--gid", str(user.gid)]
+
+
+def bwrap_words(it, user, caller, options, as_caller):
+    """A whole command of bwrap: these options, then environment, folder and program of the image,
+    run as its user. Where the image says none and the caller is not root, it is the caller. No word
+    of the image is taken as an option."""
+    user = user if it.user or caller[0] == 0 else user._replace(uid=caller[0], gid=caller[1])
+    words = [] if as_caller else become(user, caller)
+    words += ["bwrap", *options, *(renumbered(user, caller) if as_caller else []), "--clearenv"]
     for text in it.environment:
         name, _, value = text.partition("=")
         words += ["--setenv", name, value]
-    words += ["--chdir", it.folder]
-    numbers = NUMBERS.fullmatch(it.user)
-    if numbers:
-        words += ["--unshare-user", "--uid", numbers[1], "--gid", numbers[2] or "0"]
-    return [*words, "--", *it.words()]
+    return [*words, "--chdir", it.folder, "--", *it.words()]
 
 
 def podman_words(it):
@@ -92,9 +102,3 @@ def podman_words(it):
         # a name alone would mean the value that it has outside
         words += ["--env", text if "=" in text else text + "="]
     return words + (["--user", it.user] if it.user else [])
-
-
-def sandbox_words(config, form):
-    """The words for a program that runs an image, in one line of the shell."""
-    it = RunConfig(config)
-    return " ".join(map(shlex.quote, bwrap_words(it) if form == "bwrap" else podman_words(it)))

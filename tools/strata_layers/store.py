@@ -1,6 +1,7 @@
 """A store of layers: each layer once, as an image of romfs in a file that its digest names.
 
     STORE/blobs/sha256/DIGITS   layers, which are never written to once they have this name
+    STORE/blobs/sha256/DIGITS.damaged   one that had other bytes than its name says
     STORE/images/NAME:TAG       images, as JSON; a slash of the name is a % here
     STORE/made/DIGEST           which layer was made of a blob of this digest
     STORE/new/                  what is being written; who holds the lock may clear it
@@ -26,6 +27,8 @@ from strata_format.refused import Refused, faults_below, shown
 
 MARK, MARK_TEXT = "strata-store", b"1\n"
 DIGEST = re.compile(r"sha256:[0-9a-f]{64}")
+# the end of the name of a layer that is set aside
+DAMAGED = ".damaged"
 PIECE = 1 << 18
 SMALL_MOST = 8 << 20
 
@@ -215,6 +218,21 @@ class Store:
         os.fchmod(new.file.fileno(), 0o444)
         new.keep(self.blobs, digits)
 
-    def layers(self):
-        """The digits of all layers, in order."""
-        return sorted(it for it in os.listdir(self.blobs) if DIGEST.fullmatch("sha256:" + it))
+    def set_aside(self, number, digits):
+        """Takes the layer in an open file, whose bytes are wrong, out of use; whether it still had its
+        name. The store must be locked."""
+        found = os.fstat(number)
+        try:
+            named = os.stat(digits, dir_fd=self.blobs, follow_symlinks=False)
+        except FileNotFoundError:
+            return False
+        if (named.st_dev, named.st_ino) != (found.st_dev, found.st_ino):
+            return False
+        os.rename(digits, digits + DAMAGED, src_dir_fd=self.blobs, dst_dir_fd=self.blobs)
+        os.fsync(self.blobs)
+        return True
+
+    def layers(self, ending=""):
+        """The digits of all layers, in order; with the ending DAMAGED, of those set aside."""
+        names = (it[:len(it) - len(ending)] for it in os.listdir(self.blobs) if it.endswith(ending))
+        return sorted(it for it in names if DIGEST.fullmatch("sha256:" + it))

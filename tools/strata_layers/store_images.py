@@ -105,8 +105,8 @@ def held_layer(store, layer, word, heard):
             raise Refused(missing)
         if found.st_size != layer.size or heard and file_digits(number, heard) != layer.digits:
             where = shown(os.fsencode(store.path_of(layer.digits)))
-            raise Refused("%s: its layer %s has other bytes than its digest says; remove it, and"
-                          " pull it again" % (word, where))
+            raise Refused("%s: its layer %s has other bytes than its digest says; run `strata-layers"
+                          " verify`, and pull it again" % (word, where))
     except BaseException:
         os.close(number)
         raise

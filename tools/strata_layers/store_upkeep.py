@@ -1,10 +1,11 @@
 """Upkeep of a store: what is in it, whether it is right, and taking away what nobody needs."""
+import errno
 import fcntl
 import os
 
 from strata_format.progress import Progress
 from strata_format.refused import Refused, shown
-from strata_layers.store import file_digits
+from strata_layers.store import DAMAGED, file_digits
 from strata_layers.store_images import image_in, names
 
 
@@ -39,58 +40,69 @@ def users_of(found):
 
 
 def verified(store):
-    """A line for each layer whose digest is wrong or that is missing, and for each image that can't
-    be read."""
+    """A line for each layer whose digest is wrong, which is taken out of use, for each that is
+    missing, and for each image that can't be read."""
     found, faults = found_images(store)
     yield from faults
     users, there = users_of(found), store.layers()
     with Progress("verified", sum(store.size_of(it) or 0 for it in there)) as progress:
         for digits in there:
-            got = digits_now(store, digits, progress.add)
-            if got is not None and got != digits:
-                needed = ", ".join(users.get(digits, ["no image"]))
-                yield "%s: its digest is sha256:%s; needed by %s; remove it, and pull again" % (
-                    shown(os.fsencode(store.path_of(digits))), got, needed)
+            needed = needed_by(users, digits)
+            yield from ("%s; needed by %s" % (line, needed) for line in wrong_layer(store, digits, progress.add))
     for digits in sorted({*users} - {*there}):
-        yield "sha256:%s: missing; needed by %s" % (digits, ", ".join(users[digits]))
+        yield "sha256:%s: missing; needed by %s" % (digits, needed_by(users, digits))
 
 
-def digits_now(store, digits, heard):
+def needed_by(users, digits):
+    return ", ".join(users.get(digits, ["no image"]))
+
+
+def wrong_layer(store, digits, heard):
+    """A line where a layer has other bytes than its digest says: it is set aside, if this user may
+    write in the store, so that no mount takes it, and the next pull brings it again."""
     number = store.open_layer(digits)
     if number is None:
-        return None
+        return
     try:
-        return file_digits(number, heard)
+        got = file_digits(number, heard)
+        if got == digits:
+            return
+        where = shown(os.fsencode(store.path_of(digits)))
+        try:
+            with store.locked():
+                store.set_aside(number, digits)
+            yield "%s: its digest is sha256:%s; it is set aside as %s%s; pull again" % (where, got, digits, DAMAGED)
+        except OSError as fault:
+            if fault.errno not in (errno.EACCES, errno.EPERM, errno.EROFS):
+                raise
+            yield "%s: its digest is sha256:%s; verify it as the store's owner, which sets it aside" % (where, got)
     finally:
         os.close(number)
 
 
 def prune(store):
-    """Takes away layers that no image names and no mount uses: how many, their bytes, and how many
+    """Takes away layers that no image names or that are set aside, and no mount uses: how many, their bytes, and how many
     a mount uses. The store must be locked. Refused where an image can't be read, since what it
     needs is not known then."""
     found, faults = found_images(store)
     if faults:
         raise Refused(faults[0])
     users = users_of(found)
-    sizes, used = [], 0
-    for digits in store.layers():
-        if digits not in users:
-            size = taken_away(store, digits)
-            sizes += [] if size is None else [size]
-            used += size is None
+    unwanted = [it for it in store.layers() if it not in users]
+    sizes = [taken_away(store, it) for it in unwanted + [it + DAMAGED for it in store.layers(DAMAGED)]]
     forget(store)
-    return len(sizes), sum(sizes), used
+    gone = [it for it in sizes if it is not None]
+    return len(gone), sum(gone), len(sizes) - len(gone)
 
 
-def taken_away(store, digits):
-    """Takes a layer away; its size, or None where a mount uses it: then its server has the file
-    open, with a lock on it."""
-    number = store.open_layer(digits)
+def taken_away(store, name):
+    """Takes the file of a layer away; its size, or None where a mount uses it: then its server has
+    the file open, with a lock on it."""
+    number = store.open_layer(name)
     try:
         fcntl.flock(number, fcntl.LOCK_EX | fcntl.LOCK_NB)
         size = os.fstat(number).st_size
-        os.unlink(digits, dir_fd=store.blobs)
+        os.unlink(name, dir_fd=store.blobs)
         return size
     except BlockingIOError:
         return None

@@ -1,6 +1,7 @@
 """The verbs of strata-layers: image, convert, pull, images, verify, remove, prune, config,
 attributes."""
 import argparse
+import os
 import shlex
 import sys
 import textwrap
@@ -10,8 +11,9 @@ from strata_format.refused import Refused, bytes_of, one_line, shown
 from strata_format.version import command
 from strata_layers.convert import convert
 from strata_layers.folder_attributes import add_attributes
+from strata_layers.image_config import RunConfig, bwrap_words, config_lines, podman_words
 from strata_layers.image_file import write_image_file
-from strata_layers.image_config import config_lines, sandbox_words, untold_user
+from strata_layers.image_users import image_user
 from strata_layers.layouts import platform_said
 from strata_layers.lost import Lost
 from strata_layers.open_layout import open_layout
@@ -106,17 +108,23 @@ def run_prune(asked):
 
 def run_config(asked):
     store = Store(asked.store)
-    config = image_in(store, full_name(store, asked.name)).config
-    user = untold_user(config) if asked.form == "bwrap" else None
-    if user is not None:
-        ends.write("%s: %s: its user %s is no number: bwrap runs it as the user who calls bwrap\n"
-                   % (command("layers"), asked.name, shown(user)))
-    if asked.form is not None:
-        print_line(sandbox_words(config, asked.form))
+    name = full_name(store, asked.name)
+    config = image_in(store, name).config
+    if asked.form is None:
+        for line in config_lines(config):
+            print_line(line)
         return 0
-    for line in config_lines(config):
-        print_line(line)
+    print_line(" ".join(map(shlex.quote, sandbox_words(store, name, config, asked))))
     return 0
+
+
+def sandbox_words(store, name, config, asked):
+    """The words by which bwrap or podman runs an image."""
+    it = RunConfig(config)
+    if asked.form == "podman":
+        return podman_words(it)
+    user, caller = image_user(store, name, it.user), (os.geteuid(), os.getegid())
+    return bwrap_words(it, user, caller, asked.options, asked.as_caller)
 
 
 def run_attributes(asked):
@@ -145,8 +153,8 @@ HELP = {
     "remove": "Takes the name of an image away; prune takes its layers away.",
     "prune": "Takes away the layers that no image names and no mount uses.",
     "config": "Prints entry point, command, environment, working folder and user of an image, as"
-              " words of the shell; or all of it as words for bwrap or podman run, to be used"
-              " by eval.",
+              " words of the shell; or, for eval, a whole command of bwrap that runs it as its user,"
+              " with these options of bwrap; or words for podman run.",
     "attributes": "Adds the modes, owners and times of all that is in FOLDER to an image that"
                   " genromfs made of it; what was added before is replaced.",
 }
@@ -197,13 +205,18 @@ def add_words(parts):
         parts[verb].add_argument("name", metavar="NAME[:TAG]")
     form = parts["config"].add_mutually_exclusive_group()
     form.add_argument("--bwrap", dest="form", action="store_const", const="bwrap",
-                      help="as the last words of bwrap")
+                      help="as a command of bwrap, with OPTIONs of bwrap behind NAME")
     form.add_argument("--podman", dest="form", action="store_const", const="podman",
                       help="as words of podman run, before --rootfs")
+    parts["config"].add_argument("--as-caller", action="store_true",
+                                 help="with --bwrap: with your own rights, under the number of the"
+                                      " image's user")
+    parts["config"].add_argument("options", metavar="OPTION", nargs=argparse.REMAINDER,
+                                 help="an option of bwrap, as --ro-bind /mnt /")
 
 
-RUNS = {"image": run_image, "convert": run_convert, "pull": run_pull, "images": run_images, "verify": run_verify,
-        "remove": run_remove, "prune": run_prune, "config": run_config,
+RUNS = {"image": run_image, "convert": run_convert, "pull": run_pull, "images": run_images,
+        "verify": run_verify, "remove": run_remove, "prune": run_prune, "config": run_config,
         "attributes": run_attributes}
 
 
