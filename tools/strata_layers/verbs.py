@@ -63,7 +63,7 @@ def run_image(asked):
 
 def run_convert(asked):
     layout, tag = open_layout(asked.layout)
-    lost = Lost()
+    lost = Lost(asked.leave_out)
     folder, tag = convert(Store(asked.store, make=True), layout, tag, asked.new_layout, asked, lost)
     told(lost)
     print_line("oci:%s:%s" % (folder, tag))
@@ -71,7 +71,7 @@ def run_convert(asked):
 
 
 def run_pull(asked):
-    lost = Lost()
+    lost = Lost(asked.leave_out)
     name, count, new = pull(Store(asked.store, make=True), asked.source, asked.name, asked.platform, lost)
     told(lost)
     print_line("%s: %d layers, %d of them new" % (name, count, new))
@@ -184,8 +184,9 @@ def add_words(parts):
     parts["image"].add_argument("--upper", action="store_true",
                                 help="FOLDER is the upper folder of a mount of overlayfs: its"
                                      " whiteouts and opaque folders become those of layers")
-    parts["image"].add_argument("--leave-out", action="store_true",
-                                help="leave out what no image holds, and name it")
+    for verb in ("image", "convert", "pull"):
+        parts[verb].add_argument("--leave-out", action="store_true",
+                                 help="leave out what no image holds, and name it")
     parts["image"].add_argument("folder", metavar="FOLDER|-")
     parts["image"].add_argument("image", metavar="IMAGE")
     platform = "linux/ARCHITECTURE[/VARIANT]; by default this machine's"
