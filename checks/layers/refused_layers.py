@@ -33,7 +33,6 @@ def test_refused_entries(room):
     room.refuse("layer 1: h: a hard link to nothing in its layer: f", archive([file("f", b"1")]), archive([hard("h", "f")]))
     room.refuse("layer 0: a\\00b: no image holds the name 'a\\00b'", archive([file("x", pax_headers={"path": "a\0b"})]))
     room.refuse("layer 0: l: no link holds the target 'a\\00b'", archive([symlink("l", "x", pax_headers={"linkpath": "a\0b"})]))
-    room.refuse("layer 0: s: a sparse file, which is not read", archive([entry(b"S", "s")], GNU))
 
 
 def test_large(room):

@@ -16,6 +16,7 @@ from strata_format.romfs import (DIRECTORY, EXECUTABLE, HARD, MAGIC, header, hea
 
 # so many bytes are gathered before they are written, and copied from a file at once
 ROOM = 1 << 20
+HOLE_LEAST = 1 << 16
 # a directory's `.` and `..`
 DOTS_SIZE = 64
 
@@ -60,7 +61,10 @@ class Part:
         write_all(self.out, data)
 
     def put_hole(self, size):
-        """Appends zeros, which take no room on the disk where the file system can leave it out."""
+        """Appends zeros, which take no room on the disk where they are many."""
+        if size < HOLE_LEAST:
+            self.put(bytes(size))
+            return
         self.flush()
         os.lseek(self.out.fileno(), size, os.SEEK_CUR)
         self.at += size

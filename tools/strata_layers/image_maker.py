@@ -83,8 +83,10 @@ class Maker:
         """An entry of an archive, whose path its name says."""
         try:
             path = path_of(entry.name)
-        except BadEntry as refused:
-            self.faults.note(refused)
+            if entry.wrong is not None:
+                raise entry.wrong
+        except BadEntry as bad:
+            self.faults.note(bad)
             return
         # where a file replaces a directory, umoci also says that what was in the directory is gone
         if not is_marker(path) or not self.image.is_barred(path):
@@ -107,8 +109,8 @@ class Maker:
                 self.faults.note(refused)
             else:
                 self.leave_out(path)
-        except BadEntry as refused:
-            self.faults.note(refused)
+        except BadEntry as bad:
+            self.faults.note(bad)
         else:
             if not is_marker(path):
                 self.lost.note_entry(self.where, path, entry)
