@@ -61,8 +61,8 @@ def test_sparse_files_of_bsdtar(room):
 
 
 def gnu_sparse(name, size, parts, data):
-    """An entry of the type S, by the places of GNU tar's manual; more than four parts go into blocks
-    behind the header."""
+    """An entry of the type S, by the places of GNU tar's manual; more than four parts go into
+    blocks behind the header."""
     info, _ = entry(SPARSE, name, data)
     head = bytearray(info.tobuf(GNU))
     pairs = [b"%011o\0%011o\0" % part for part in parts]
@@ -72,7 +72,8 @@ def gnu_sparse(name, size, parts, data):
     head[148:156] = b" " * 8
     head[148:156] = b"%06o\0 " % sum(head)
     more = [pairs[at:at + 21] for at in range(4, len(pairs), 21)]
-    blocks = [b"".join(it).ljust(504, b"\0") + bytes([it is not more[-1]]) + bytes(7) for it in more]
+    blocks = [b"".join(it).ljust(504, b"\0") + bytes([it is not more[-1]]) + bytes(7)
+              for it in more]
     return bytes(head) + b"".join(blocks) + data + bytes(-len(data) % 512)
 
 
@@ -91,7 +92,8 @@ def test_maps_of_headers(room):
     room.take(gnu_sparse("a", 90000, [(at * 1000, 3) for at in range(80)], b"xyz" * 80) + after)
     room.take(gnu_sparse("a", 10, [], b"") + after)
     lying = "layer 0: a: a sparse file whose parts overlap or lie outside of it"
-    for parts in ([(0, 100), (50, 100)], [(1000, 100), (0, 100)], [(1900, 200)], [(0, 0), (3000, 0)]):
+    for parts in ([(0, 100), (50, 100)], [(1000, 100), (0, 100)], [(1900, 200)],
+                  [(0, 0), (3000, 0)]):
         data = b"d" * sum(size for _, size in parts)
         room.refuse(lying, gnu_sparse("a", 2000, parts, data) + after)
     room.refuse("layer 0: a: a sparse file with 90 bytes of data, and its map says 100",
@@ -104,13 +106,14 @@ def test_maps_of_headers(room):
 def test_maps_of_records(room):
     broken = "layer 0: a: a sparse file with a broken map"
     outside = "layer 0: a: a sparse file whose parts overlap or lie outside of it"
-    for more in ({"size": "x", "map": "0,0"}, {"size": 9, "map": "0,0,1"}, {"size": 9, "map": "0,-1"},
-                 {"map": "0,0"}, {"size": 9, "map": "0," + "9" * 20}):
+    for more in ({"size": "x", "map": "0,0"}, {"size": 9, "map": "0,0,1"},
+                 {"size": 9, "map": "0,-1"}, {"map": "0,0"}, {"size": 9, "map": "0," + "9" * 20}):
         room.refuse(broken, pax_sparse(b"", name="a", **more))
     room.refuse(outside, pax_sparse(b"12", name="a", size=9, map="0,1,0,1"))
     room.refuse("layer 0: a: a sparse file with 3 bytes of data, and its map says 2",
                 pax_sparse(b"123", name="a", size=9, map="0,2"))
-    room.refuse("layer 0: ../x: no path within a layer", pax_sparse(b"1", name="../x", size=9, map="0,1"))
+    room.refuse("layer 0: ../x: no path within a layer",
+                pax_sparse(b"1", name="../x", size=9, map="0,1"))
 
 
 def test_maps_before_data(room):

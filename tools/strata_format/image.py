@@ -21,7 +21,7 @@ from strata_format.image_part import DOTS_SIZE, Hole, Part, other_size
 from strata_format.image_tree import Directory, Link, Node, Tree
 from strata_format.refused import Faults, NotHeld, Refused, shown
 from strata_format.romfs import (MAJOR_MOST, MINOR_MOST, REGULAR, SYMLINK, TARGET_MOST,
-                                 header_size, path_text)
+                                 header_size, padded_name, path_text)
 
 # files up to the first size stand among the headers, up to the second behind them, others last
 SIZES = (1 << 12, 1 << 16)
@@ -33,12 +33,13 @@ KEPT = 32
 
 class Image(Tree):
     """An image that is being made, of at most `most` bytes with its trailer. `new_file` gives its
-    file, and, where it is split, those of the parts that lie on the first. Whatever romfs can't
-    hold is Refused."""
+    file. It may be split into parts that lie on the first, whose files `new_file` gives, too, if
+    `is_lowest` tells of a path whether what stands there is about layers below, and so must be in
+    the first. Whatever romfs can't hold is Refused."""
 
-    def __init__(self, new_file, name, most=trailer.END_MOST, is_split=False):
+    def __init__(self, new_file, name, most=trailer.END_MOST, is_lowest=None):
         super().__init__()
-        self.new_file, self.name, self.most, self.is_split = new_file, name, most, is_split
+        self.new_file, self.name, self.most, self.is_lowest = new_file, name, most, is_lowest
         self.parts = [Part(new_file(), name, most)]
 
     # --- room ---
@@ -49,17 +50,20 @@ class Image(Tree):
         if size > self.most:
             raise NotHeld("%s: a file of %d bytes, at most %d are held"
                           % (path_text(path), size, self.most))
+        if self.is_lowest is None or self.is_lowest(path):
+            return 0
         last = self.parts[-1]
         end = last.end_with(header_size(path[-1]) + size)
-        if self.is_split and last.nodes > 1 and end > self.most - self.most // KEPT:
+        if last.nodes > 1 and end > self.most - self.most // KEPT:
             self.parts.append(Part(self.new_file(), self.name, self.most))
         return len(self.parts) - 1
 
     def begun(self, directory, path):
-        self.enter(directory, path, len(self.parts) - 1)
+        is_lowest = self.is_lowest is None or self.is_lowest(path)
+        self.enter(directory, path, 0 if is_lowest else len(self.parts) - 1)
 
     def enter(self, directory, path, number):
-        """Claims room in a part for a directory and those above it, as far as they are not in it."""
+        """Claims room in a part for a directory and those above it, where they are not in it."""
         while directory.above is not None and not directory.parts >> number & 1:
             self.parts[number].claim(path, header_size(directory.name) + DOTS_SIZE)
             directory.parts |= 1 << number
@@ -90,11 +94,11 @@ class Image(Tree):
         found.executable = executable
         return found
 
-    def file(self, path, executable, size, data, is_lowest=False):
+    def file(self, path, executable, size, data):
         """A file of so many bytes, which come in pieces, or later from a source: its method `copy`
-        appends them to a part. In the lowest part stands what is about the layers below."""
+        appends them to a part."""
         self.check(path)
-        number = 0 if is_lowest else self.part_for(path, size)
+        number = self.part_for(path, size)
         node = Node(REGULAR, path[-1], executable, size=size, data=data)
         is_later = hasattr(data, "copy")
         if not is_later and size <= SIZES[0]:
@@ -144,10 +148,17 @@ class Image(Tree):
         found = self.link_target(path, target)
         above = self.directory_at(path[:-1])
         if above.members.get(path[-1]) is not found:
-            number = self.part_for(path, 0) if isinstance(found, tuple) else found.part
+            number = self.part_for(path, 0)
+            if not isinstance(found, tuple) and number:
+                number = found.part
             self.place(path, Link(path[-1], found), number)
 
     # --- the end ---
+
+    def name_volume(self, name):
+        """Gives the volume another name, which takes as much room."""
+        assert len(padded_name(name)) == len(padded_name(self.name))
+        self.name = name
 
     def lead_links(self):
         """Leads all hard links to their nodes, and into their parts; the nodes that have names by
@@ -159,20 +170,23 @@ class Image(Tree):
                     it.is_named = True
                 elif isinstance(it, Link):
                     try:
-                        targets.append(self.led((*path, name), it, directory))
+                        self.lead((*path, name), it, directory)
+                        targets.append(it.target)
                     except Refused as refused:
                         faults.note(refused)
         faults.settle()
         return list({id(it): it for it in targets if not it.is_named}.values())
 
-    def led(self, path, link, above):
-        """Leads a hard link in a directory to its node, which is given."""
+    def lead(self, path, link, above):
+        """Leads a hard link in a directory to its node, and into the part of this. One that is
+        about layers below must be in the first: there an empty file says the same."""
         link.target = self.node_of(link, path)
-        if link.part != link.target.part:
+        if link.target.part and self.is_lowest(path):
+            above.members[link.name] = Node(REGULAR, link.name)
+        elif link.part != link.target.part:
             link.part = link.target.part
             self.parts[link.part].claim(path, header_size(link.name))
             self.enter(above, path[:-1], link.part)
-        return link.target
 
     def finish(self):
         """Ends the image: its headers, its full size, its checksum and its trailer, of each
@@ -200,7 +214,7 @@ class Image(Tree):
         self.join(number)
         for it in itertools.chain(*classes):
             part.write_member(it)
-        part.write_again(self.root)
+        part.write_again(self.root, self.name)
         rows = {it.at: it.said for it in [self.root, *self.standing_in(number), *nameless]
                 if not isinstance(it, Link) and it.said is not None}
         part.end(full, rows)

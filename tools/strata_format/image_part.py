@@ -11,7 +11,7 @@ from strata_format import trailer
 from strata_format.files import write_all, write_at
 from strata_format.image_tree import Directory, Link
 from strata_format.refused import Refused
-from strata_format.romfs import (DIRECTORY, EXECUTABLE, HARD, MAGIC, header, header_size,
+from strata_format.romfs import (DIRECTORY, EXECUTABLE, HARD, HEAD_SIZE, MAGIC, header, header_size,
                                  padded_name, padding, path_text)
 
 # so many bytes are gathered before they are written, and copied from a file at once
@@ -167,9 +167,10 @@ class Part:
 
     # --- the end ---
 
-    def write_again(self, root):
-        """Writes the headers over that were written before it was known what comes next."""
+    def write_again(self, root, name):
+        """Writes over what was written before it was known: the volume's name, and headers."""
         self.flush()
+        write_at(self.out.fileno(), padded_name(name), HEAD_SIZE)
         write_at(self.out.fileno(), self.root_headers(root), self.root_at)
         for it in self.written:
             write_at(self.out.fileno(), self.node_header(it), it.at)

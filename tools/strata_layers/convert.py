@@ -4,7 +4,7 @@ import os
 
 from strata_format.progress import Progress
 from strata_format.refused import Refused, shown
-from strata_layers.layout_images import PACKED_ROMFS, ROMFS, all_images, image_of
+from strata_layers.layout_images import PACKED_ROMFS, PART, ROMFS, all_images, image_of
 from strata_layers.layout_writer import LayoutWriter, check_tag, split_new_name
 from strata_layers.layouts import INDEXES, MANIFESTS, digest_of
 from strata_layers.packing import packed_pieces
@@ -36,10 +36,12 @@ class Converter:
         self.maker, self.target, self.packing, self.store = maker, target, packing, maker.store
 
     def image(self, image, layers):
-        """Writes an image with its layers of the store; the descriptor of its manifest."""
-        rootfs = {**image.config["rootfs"], "diff_ids": ["sha256:" + it.digits for it in layers]}
+        """Writes an image with its layers of the store, a list of images each; the descriptor of its
+        manifest."""
+        each = [(it, number) for number, found in enumerate(layers) for it in found]
+        rootfs = {**image.config["rootfs"], "diff_ids": ["sha256:" + it.digits for it, _ in each]}
         described = self.target.document(CONFIG, {**image.config, "rootfs": rootfs})
-        found = [self.layer(it, source_of(image, number)) for number, it in enumerate(layers)]
+        found = [self.layer(it, source_of(image, number)) for it, number in each]
         value = {"schemaVersion": 2, "mediaType": MANIFESTS[0], "config": described,
                  "layers": found}
         if isinstance(image.manifest.get("annotations"), dict):
@@ -50,8 +52,9 @@ class Converter:
         """Writes a layer; its descriptor."""
         digits, size = self.blob(layer)
         media = ROMFS + ("+" + self.packing if self.packing else "")
+        notes = {SOURCE: source, **({PART: str(layer.part + 1)} if layer.part else {})}
         return {"mediaType": media, "digest": "sha256:" + digits, "size": size,
-                "annotations": {SOURCE: source}}
+                "annotations": notes}
 
     def blob(self, layer):
         """Writes the blob of a layer; its digits and its size."""

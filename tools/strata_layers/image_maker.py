@@ -1,8 +1,8 @@
 """The maker of images: of a folder, of an archive of tar, and of a layer.
 
     lost = Lost()
-    with open_folder("tree") as folder: ..
-    image_of_folder(folder, out, lost)      out: a new file, open for writing and reading, unbuffered
+    folder = open_folder("tree")
+    image_of_folder(folder, out, lost)      out: a new file, open for writing and reading
     for line in lost.lines(): ..            what the image doesn't hold
 
 Whiteouts are OCI's files `.wh.NAME` and `.wh..wh..opq`, which stand in the image as they are. What
@@ -38,11 +38,16 @@ def is_marker(path):
     return path != () and path[-1].startswith(MARKER)
 
 
+def is_about_layers_below(path):
+    """Whether something is a marker, or below one."""
+    return any(name.startswith(MARKER) for name in path)
+
+
 def put(image, path, entry):
     """Puts an entry into an image."""
     executable = entry.mode & 0o111 != 0
     if entry.kind in entries.FILES:
-        image.file(path, executable, entry.size, entry.data, is_marker(path)).said = said_by(entry)
+        image.file(path, executable, entry.size, entry.data).said = said_by(entry)
     elif entry.kind == entries.DIRECTORY:
         image.directory(path, executable).said = said_by(entry)
     elif entry.kind == entries.SYMBOLIC:

@@ -1,27 +1,27 @@
 """Makes the romfs image of a layer: the bytes of files go from the archive straight into the
-image."""
+image. A layer that is more than one image holds becomes several, which lie on one another."""
+import re
+
+from strata_format import trailer
 from strata_format.image import Image
 from strata_format.refused import Refused, shown
 from strata_layers.below import implied
-from strata_layers.image_maker import Maker
-from strata_layers.layouts import PACKED, digest_of
+from strata_layers.image_maker import Maker, is_about_layers_below
+from strata_layers.layouts import PACKED
 from strata_layers.packing import Unpacked
 
-# a volume's name is the digest, as far as Linux's romfs reads names
+# a volume's name is the digest of the layer's archive, as far as Linux's romfs reads names
 VOLUME_NAME_MOST = 127
+GOOD_DIGEST = re.compile("sha256:[0-9a-f]{64}|sha512:[0-9a-f]{128}")
+NO_DIGEST = "sha256:" + "0" * 64
+# so many bytes may an image have, with its trailer
+IMAGE_MOST = trailer.END_MOST
 # so many bytes may the paths of folders have that a store notes with a layer
 IMPLIED_MOST = 1 << 22
 
 
-def write_image(out, source, volume_name, lost, where, below):
-    """Writes the image of an archive, which lies on the layers `below`; the paths of the folders
-    that it implies without an entry, and that may be shown below, or None where these are very
-    long."""
-    image = Image(lambda: out, volume_name)
-    Maker(image, lost, where).put_archive(source)
-    found = filled(implied(image.root), below)
-    image.finish()
-    return found
+def volume_name(digest):
+    return digest.encode()[:VOLUME_NAME_MOST]
 
 
 def filled(folders, below):
@@ -53,22 +53,38 @@ def read_blob(layout, number, descriptor, read):
     return found
 
 
-def write_unpacked(blob, number, descriptor, out, lost, below, unpacked):
-    source = Unpacked(blob, PACKED[descriptor.media], unpacked is not None)
-    try:
-        name = digest_of(descriptor).encode()[:VOLUME_NAME_MOST]
-        found = write_image(out, source, name, lost, "layer %d: " % number, below)
-    finally:
-        source.close()
-    if unpacked is not None and source.digest() != unpacked:
-        raise Refused("its archive's digest is %s, and the image's configuration says %s"
-                      % (source.digest(), shown(unpacked)))
-    return found
+class LayerWriter:
+    """Writes the images of a layer, which lies on the layers `below`. `new_file` gives the file of
+    its image, and, if it takes several, those of the others, in order from the lowest up.
+    `archive` is the digest of its archive, where an image's configuration says it; `is_checked`
+    says that it must have this one."""
 
+    def __init__(self, layout, number, descriptor, archive=None, is_checked=False):
+        self.layout, self.number, self.descriptor = layout, number, descriptor
+        self.archive, self.is_checked = archive, is_checked
 
-def write_layer(layout, number, descriptor, out, lost, below, unpacked=None):
-    """Writes the image of a layer, whose archive must have the digest `unpacked`, where one is
-    given. The folders that it implies have the rows that they have in the layers `below`; their
-    paths."""
-    return read_blob(layout, number, descriptor,
-                     lambda blob: write_unpacked(blob, number, descriptor, out, lost, below, unpacked))
+    def write(self, new_file, lost, below):
+        """Writes the images; the paths of the folders that the layer implies without an entry, and
+        that may be shown below, which have the rows that they have there; or None where these
+        paths are very long."""
+        return read_blob(self.layout, self.number, self.descriptor,
+                         lambda blob: self.write_blob(blob, new_file, lost, below))
+
+    def write_blob(self, blob, new_file, lost, below):
+        is_named = self.archive is not None and GOOD_DIGEST.fullmatch(self.archive)
+        name = volume_name(self.archive if is_named else NO_DIGEST)
+        is_hashed = self.is_checked or not is_named
+        source = Unpacked(blob, PACKED[self.descriptor.media], is_hashed)
+        image = Image(new_file, name, IMAGE_MOST, is_about_layers_below)
+        try:
+            Maker(image, lost, "layer %d: " % self.number).put_archive(source)
+        finally:
+            source.close()
+        if self.is_checked and source.digest() != self.archive:
+            raise Refused("its archive's digest is %s, and the image's configuration says %s"
+                          % (source.digest(), shown(self.archive)))
+        if not is_named:
+            image.name_volume(volume_name(source.digest()))
+        found = filled(implied(image.root), below)
+        image.finish()
+        return found

@@ -31,6 +31,9 @@ class Lost:
             lines.append("  " + where + (": " + shown(b",".join(names[:SHOWN]))) * bool(names))
         self.found[kind] = count + 1, lines
 
+    def count(self, kind):
+        return self.found.get(kind, (0, []))[0]
+
     def note_entry(self, front, path, entry):
         """Notes an entry at a path, which is named behind some words. What a hard link leads to
         says of itself what there is to say."""

@@ -12,7 +12,8 @@ from strata_format.refused import BadEntry
 
 FRONT = b"GNU.sparse."
 OFFSET, NUMBYTES, MAP = FRONT + b"offset", FRONT + b"numbytes", FRONT + b"map"
-NAME, SIZE, REAL_SIZE, MAJOR = FRONT + b"name", FRONT + b"size", FRONT + b"realsize", FRONT + b"major"
+NAME, MAJOR = FRONT + b"name", FRONT + b"major"
+SIZE, REAL_SIZE = FRONT + b"size", FRONT + b"realsize"
 # what is heeded of an extended header; and the numbers of its pairs, in order, under their front
 KEYWORDS, PAIRS = (NAME, SIZE, REAL_SIZE, MAJOR, MAP), FRONT
 # as many parts as the largest file of an image has blocks of 4,096 bytes with one between them
@@ -59,7 +60,8 @@ class SparseMap:
                 raise BadEntry("a sparse file whose parts overlap or lie outside of it")
             at, total = start + size, total + size
         if total != stored:
-            raise BadEntry("a sparse file with %d bytes of data, and its map says %d" % (stored, total))
+            raise BadEntry("a sparse file with %d bytes of data, and its map says %d"
+                           % (stored, total))
 
     def pieces(self, data):
         """The file's bytes: holes, and between them what `data(size)` has of so many bytes."""
