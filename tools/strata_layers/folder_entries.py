@@ -11,7 +11,7 @@ import os
 import stat
 import struct
 
-from strata_format.files import READING
+from strata_format.files import READING, data_parts
 from strata_format.image_part import ROOM
 from strata_format.progress import unheard
 from strata_format.refused import BadEntry, Refused
@@ -92,23 +92,10 @@ def copy_data(number, found, part):
         part.put_file(number, 0, size)
     else:
         at = 0
-        while at < size:
-            start = next_data(number, at, size)
-            end = os.lseek(number, start, os.SEEK_HOLE) if start < size else size
+        for start, end in data_parts(number, size):
             part.put_hole(start - at)
-            if part.put_file(number, start, min(end, size) - start) == 0:
-                return
-            at = end
-
-
-def next_data(number, at, size):
-    """Where the next data of a file begin, or its end."""
-    try:
-        return min(os.lseek(number, at, os.SEEK_DATA), size)
-    except OSError as fault:
-        if fault.errno != errno.ENXIO:
-            raise
-        return size
+            at = start + part.put_file(number, start, end - start)
+        part.put_hole(size - at)
 
 
 def changed(path):

@@ -29,7 +29,7 @@ def parser_of(name):
     parser.add_argument("--background", action="store_true", help="return once the mount answers")
     parser.add_argument("-o", metavar="OPTIONS", default="",
                         help="allow_other, noexec, max_read=N, .. of the mount; strict, whole, workers=N, readers=N, "
-                        "uid=N, gid=N of strata")
+                        "uid=N, gid=N, modeless of strata")
     parser.add_argument("--strict", action="store_true", help="ask a right checksum of every header, too")
     parser.add_argument("--replace", action="store_true", help="take a dead mount away that stands at DIR")
     parser.add_argument("--store", metavar="DIR", help="the store of container images, in which names that are no files are")
