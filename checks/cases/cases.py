@@ -69,7 +69,7 @@ from checks.shared import replies, runs
 from checks.shared.clients import Party, converse, leave_socket
 from checks.shared.mounting import enter
 from checks.shared.text import Words, Wrong, plain_bytes, words_of
-from mount import called, libc
+from strata_format.system import called, libc
 
 
 LIMITS = ("fed", "waits", "terminal", "room", "disk", "memory", "stack", "files", "pipes", "gone", "closed")

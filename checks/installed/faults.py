@@ -6,10 +6,10 @@ import re
 import struct
 import tarfile
 
-import mount_faults
 from checks import ROOT
 from checks.installed.mounts import OTHER, places, user
 from checks.installed.roots import Failed, hold, hold_in
+from strata_mount.faults import RULES
 
 RULE = os.path.join(ROOT, "crates", "romfs_format", "src", "rule.rt")
 NOT_ROMFS = "layer 1 at 00000000: not romfs\n"
@@ -128,7 +128,7 @@ def rules(root):
     """Each rule of images has a sentence, and the one that is broken stands behind its line."""
     with open(RULE, encoding="utf-8") as it:
         texts = re.findall(r'Rule::\w+ => "([^"]+)"', it.read())
-    hold("rules with a sentence", texts, list(mount_faults.RULES))
+    hold("rules with a sentence", texts, list(RULES))
     root.install()
     with open("/srv/lower.romfs", "rb") as it:
         data = bytearray(it.read())

@@ -7,13 +7,16 @@ import tarfile
 
 from checks.installed.mounts import NOT_MOUNTED, STACK, WRONG_WORDS, hold_stack, places, servers, settle
 from checks.installed.roots import hold, hold_in
+from strata_format.version import PACKAGES
 
 HELPER, PLACE = "/usr/local/sbin/mount.strata", "/mnt/strange"
 LOWER = "/srv/lower.romfs"
+OURS = "/usr/local/lib/strata/"
 SECONDS = 60
 # what a stranger may have planted, each of which leaves a word in this file
 PLANTED = "/tmp/planted"
-MODULES = ("os", "mount", "mount_helper", "struct", "argparse", "site", "sitecustomize", "ends", "encodings/__init__")
+MODULES = ("os", "strata_mount", "strata_layers", "strata_format", "struct", "argparse", "site", "sitecustomize",
+           "encodings/__init__")
 PROGRAMS = ("strata", "fusermount3", "python3", "sh")
 
 
@@ -187,7 +190,8 @@ def over_itself(root):
     """strata is not mounted over what it needs: it would wait for itself."""
     begin(root)
     for place, needed in (("/usr/local", "/usr/local/bin/strata"), ("/usr/local/bin", "/usr/local/bin/strata"),
-                          ("/usr/local/lib/strata", "/usr/local/lib/strata/mount.py"), ("/usr", "/usr/"),
+                          (OURS, OURS + "strata_"),
+                          *((OURS + package, OURS + package + "/__init__.py") for package in PACKAGES), ("/usr", "/usr/"),
                           ("/etc", "/etc/ld.so."), ("/dev", "/dev/null"), ("/proc", "/proc/self/fd"),
                           ("/sys", "/sys/devices/system/cpu/online"), ("/lib64", "/lib64/ld-linux-x86-64.so.2")):
         held_refused(root, place, NOT_MOUNTED, "%s" % needed, HELPER, LOWER, place)

@@ -5,10 +5,10 @@ import os
 import tarfile
 import tempfile
 
-import layers
 from checks.layers.shown_trees import Unlike, compare, compare_attributes, shown_tree, wanted_tree
 from checks.plain import plain_layers
 from checks.shared.layer_files import layout_of
+from strata_layers import command
 
 GNU, PAX, USTAR = tarfile.GNU_FORMAT, tarfile.PAX_FORMAT, tarfile.USTAR_FORMAT
 NAME = "tools/layers.py: "
@@ -73,7 +73,7 @@ def run_tool(*words):
     a fault's line bears."""
     out, errors = io.TextIOWrapper(io.BytesIO()), io.StringIO()
     with contextlib.redirect_stdout(out), contextlib.redirect_stderr(errors):
-        status = layers.main(list(words))
+        status = command.main(list(words))
     told = errors.getvalue().splitlines()
     if status == 1:
         expect(told[-1].startswith(NAME), "told %r" % told)

@@ -4,9 +4,8 @@ import os
 import shutil
 import struct
 
-import layouts
-import packing
 from checks.shared.layer_files import LAYER, LayoutFolder, archive, file, tag
+from strata_layers import layouts, packing
 
 
 def test_packing(room):

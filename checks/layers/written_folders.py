@@ -3,10 +3,10 @@ import gzip
 import os
 import subprocess
 
-import layouts
 from checks import ROOT, TOOLS
 from checks.layers.layer_room import expect
 from checks.shared.layer_files import archive, directory, file, hard, layout_of, symlink
+from strata_layers import layouts
 
 
 def test_folder(room):

@@ -21,7 +21,7 @@ from checks.shared.layer_files import file as entry
 from checks.shared.mounting import Failed, LeftOut, fails, hold
 from checks.shared.random_inputs import random_stack
 from checks.shared.random_trailers import with_trailer
-from mount import called, libc
+from strata_format.system import called, libc
 
 ALL = ("-o", "allow_other")
 # what the kernel shows of an owner that it takes for none

@@ -11,7 +11,8 @@ import sys
 from checks.mounts.mounted_trees import MIB, file, folder, wanted_of
 from checks.shared.build import seal
 from checks.shared.mounting import SCRIPT, Failed, LeftOut, children, fails, hold, hold_tree, name_of, places, rows, shown, wait_for
-from mount import DEVICE, MNT_DETACH, called, libc
+from strata_format.system import called, libc
+from strata_mount.device import DEVICE, MNT_DETACH
 
 MS_BIND = 0x1000
 # a user who is not root

@@ -7,10 +7,10 @@ import struct
 import tarfile
 import zlib
 
-import packing
-import romfs
 from checks.registry import made
 from checks.registry.rooms import Failed, hold
+from strata_format import romfs
+from strata_layers import packing
 
 # what a pull may take of memory, over what this process has already
 ROOM = 96 << 20

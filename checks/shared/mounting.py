@@ -10,7 +10,8 @@ import time
 
 from checks import TOOLS
 from checks.shared.images import laid_out
-from mount import DEVICE, called, libc
+from strata_format.system import called, libc
+from strata_mount.device import DEVICE
 
 SCRIPT = TOOLS + "/mount.py"
 # a check that does not end is ended after so many seconds; STRATA_SLOWER says how many times as many
