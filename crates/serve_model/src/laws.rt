@@ -30,7 +30,8 @@ ghost use Rattle.serve_model.specs.Kept.{WereGatheredFor, AreStacksOf, over};
 
 use std::alloc::Allocator;
 
-/// The accessible bytes of images were gathered of them, for a profile that reads no attributes.
+/// The first bytes of images, as many as are looked at, were gathered of them, for a profile that
+/// reads no attributes.
 #[tactic(auto, using(crate::proofs::Themselves::all_themselves))]
 pub fn images_are_gathered_of_themselves()
     ensures { (profile : Profile) → reads_attributes profile ≡ false → (images : List (List ℕ)) →
