@@ -121,7 +121,7 @@ def names(root):
     os.link(LOWER, b"/srv/\xff")
     held_refused(root, "no UTF-8", NOT_MOUNTED, "no name in UTF-8", HELPER, b"/srv/\xff", PLACE)
     held_refused(root, "a long name", NOT_MOUNTED, "file name too long", HELPER, "/" + "a" * 4000, PLACE)
-    held_refused(root, "a longer one", WRONG_WORDS, "longer together", HELPER, "/" + "a" * 5000, PLACE)
+    held_refused(root, "a longer one", WRONG_WORDS, "bytes together", HELPER, "/" + "a" * 5000, PLACE)
     os.mkdir("/tmp/gone")
     gone = "cd /tmp/gone; rmdir /tmp/gone; exec "
     held_refused(root, "a folder that is gone", NOT_MOUNTED, "mount.strata: the working folder: No such file or directory",
