@@ -24,22 +24,22 @@ from strata_mount.plan import Plan
 
 def parser_of(name):
     parser = argparse.ArgumentParser(
-        prog=name, usage="%(prog)s [OPTIONS] IMAGE.. DIR", description="Mounts romfs images, the lowest first.",
-        epilog="DIR shows what the stacked images show until `umount DIR`, or `fusermount3 -u DIR` for who is not root.")
+        prog=name, usage="%(prog)s [OPTIONS] IMAGE.. DIR", description="Mounts stacked romfs images, lowest first.",
+        epilog="DIR shows the stacked tree until `umount DIR`, or `fusermount3 -u DIR` for users who are not root.")
     parser.add_argument("--background", action="store_true", help="return once the mount answers")
     parser.add_argument("-o", metavar="OPTIONS", default="",
-                        help="allow_other, noexec, max_read=N, .. of the mount; strict, whole, workers=N, readers=N, "
-                        "uid=N, gid=N, modeless of strata")
-    parser.add_argument("--strict", action="store_true", help="ask a right checksum of every header, too")
-    parser.add_argument("--replace", action="store_true", help="take a dead mount away that stands at DIR")
-    parser.add_argument("--store", metavar="DIR", help="the store of container images, in which names that are no files are")
-    parser.add_argument("--verify", action="store_true", help="look at the digests of the store's layers first")
-    parser.add_argument("-d", "--debug", action="store_true", help="write each request and reply on standard error")
-    parser.add_argument("--stats", metavar="FILE", help="count requests in FILE, which SIGUSR1 and the end write")
-    parser.add_argument("--strata", metavar="PROGRAM", dest="program", help="another program than strata's own")
-    parser.add_argument("--version", action="store_true", help="say which version this is")
+                        help="mount options: allow_other, noexec, max_read=N, ..; strata's: strict, whole, "
+                        "workers=N, readers=N, uid=N, gid=N, modeless")
+    parser.add_argument("--strict", action="store_true", help="verify the checksum of every header, too")
+    parser.add_argument("--replace", action="store_true", help="unmount a dead mount at DIR first")
+    parser.add_argument("--store", metavar="DIR", help="look for container images in this store")
+    parser.add_argument("--verify", action="store_true", help="verify the digests of the store's layers first")
+    parser.add_argument("-d", "--debug", action="store_true", help="print each request and reply on standard error")
+    parser.add_argument("--stats", metavar="FILE", help="count requests; FILE is written on SIGUSR1 and at the end")
+    parser.add_argument("--strata", metavar="PROGRAM", dest="program", help="start PROGRAM instead of the installed strata")
+    parser.add_argument("--version", action="store_true", help="print the version")
     parser.add_argument("names", metavar="IMAGE.. DIR", nargs="*",
-                        help="images from the lowest up, or image:NAME:TAG, and a folder; behind -- they may begin with a -")
+                        help="images, lowest first, or image:NAME:TAG, and a directory; after -- names may begin with -")
     return parser
 
 
@@ -52,7 +52,7 @@ def plan_of(words, name):
     if plan.version:
         return plan
     if len(names) < 2:
-        parser.error("IMAGE.. DIR are missing" if not names else "DIR is missing, or an image")
+        parser.error("IMAGE.. and DIR are missing" if not names else "DIR or an image is missing")
     if plan.debug and plan.background:
         parser.error("argument -d/--debug: not with --background")
     plan.images, plan.folder = names[:-1], names[-1]

@@ -42,13 +42,13 @@ def is_dead(folder):
 def away(place):
     """What is said of how a mount is taken away."""
     command = ["umount"] if os.geteuid() == 0 else ["fusermount3", "-u"]
-    return "`%s` takes it away" % " ".join([*command, shlex.quote(place)])
+    return "`%s` unmounts it" % " ".join([*command, shlex.quote(place)])
 
 
 def standing(folder):
     """The lines that say of a mount of strata at a folder that it stands there: one or none."""
     if mount_over(folder) == (folder, KIND):
-        yield "%s: a mount stands here already: %s" % (one_line(folder), away(folder))
+        yield "%s: something is mounted here already: %s" % (one_line(folder), away(folder))
 
 
 def told(folder, may_replace):
@@ -57,7 +57,7 @@ def told(folder, may_replace):
     taken_away = away(place)
     if may_replace and place == folder and kind == KIND:
         taken_away += ", and so does --replace"
-    return "a dead mount stands here, whose server has ended (%s): %s" % (kind, taken_away)
+    return "a dead mount, whose server has ended (%s): %s" % (kind, taken_away)
 
 
 def replace(folder, take_away):

@@ -63,14 +63,14 @@ def word_of(names):
 def parser_of(name):
     parser = Parser(prog=name, usage="%(prog)s LOWER[:UPPER].. DIR [-sfnv] [-o OPTIONS] [-t TYPE]",
                     description="Mounts romfs images for mount(8).")
-    parser.add_argument("-s", dest="sloppy", action="store_true", help="pass over options that are not known")
-    parser.add_argument("-f", dest="fake", action="store_true", help="look whether the images are there, and mount nothing")
-    parser.add_argument("-n", action="store_true", help="has no effect: no table of mounts is written")
-    parser.add_argument("-v", dest="verbose", action="store_true", help="say what is mounted")
-    parser.add_argument("-o", metavar="OPTIONS", action="append", default=[], help="strict, workers=N, .., and fstab's own words")
+    parser.add_argument("-s", dest="sloppy", action="store_true", help="ignore unknown options")
+    parser.add_argument("-f", dest="fake", action="store_true", help="check that the images exist, and mount nothing")
+    parser.add_argument("-n", action="store_true", help="no effect")
+    parser.add_argument("-v", dest="verbose", action="store_true", help="print what is mounted")
+    parser.add_argument("-o", metavar="OPTIONS", action="append", default=[], help="strict, whole, workers=N, .., and options of fstab")
     parser.add_argument("-t", metavar="TYPE", help="strata or fuse.strata")
-    parser.add_argument("--version", action="store_true", help="say which version this is")
-    parser.add_argument("names", metavar="LOWER[:UPPER].. DIR", nargs="*", help="the images, and the folder")
+    parser.add_argument("--version", action="store_true", help="print the version")
+    parser.add_argument("names", metavar="LOWER[:UPPER].. DIR", nargs="*", help="images and directory")
     return parser
 
 
@@ -78,7 +78,7 @@ def plan_of(asked, name):
     """The plan that mount(8)'s words say."""
     options = Options(",".join(asked.o))
     if options.unknown and not asked.sloppy:
-        raise Wrong("-o: not known: %s" % ", ".join(options.unknown))
+        raise Wrong("-o: unknown: %s" % ", ".join(options.unknown))
     # mount(8) says rw wherever no ro was said; the tree is never written
     options.mount = [word for word in options.mount if word != "rw" and word not in options.unknown]
     spec, folder = asked.names
@@ -86,7 +86,7 @@ def plan_of(asked, name):
     names = [spec] if is_stored else names_of(spec)
     source = spec if is_stored or all(map(os.path.isabs, names)) else word_of(names)
     if len(os.fsencode(source)) > SOURCE_MOST:
-        raise Wrong("the images' names are longer together than the %d bytes that a mount's source may have" % SOURCE_MOST)
+        raise Wrong("the images' names have more than %d bytes together, the limit for the source of a mount" % SOURCE_MOST)
     plan = Plan(name=name, images=names, folder=folder, background=True, may_replace=False, source=source)
     plan.settle(options)
     return plan
@@ -133,7 +133,7 @@ def main(words, name="mount.strata"):
         print(name, version())
         return 0
     if len(asked.names) != 2:
-        parser.error("LOWER[:UPPER].. and DIR are asked for")
+        parser.error("LOWER[:UPPER].. and DIR are required")
     try:
         plan = plan_of(asked, name)
     except Wrong as wrong:
