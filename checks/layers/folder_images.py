@@ -325,7 +325,7 @@ def test_image_of_an_archive(room):
                     symlink("l", "bin/sh"), hard("bin/ash", "bin/sh"), file("small", b"1"),
                     file(".wh.x")], GNU)
     words, image = [TOOLS + "/layers.py", "image", "-"], room.name()
-    cut_off = b"tools/layers.py: the archive is cut off\n"
+    cut_off = b"tools/layers.py: the archive is truncated\n"
     for given, wanted in ((made, (0, b"")), (made[:2000], (1, cut_off))):
         done = subprocess.run([*words, image], input=given, capture_output=True, check=False)
         expect((done.returncode, done.stderr) == wanted, "ended with %r" % (done,))

@@ -46,7 +46,7 @@ def test_large(room):
     info.size = 2 ** 40
     room.refused(layout_of(room.name(), [info.tobuf(GNU)]).path,
                  "layer 0: large: a file of 1099511627776 bytes, at most 4294967280 are held",
-                 "layer 0: the archive is cut off")
+                 "layer 0: the archive is truncated")
 
 
 def test_many_faults(room):
@@ -64,7 +64,7 @@ def test_many_faults(room):
     more = ["layer 0: d/../%d: no path within a layer" % number for number in range(6)]
     room.refused(layout_of(room.name(), [made]).path, *lines, *more, "layer 0: .. and 4 more")
     cut = archive([file("../x"), file("y", b"1" * 600)])
-    room.refused(layout_of(room.name(), [cut[:1600]]).path, lines[0], "layer 0: the archive is cut off")
+    room.refused(layout_of(room.name(), [cut[:1600]]).path, lines[0], "layer 0: the archive is truncated")
 
 
 def test_broken_archives(room):

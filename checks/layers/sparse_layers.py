@@ -98,7 +98,7 @@ def test_maps_of_headers(room):
         room.refuse(lying, gnu_sparse("a", 2000, parts, data) + after)
     room.refuse("layer 0: a: a sparse file with 90 bytes of data, and its map says 100",
                 gnu_sparse("a", 2000, [(0, 100)], b"d" * 90) + after)
-    room.refuse("layer 0: the archive is cut off", gnu_sparse("a", 2000, [(0, 100)] * 5, b"")[:512])
+    room.refuse("layer 0: the archive is truncated", gnu_sparse("a", 2000, [(0, 100)] * 5, b"")[:512])
     room.refuse("layer 0: a: a file of 8589934591 bytes, at most 4294967280 are held",
                 gnu_sparse("a", 2 ** 33 - 1, [(0, 1)], b"d") + after)
 
