@@ -275,6 +275,9 @@ def test_refused_images(room):
     if os.geteuid() != 0:
         put(folder, "d1/locked", b"1", 0)
         refuse_image(room, (folder, image), "%s/d1/locked: permission denied" % folder)
+        os.chmod(folder + "/d0", 0)
+        refuse_image(room, (folder, image), "%s/d0: permission denied" % folder)
+        os.chmod(folder + "/d0", 0o700)
 
 
 def test_what_no_image_holds(room):

@@ -131,12 +131,12 @@ class Part:
     def write_node(self, it):
         """Appends a node with its data; it has its place then."""
         it.at = self.at
-        self.put(self.node_header(it))
         if hasattr(it.data, "copy"):
+            self.put(self.node_header(it))
             it.data.copy(self)
+            self.put(padding(it.size))
         else:
-            self.put(it.data)
-        self.put(padding(it.size))
+            self.put(self.node_header(it) + it.data + padding(it.size))
         it.data = None
 
     def stream(self, path, it, pieces):

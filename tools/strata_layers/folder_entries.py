@@ -107,7 +107,7 @@ class Folder:
     mount of overlayfs; `own` is an open file that must not be in it."""
 
     def __init__(self, number, name, own, is_upper=False, heard=unheard):
-        self.name, self.is_upper, self.heard = name, is_upper, heard
+        self.name, self.is_upper, self.heard = os.fsencode(name), is_upper, heard
         found = os.fstat(own.fileno())
         self.own = found.st_dev, found.st_ino
         self.root = Place(None, b"", os.fstat(number))
@@ -152,7 +152,8 @@ class Folder:
         """What a fault of the system means: where something has gone, it was changed."""
         if fault.errno in GONE:
             return changed(place.path(name))
-        return OSError(fault.errno, fault.strerror, os.path.join(self.name, *place.path(name)))
+        where = os.path.join(self.name, *place.path(name))
+        return OSError(fault.errno, fault.strerror, where)
 
     def look(self, place, name):
         try:

@@ -47,5 +47,6 @@ def write_image_file(source, path, lost, is_upper=False):
         if source == STANDARD_INPUT:
             image_of_archive(Heard(sys.stdin.buffer.raw, progress), new.file, lost)
         else:
-            image_of_folder(number, new.file, lost, source, is_upper, progress)
+            # a fault that names no whole path would be one of the new file's folder
+            image_of_folder(number, new.file, lost, os.path.abspath(source), is_upper, progress)
         new.keep(folder, os.path.basename(path))
