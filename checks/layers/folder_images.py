@@ -11,6 +11,7 @@ import shutil
 import socket
 import stat
 import subprocess
+import time
 
 from checks import TOOLS
 from checks.layers.layer_room import GNU, LeftOut, expect, expect_lines, run_tool
@@ -83,8 +84,8 @@ def wanted_of(folder):
         it = os.lstat(path)
         name = os.fsencode(os.path.relpath(path, folder))
         rest = () if path == folder else tuple(name.split(b"/"))
-        time = divmod(it.st_mtime_ns, 10 ** 9)
-        found[rest] = ((it.st_mode, it.st_uid, it.st_gid, *time), it.st_rdev, data_of(path, it),
+        row = it.st_mode, it.st_uid, it.st_gid, *divmod(it.st_mtime_ns, 10 ** 9)
+        found[rest] = (row, it.st_rdev, data_of(path, it),
                        rest if stat.S_ISDIR(it.st_mode) else it.st_ino)
     first = {}
     for path in sorted(found):
@@ -204,44 +205,56 @@ class Meddler:
 
     @total.setter
     def total(self, _):
+        # times of files have some milliseconds between them
+        time.sleep(0.03)
         self.change()
+
+
+# --- changes between the two times that a folder is read ---
+
+def grown(folder):
+    put(folder, "d1/large", b"1" * (LARGE + 2))
+
+
+def shrunk(folder):
+    os.truncate(folder + "/d1/large", 5)
+
+
+def other(folder):
+    put(folder, "new", read(folder + "/d1/large"))
+    os.rename(folder + "/new", folder + "/d1/large")
+
+
+def link(folder):
+    os.unlink(folder + "/none")
+    os.symlink("/etc/passwd", folder + "/none")
+
+
+def pipe(folder):
+    os.unlink(folder + "/none")
+    os.mkfifo(folder + "/none")
+
+
+def gone(folder):
+    os.unlink(folder + "/d1/large")
+
+
+def linked_folder(folder):
+    os.rename(folder + "/d1", folder + ".elsewhere")
+    os.symlink(folder + ".elsewhere", folder + "/d1")
+
+
+def one_more(folder):
+    put(folder, "d1/s/more")
+
+
+CHANGES = ((grown, "d1/large"), (shrunk, "d1/large"), (other, "d1"), (link, "none"), (pipe, "none"),
+           (gone, "d1"), (linked_folder, "d1/s/small"), (one_more, "d1/s"))
 
 
 def test_folder_that_changes(room):
     """What is changed meanwhile is told, and what a link leads to is not read in its place."""
-    secret = put(room.path, "secret", b"s" * 10)
-
-    def grown(folder):
-        put(folder, "d1/large", b"1" * (LARGE + 2))
-
-    def shrunk(folder):
-        os.truncate(folder + "/d1/large", 5)
-
-    def other(folder):
-        put(folder, "new", read(folder + "/d1/large"))
-        os.rename(folder + "/new", folder + "/d1/large")
-
-    def link(folder):
-        os.unlink(folder + "/none")
-        os.symlink(secret, folder + "/none")
-
-    def pipe(folder):
-        os.unlink(folder + "/none")
-        os.mkfifo(folder + "/none")
-
-    def gone(folder):
-        os.unlink(folder + "/d1/large")
-
-    def linked_folder(folder):
-        os.rename(folder + "/d1", room.path + "/elsewhere")
-        os.symlink(room.path + "/elsewhere", folder + "/d1")
-
-    def one_more(folder):
-        put(folder, "d1/s/more")
-
-    for change, name in ((grown, "d1/large"), (shrunk, "d1/large"), (other, "d1"), (link, "none"),
-                         (pipe, "none"), (gone, "d1"), (linked_folder, "d1/s/small"),
-                         (one_more, "d1/s")):
+    for change, name in CHANGES:
         folder = made_folder(room)
         line = None
         with opened(room, folder) as (number, out):
@@ -253,7 +266,6 @@ def test_folder_that_changes(room):
         expect(line == name + ": was changed while it was read",
                "%s: told %r" % (change.__name__, line))
         shutil.rmtree(folder)
-        shutil.rmtree(room.path + "/elsewhere", ignore_errors=True)
 
 
 def refuse_image(room, words, *lines):
@@ -329,7 +341,8 @@ def test_image_of_an_archive(room):
                     file(".wh.x")], GNU)
     words, image = [TOOLS + "/layers.py", "image", "-"], room.name()
     cut_off = b"tools/layers.py: the archive is truncated\n"
-    for given, wanted in ((made, (0, b"")), (made[:2000], (1, cut_off))):
+    empty = b"tools/layers.py: standard input is empty\n"
+    for given, wanted in ((made, (0, b"")), (made[:2000], (1, cut_off)), (b"", (1, empty))):
         done = subprocess.run([*words, image], input=given, capture_output=True, check=False)
         expect((done.returncode, done.stderr) == wanted, "ended with %r" % (done,))
         room.hold([image], [made])

@@ -21,6 +21,7 @@ from strata_layers import entries, overlay
 from strata_layers.entries import MARKER, OPAQUE, Entry
 
 DIRECTORIES = READING | os.O_DIRECTORY
+OPEN_FILES = b"/proc/self/fd"
 # faults of what was there before
 GONE = (errno.ENOENT, errno.ELOOP, errno.ENOTDIR, errno.ENXIO)
 KINDS = {stat.S_IFDIR: entries.DIRECTORY, stat.S_IFREG: entries.FILES[0],
@@ -107,6 +108,8 @@ class Folder:
     mount of overlayfs; `own` is an open file that must not be in it."""
 
     def __init__(self, number, name, own, is_upper=False, heard=unheard):
+        if not os.path.isdir(OPEN_FILES):
+            raise Refused("/proc is not mounted, by which extended attributes are read")
         self.name, self.is_upper, self.heard = os.fsencode(name), is_upper, heard
         found = os.fstat(own.fileno())
         self.own = found.st_dev, found.st_ino
@@ -181,7 +184,7 @@ class Folder:
 
     def link_to(self, place, name):
         """A path that leads through the open directory, for calls that take no directory."""
-        return b"/proc/self/fd/%d/%s" % (self.opened(place), name)
+        return b"%s/%d/%s" % (OPEN_FILES, self.opened(place), name)
 
     # --- entries ---
 

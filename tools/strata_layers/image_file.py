@@ -14,13 +14,16 @@ STANDARD_INPUT = "-"
 
 
 class Heard:
-    """What is read from an open file, of which progress is told."""
+    """What is read from an open file, of which progress is told. Nothing at all is no archive: what
+    should have written it has failed."""
 
     def __init__(self, file, progress):
         self.file, self.progress = file, progress
 
     def read(self, size):
         data = self.file.read(size)
+        if not data and self.progress.count == 0:
+            raise Refused("standard input is empty")
         self.progress.add(len(data))
         return data
 

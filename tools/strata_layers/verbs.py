@@ -7,7 +7,7 @@ import sys
 import textwrap
 
 from strata_format import ends
-from strata_format.refused import Refused, bytes_of, one_line, shown
+from strata_format.refused import Refused, bytes_of, one_line
 from strata_format.version import command
 from strata_layers.convert import convert
 from strata_layers.folder_attributes import add_attributes
