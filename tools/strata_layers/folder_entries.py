@@ -26,13 +26,15 @@ OPEN_FILES = b"/proc/self/fd"
 GONE = (errno.ENOENT, errno.ELOOP, errno.ENOTDIR, errno.ENXIO)
 KINDS = {stat.S_IFDIR: entries.DIRECTORY, stat.S_IFREG: entries.FILES[0],
          stat.S_IFLNK: entries.SYMBOLIC, stat.S_IFCHR: entries.CHARACTER,
-         stat.S_IFBLK: entries.BLOCK_DEVICE, stat.S_IFIFO: entries.FIFO, stat.S_IFSOCK: entries.SOCKET}
+         stat.S_IFBLK: entries.BLOCK_DEVICE, stat.S_IFIFO: entries.FIFO,
+         stat.S_IFSOCK: entries.SOCKET}
 # which file it is, how large, and when it and what is said of it were last changed
 SEEN = struct.Struct("=2Q3q")
 
 
 def seen(found):
-    return SEEN.pack(found.st_dev, found.st_ino, found.st_size, found.st_mtime_ns, found.st_ctime_ns)
+    return SEEN.pack(found.st_dev, found.st_ino, found.st_size, found.st_mtime_ns,
+                     found.st_ctime_ns)
 
 
 class Place:
@@ -224,7 +226,8 @@ class Folder:
                 return
         yield path, self.entry(path, place, name, found, names)
         if stat.S_ISDIR(found.st_mode) and "opaque" in marks:
-            if os.getxattr(self.link_to(place, name), marks["opaque"], follow_symlinks=False) == b"y":
+            value = os.getxattr(self.link_to(place, name), marks["opaque"], follow_symlinks=False)
+            if value == b"y":
                 yield (*path, OPAQUE), Entry(entries.FILES[0], OPAQUE)
 
     def entry(self, path, place, name, found, names):
