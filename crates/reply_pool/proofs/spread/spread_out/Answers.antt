@@ -5,7 +5,7 @@ use Rattle.serve_loop.specs.declared.limits.TheConstants.{MAX_ROUND_MESSAGES}
 use Rattle.reply_pieces.specs.Batches.{batches}
 use Rattle.reply_pieces.specs.Spread.{AreFirstJobs}
 use Rattle.reply_pieces.proofs.Batched.{batches_few}
-use Rattle.reply_pool.proofs.spread.spread_out_from.Goals as goal
+use Rattle.reply_pool.proofs.spread.spread_out.Goals as goal
 
 pub returns : goal.returns
 returns g c =
