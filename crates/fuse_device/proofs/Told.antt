@@ -38,8 +38,8 @@ gone_write None u = absurd (cc)
 
 -- and at a read
 gone_read_at : (n : ℕ) (two four eleven aborted nineteen : Bool) → (n == 19) ≡ nineteen
-    → (if two then Again else (if four then Again else (if eleven then Again else (if aborted then Again else (if nineteen then Gone else Fault)))))
-    ≡ Gone → n ≡ 19
+    → (if two then Again else (if four then Again else (if eleven then Again
+    else (if aborted then Again else (if nineteen then Gone else Fault))))) ≡ Gone → n ≡ 19
 gone_read_at n true b c d f e u = absurd (cc)
 gone_read_at n false true c d f e u = absurd (cc)
 gone_read_at n false false true d f e u = absurd (cc)

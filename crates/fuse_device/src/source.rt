@@ -70,7 +70,8 @@ impl<R: Read + Drop, A: Allocator> MessageTap<R, A> {
 impl<R: Read, A: Allocator> Source for MessageTap<R, A> {
     ghost use Rattle.fuse_device.specs.Taps.{buffered_of, tap_gone, tap_reader};
 
-    ghost state = { λ tap. source_state (reader_remaining R.remaining (buffered_of tap)) tap.counts };
+    ghost state = { λ tap.
+        source_state (reader_remaining R.remaining (buffered_of tap)) tap.counts };
 
     fn pull(&mut self, into: &mut [u8]) -> Result<usize, Failed>
         ensures bound { IfOk result (λ n. n ≤ length into.new) }

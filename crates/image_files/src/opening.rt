@@ -83,7 +83,8 @@ pub enum FileKind {
 
 /// What a file has told that it is; a stream where it told nothing.
 fn told_kind(told: io::Result<Metadata>) -> FileKind
-    ensures { MatchResult told (λ metadata. IsKindOf metadata result) (λ _. result ≡ FileKind.Stream) }
+    ensures { MatchResult told (λ metadata. IsKindOf metadata result)
+        (λ _. result ≡ FileKind.Stream) }
 {
     match told {
         Ok(metadata) => kind_of(&metadata),
