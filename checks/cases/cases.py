@@ -15,6 +15,8 @@ counts M beside N.
     $ strata WORDS [< NAME] [> NAME] [2> NAME]
       fed N                         the input is a pipe, fed N bytes at a time
       waits                         the input is a pipe; a request is written when the reply to the one before it has come
+      device                        the input and the output are one socket in place of an open /dev/fuse: a request is a
+                                    packet, which is sent when the reply to the one before it has come
       room N                        a file may grow to N bytes, and then writes fail
       disk N                        the run's folder is a file system of N KiB
       memory N                      so many MiB of address space
@@ -57,6 +59,7 @@ import os
 import resource
 import shutil
 import signal
+import socket
 import subprocess
 import sys
 import tempfile
@@ -66,13 +69,14 @@ from checks.cases.case_files import SOCKET, Case, Sparse
 from checks.cases.pipes import told_of_opened
 from checks.plain.plain_replies import split
 from checks.shared import replies, runs
-from checks.shared.clients import Party, converse, leave_socket
+from checks.shared.clients import Party, converse, exchange, leave_socket, widen
 from checks.shared.mounting import enter
 from checks.shared.text import Words, Wrong, plain_bytes, words_of
 from strata_format.system import called, libc
 
 
-LIMITS = ("fed", "waits", "terminal", "room", "disk", "memory", "stack", "files", "pipes", "gone", "closed")
+FED = {"fed", "waits", "device"}
+LIMITS = (*FED, "terminal", "room", "disk", "memory", "stack", "files", "pipes", "gone", "closed")
 
 
 class Started:
@@ -99,7 +103,7 @@ class Started:
             if name in ("gone", "closed"):
                 self.limits[name] = [limit.next() for _ in list(limit.words)]
             else:
-                self.limits[name] = limit.number() if name not in ("waits", "terminal", "pipes") else None
+                self.limits[name] = limit.number() if name not in ("waits", "device", "terminal", "pipes") else None
             limit.end()
         self.names = {part for word in self.words for part in (word, word.partition("=")[2])}
         self.names |= set(self.streams.values())
@@ -152,12 +156,17 @@ def sink(room, name, is_gone):
 
 
 def open_streams(started, room):
-    """The input, the output and standard error of a run, and the pipe or the terminal's other end behind the input."""
+    """The input, the output and standard error of a run, and the other end of the pipe, the terminal or the socket behind
+    the input."""
     names = started.streams
     pair = [sink(room, names.get(it), it in started.limits.get("gone", ())) for it in (">", "2>")]
     if "fed" in started.limits or "waits" in started.limits:
         end, pipe = os.pipe()
         return end, pair, pipe
+    if "device" in started.limits:
+        near, far = socket.socketpair(socket.AF_UNIX, socket.SOCK_SEQPACKET)
+        widen(near, far)
+        return os.dup(far.fileno()), [os.fdopen(far.detach(), "wb"), pair[1]], near
     if "terminal" in started.limits:
         pipe, end = os.openpty()
         return end, pair, pipe
@@ -240,12 +249,16 @@ def ran(program, started, run, source, pair, pipe, room):
     done = subprocess.Popen(words, cwd=room, stdin=source, stdout=pair[0], stderr=pair[1],
                             preexec_fn=limited(started.limits), restore_signals=False)
     came = b""
-    is_fed = "fed" in started.limits or "waits" in started.limits
+    is_fed = FED & {*started.limits}
     if pipe is not None:
         os.close(source)
     if is_fed:
         data = started.case.data_of(started.streams["<"])[1]
-    if "waits" in started.limits:
+    if "device" in started.limits:
+        pair[0].close()
+        with pipe:
+            came = exchange(pipe, split(data), replies.single(run.replies.get(None, b"")))
+    elif "waits" in started.limits:
         came = converse(done.stdout.fileno(), pipe, split(data)[0], replies.single(run.replies[None]))
         os.close(pipe)
     elif is_fed:
@@ -268,7 +281,7 @@ def told_of(clients, got):
 def tried(program, case, run):
     """Runs the program once; what is not as it must be."""
     started = Started(case, run.line)
-    is_fed = "fed" in started.limits or "waits" in started.limits
+    is_fed = FED & {*started.limits}
     if (run.unread or is_fed) and "<" not in started.streams or run.unread and is_fed:
         raise Wrong("%s:%d: an input that is a file is wanted here" % (case.path, run.line.number))
     if "waits" in started.limits and None not in run.replies:

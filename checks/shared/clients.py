@@ -176,6 +176,21 @@ def converse(source, sink, messages, wanted):
     return came
 
 
+def exchange(end, parts, wanted):
+    """Sends the messages of a stream and what stands behind them as packets, each when the reply to the one before it has
+    come, if that has one among those wanted, and then no more; all that came, up to the end."""
+    came, wanted = b"", list(wanted)
+    messages, rest = parts
+    with contextlib.suppress(OSError):
+        for message in [*messages, *[rest][:len(rest)]]:
+            end.send(message)
+            if wanted and wanted[0][8:16] == message[8:16]:
+                wanted.pop(0)
+                came += b"".join(received_packets(end, 1))
+        end.shutdown(socket.SHUT_WR)
+    return came + b"".join(received_packets(end))
+
+
 # --- visits ---
 
 class Visit:

@@ -1,7 +1,14 @@
 -- linux/fuse.h, fuse_out_header.len: the reply that some bytes begin with.
-use Rattle.std.specs.Prelude.{◌≡◌, ℕ, ◌≤◌, ◌⊎◌, List, length, Option, Result, Ok}
-use Rattle.std.specs.Io.KnownBytes.{Keeps, WriteAppends}
+use Rattle.std.specs.Prelude.{◌≡◌, ℕ, ◌≤◌, ◌⊎◌, Bool, List, length, take, Result, Ok, Err}
 use Rattle.byteorder.specs.Endian.{little_number}
+use Rattle.devices.specs.declared.failed.Failed.{Failed}
+use Rattle.fuse_device.specs.declared.answer.Answer.{Answer}
+use Rattle.fuse_device.specs.declared.answer.Answer.TheVariants.{Bytes, Failure}
+use Rattle.fuse_device.specs.declared.trouble.Trouble.{Trouble}
+use Rattle.fuse_device.specs.declared.trouble.Trouble.TheVariants.{Again, Unwanted, Gone, Fault}
+use Rattle.fuse_device.specs.Answers.{as_failed}
+use Rattle.fuse_device.specs.Troubles.{gone_after, write_trouble}
+use Rattle.fuse_device.specs.Writes.{HasWritten, WriterState}
 
 -- the bytes begin with a whole reply of n bytes, as its first four bytes say
 pub record BeginsReply (bytes : List ℕ) (n : ℕ) : Type 0 where
@@ -17,15 +24,44 @@ BeginsNone bytes = (n : ℕ) → ¬ BeginsReply bytes n
 abbrev pub IsWithinFirst : List ℕ → ℕ → Type 0
 IsWithinFirst bytes taken = (n : ℕ) × BeginsReply bytes n × (taken ≤ n)
 
--- nobody waits for the reply that the bytes begin with: it counts as taken, whole, and the writer
--- holds what it held
-abbrev pub IsLetGo : {E : Type 0} → Option (List ℕ) → Option (List ℕ) → Result ℕ E → List ℕ
-    → Type 0
-IsLetGo old new result bytes =
-    Keeps old new × ((n : ℕ) × BeginsReply bytes n × (result ≡ Ok n))
+-- what the trouble of the write of a reply of n bytes comes to: at ENOENT nobody waits for it, and
+-- it counts as taken, whole
+abbrev pub after_trouble : ℕ → Trouble → Result ℕ Trouble
+after_trouble n Unwanted = Ok n
+after_trouble n Again = Err Again
+after_trouble n Gone = Err Gone
+after_trouble n Fault = Err Fault
 
--- what a writer holds after a push: it took what the push says, or nobody waits for the reply
-abbrev pub PutsReply : {E : Type 0} → Option (List ℕ) → Option (List ℕ) → Result ℕ E → List ℕ
-    → Type 0
-PutsReply old new result bytes =
-    WriteAppends old new result bytes ⊎ IsLetGo old new result bytes
+-- what the write of a reply of n bytes comes to
+abbrev pub after_write : ℕ → Answer → Result ℕ Trouble
+after_write n (Bytes taken) = Ok taken
+after_write n (Failure number) = after_trouble n (write_trouble number)
+
+-- one write of the first reply was made, and the outcome is what it came to
+pub record WritesFirst (bytes : List ℕ) (outcome : Result ℕ Trouble)
+    (old new : WriterState) : Type 0 where
+  pub n : ℕ
+  pub begins : BeginsReply bytes n
+  pub answer : Answer
+  pub wrote : HasWritten (take n bytes) answer old new
+  pub outcome_is : outcome ≡ after_write n answer
+
+-- the bytes begin with no reply, and no write was made
+pub record WritesNone (bytes : List ℕ) (outcome : Result ℕ Trouble)
+    (old new : WriterState) : Type 0 where
+  pub begins : BeginsNone bytes
+  pub kept : new ≡ old
+  pub outcome_is : outcome ≡ Err Fault
+
+-- what a writer was asked for these bytes, and what that came to
+abbrev pub Writes : List ℕ → Result ℕ Trouble → WriterState → WriterState → Type 0
+Writes bytes outcome old new =
+    WritesFirst bytes outcome old new ⊎ WritesNone bytes outcome old new
+
+-- a push: the outcome of its write alone says what was taken and whether the sink is gone
+pub record PutsReply (bytes : List ℕ) (result : Result ℕ Failed) (old new : WriterState)
+    (was_gone is_gone : Bool) : Type 0 where
+  pub outcome : Result ℕ Trouble
+  pub writes : Writes bytes outcome old new
+  pub gone : is_gone ≡ gone_after was_gone outcome
+  pub result_is : result ≡ as_failed outcome

@@ -1,5 +1,8 @@
+pub mod Answers
 pub mod Ends
 pub mod FirstReply
+pub mod Reads
 pub mod Spouts
 pub mod Taps
 pub mod Troubles
+pub mod Writes

@@ -6,15 +6,24 @@
 //! pulls have and however often a read is interrupted. Both know where the kernel has ended the
 //! connection, as when the mount was taken away: the call fails, and the device then says that it
 //! is gone, which it is only after a failure. A reply for which nobody waits any more is let go.
-//! That a pull of an empty room reads once, and a push writes once, no contract can say: it is
-//! tested. The crate stands on `devices` and `byteorder`.
+//!
+//! [`NotedReader`] and [`NotedWriter`] count calls and keep the last one's answer. So contracts say
+//! that a push writes once, that a pull reads, and that only ENODEV ends a mount. That these two
+//! make the calls that they note no contract can say: it is tested. The crate stands on `devices`
+//! and `byteorder`.
 #![tactic(auto)]
 
+mod answer;
 pub mod examples;
 pub mod laws;
+mod noted_reader;
+mod noted_writer;
 mod sink;
 mod source;
 mod trouble;
 
+pub use answer::Answer;
+pub use noted_reader::NotedReader;
+pub use noted_writer::NotedWriter;
 pub use sink::ReplySpout;
 pub use source::MessageTap;

@@ -1,11 +1,13 @@
 //! The sink of replies.
 
 ghost use Rattle.std.specs.Prelude.{◌≡◌, ◌<◌, ◌≤◌, length, false, None, IfOk, OnOk, IsTrue, MatchOption};
-ghost use Rattle.std.specs.Io.KnownBytes.{WriteAppends};
-ghost use Rattle.devices.specs.Counting.{no_pushes, pushed};
+ghost use Rattle.std.specs.Io.KnownBytes.{Keeps, WriteAppends};
+ghost use Rattle.devices.specs.Counting.{flushed, no_pushes, pushed};
 ghost use Rattle.devices.specs.States.{sink_state};
-ghost use Rattle.fuse_device.specs.FirstReply.{BeginsReply, BeginsNone, IsWithinFirst, PutsReply};
+ghost use Rattle.fuse_device.specs.FirstReply.{BeginsReply, BeginsNone, IsWithinFirst, PutsReply, Writes, after_trouble};
+ghost use Rattle.fuse_device.specs.Writes.{noted_writer};
 
+use crate::noted_writer::NotedWriter;
 use crate::trouble::{Trouble, note_gone, trouble_of_write};
 use byteorder::{ByteOrder, LittleEndian};
 use devices::{Failed, Pushes, Sink};
@@ -24,23 +26,26 @@ const HEADER_SIZE: usize = 16;
 /// nothing was taken then. There is no buffer and no copy.
 #[derive(Drop)]
 pub struct ReplySpout<W> {
-    writer: W,
+    writer: NotedWriter<W>,
     gone: bool,
     counts: Pushes,
     ghost gone_by_failure: { IsTrue gone → 0 < counts.failures },
 }
 
 impl<W: Write> ReplySpout<W> {
-    ghost use Rattle.fuse_device.specs.Spouts.{spout_gone, writer_of};
+    ghost use Rattle.fuse_device.specs.Spouts.{spout_gone, spout_writer, writer_of};
+    ghost use Rattle.fuse_device.specs.Writes.{writer_state};
 
     /// A sink to which nothing was pushed so far, over this writer.
     pub fn new(writer: W) -> ReplySpout<W>
         ensures state { ⟦<ReplySpout<W> as Sink>⟧.state result ≡ sink_state None no_pushes }
         ensures over { writer_of result ≡ writer }
         ensures there { spout_gone result ≡ false }
+        ensures unwritten { spout_writer W.contents result
+            ≡ writer_state (W.contents writer) 0 None }
     {
         ReplySpout {
-            writer,
+            writer: NotedWriter::new(writer),
             gone: false,
             counts: Pushes::none(),
         }
@@ -57,7 +62,8 @@ impl<W: Write> ReplySpout<W> {
 }
 
 impl<W: Write> Sink for ReplySpout<W> {
-    ghost use Rattle.fuse_device.specs.Spouts.{spout_gone, writer_of};
+    ghost use Rattle.fuse_device.specs.Spouts.{spout_gone, spout_writer, writer_of};
+    ghost use Rattle.fuse_device.specs.Writes.{writer_state};
 
     ghost state = { λ spout. sink_state None spout.counts };
 
@@ -68,8 +74,8 @@ impl<W: Write> Sink for ReplySpout<W> {
         ensures counts { (⟦<ReplySpout<W> as Sink>⟧.state self.new).counts
             ≡ pushed (⟦<ReplySpout<W> as Sink>⟧.state self.old).counts (length bytes.now) result }
         ensures first { IfOk result (IsWithinFirst bytes.now) }
-        ensures put { PutsReply (W.contents (writer_of self.old)) (W.contents (writer_of self.new))
-            result bytes.now }
+        ensures put { PutsReply bytes.now result (spout_writer W.contents self.old)
+            (spout_writer W.contents self.new) (spout_gone self.old) (spout_gone self.new) }
         ensures stays { IsTrue (spout_gone self.old) → IsTrue (spout_gone self.new) }
         ensures there { OnOk result (spout_gone self.new ≡ spout_gone self.old) }
     {
@@ -83,16 +89,27 @@ impl<W: Write> Sink for ReplySpout<W> {
         taken
     }
 
-    fn flush(&mut self) -> Result<(), Failed> {
-        self.counts.flush(&mut self.writer)
+    fn flush(&mut self) -> Result<(), Failed>
+        ensures bytes { Keeps (⟦<ReplySpout<W> as Sink>⟧.state self.old).held
+            (⟦<ReplySpout<W> as Sink>⟧.state self.new).held }
+        ensures counts { (⟦<ReplySpout<W> as Sink>⟧.state self.new).counts
+            ≡ flushed (⟦<ReplySpout<W> as Sink>⟧.state self.old).counts result }
+        ensures writes { (spout_writer W.contents self.new).writes
+            ≡ (spout_writer W.contents self.old).writes }
+        ensures last { (spout_writer W.contents self.new).last
+            ≡ (spout_writer W.contents self.old).last }
+        ensures gone { spout_gone self.new ≡ spout_gone self.old }
+    {
+        self.writer.flush(&mut self.counts)
     }
 }
 
 // Writes the first reply of the bytes, once, and says how much of it is done with: all of it, where
 // nobody waits for it.
-fn write_first<W: Write>(writer: &mut W, bytes: &[u8]) -> Result<usize, Trouble>
+fn write_first<W: Write>(writer: &mut NotedWriter<W>, bytes: &[u8]) -> Result<usize, Trouble>
     ensures first { IfOk result (IsWithinFirst bytes.now) }
-    ensures put { PutsReply (W.contents writer.old) (W.contents writer.new) result bytes.now }
+    ensures put { Writes bytes.now result (noted_writer W.contents writer.old)
+        (noted_writer W.contents writer.new) }
 {
     match first_reply(bytes) {
         Some(len) => match writer.write(&bytes[..len]) {
@@ -105,7 +122,7 @@ fn write_first<W: Write>(writer: &mut W, bytes: &[u8]) -> Result<usize, Trouble>
 
 // Lets a reply of this length go where nobody waits for it.
 fn let_go(len: usize, trouble: Trouble) -> Result<usize, Trouble>
-    ensures { IfOk result (λ n. n ≡ len) }
+    ensures { result ≡ after_trouble len trouble }
 {
     match trouble {
         Trouble::Unwanted => Ok(len),

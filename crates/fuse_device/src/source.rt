@@ -5,7 +5,9 @@ ghost use Rattle.std.specs.Io.KnownBytes.{ReadConsumes};
 ghost use Rattle.std.specs.Io.Buffered.{reader_remaining};
 ghost use Rattle.devices.specs.Counting.{no_pulls, pulled};
 ghost use Rattle.devices.specs.States.{source_state};
+ghost use Rattle.fuse_device.specs.Reads.{PullsMessage, ReadsLast, noted_reader};
 
+use crate::noted_reader::NotedReader;
 use crate::trouble::{Trouble, note_gone, trouble_of_read};
 use devices::{Failed, Pulls, Source};
 use std::alloc::{AllocError, Allocator};
@@ -27,7 +29,7 @@ const TRIES: u32 = 1024;
 /// the end, and any other error fails the pull. Pulls take no memory.
 #[derive(Drop)]
 pub struct MessageTap<R, A: Allocator> {
-    reader: BufReader<R, A>,
+    reader: NotedReader<BufReader<R, A>>,
     gone: bool,
     counts: Pulls,
     ghost gone_by_failure: { IsTrue gone → 0 < counts.failures },
@@ -47,7 +49,7 @@ impl<R: Read + Drop, A: Allocator> MessageTap<R, A> {
     {
         match BufReader::with_capacity(alloc, ROOM, reader) {
             Ok(reader) => Ok(MessageTap {
-                reader,
+                reader: NotedReader::new(reader),
                 gone: false,
                 counts: Pulls::none(),
             }),
@@ -66,9 +68,10 @@ impl<R: Read + Drop, A: Allocator> MessageTap<R, A> {
 }
 
 impl<R: Read, A: Allocator> Source for MessageTap<R, A> {
-    ghost use Rattle.fuse_device.specs.Taps.{tap_gone};
+    ghost use Rattle.fuse_device.specs.Taps.{buffered_of, tap_gone, tap_reader};
 
-    ghost state = { λ tap. source_state (reader_remaining R.remaining tap.reader) tap.counts };
+    ghost state = { λ tap.
+        source_state (reader_remaining R.remaining (buffered_of tap)) tap.counts };
 
     fn pull(&mut self, into: &mut [u8]) -> Result<usize, Failed>
         ensures bound { IfOk result (λ n. n ≤ length into.new) }
@@ -76,6 +79,8 @@ impl<R: Read, A: Allocator> Source for MessageTap<R, A> {
             (⟦<MessageTap<R, A> as Source>⟧.state self.new).left result into.new }
         ensures counts { (⟦<MessageTap<R, A> as Source>⟧.state self.new).counts
             ≡ pulled (⟦<MessageTap<R, A> as Source>⟧.state self.old).counts result }
+        ensures got { PullsMessage result (tap_reader R.remaining self.old)
+            (tap_reader R.remaining self.new) (tap_gone self.old) (tap_gone self.new) }
         ensures stays { IsTrue (tap_gone self.old) → IsTrue (tap_gone self.new) }
         ensures there { OnOk result (tap_gone self.new ≡ tap_gone self.old) }
     {
@@ -91,9 +96,12 @@ impl<R: Read, A: Allocator> Source for MessageTap<R, A> {
 }
 
 // Reads once, and again while that is interrupted.
-fn read_again<R: Read>(reader: &mut R, into: &mut [u8]) -> Result<usize, Trouble>
+fn read_again<R: Read>(reader: &mut NotedReader<R>, into: &mut [u8]) -> Result<usize, Trouble>
     ensures bound { IfOk result (λ n. n ≤ length into.new) }
-    ensures bytes { ReadConsumes (R.remaining reader.old) (R.remaining reader.new) result into.new }
+    ensures bytes { ReadConsumes (noted_reader R.remaining reader.old).left
+        (noted_reader R.remaining reader.new).left result into.new }
+    ensures last { ReadsLast result (noted_reader R.remaining reader.old)
+        (noted_reader R.remaining reader.new) }
 {
     for _ in 0..TRIES {
         match reader.read(into) {

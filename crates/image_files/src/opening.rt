@@ -4,7 +4,7 @@
 //! regular file, or a block device, whose size is told by a seek to its end. Any other gives its
 //! bytes once, from the first to the last, and is read whole.
 
-ghost use Rattle.std.specs.Prelude.{◌≡◌, ◌↔◌, IfOk, IsTrue};
+ghost use Rattle.std.specs.Prelude.{◌≡◌, ◌↔◌, IfOk, IsTrue, MatchResult};
 ghost use Rattle.image_files.specs.Opening.{AreOfFile, IsBlockDevice, IsHeldAs, IsKeptOf, IsKindOf, IsOpenedAs, fault_of};
 
 use crate::image_data::ImageData;
@@ -14,7 +14,7 @@ use image_bytes::{Contents, InFile};
 use kept_image::{GatherFault, Kept};
 use std::alloc::Allocator;
 use std::fs::{Metadata, OpenFile};
-use std::io::{Read, Seek, SeekFrom};
+use std::io::{self, Read, Seek, SeekFrom};
 use std::os::unix::fs::{FileExt, MetadataExt};
 
 /// The bits of a mode that say what a file is (S_IFMT of inode(7)).
@@ -42,7 +42,7 @@ impl<F: Read + Seek + OpenFile + FileExt + Drop, A: Allocator + Copy> OfFile<F, 
 
     #[tactic(auto, using(crate::proofs::Files::open_of))]
     fn of_file(alloc: A, file: F, trailers: Trailers) -> Result<OpenImage<F, A>, ReadFault> {
-        let kind = told_kind(&file);
+        let kind = told_kind(file.metadata());
         open_as(alloc, file, kind, trailers)
     }
 }
@@ -64,7 +64,7 @@ impl<F: Read + Seek + OpenFile + FileExt + Drop, A: Allocator + Copy> OfFile<F, 
 
     #[tactic(auto, using(crate::proofs::Files::held_of))]
     fn of_file(alloc: A, file: F, trailers: Trailers) -> Result<HeldImage<A>, ReadFault> {
-        let kind = told_kind(&file);
+        let kind = told_kind(file.metadata());
         hold_as(alloc, file, kind, trailers)
     }
 }
@@ -81,9 +81,12 @@ pub enum FileKind {
     Stream,
 }
 
-/// What a file says that it is; a stream where it says nothing.
-fn told_kind<F: OpenFile>(file: &F) -> FileKind {
-    match file.metadata() {
+/// What a file has told that it is; a stream where it told nothing.
+fn told_kind(told: io::Result<Metadata>) -> FileKind
+    ensures { MatchResult told (λ metadata. IsKindOf metadata result)
+        (λ _. result ≡ FileKind.Stream) }
+{
+    match told {
         Ok(metadata) => kind_of(&metadata),
         Err(_) => FileKind::Stream,
     }

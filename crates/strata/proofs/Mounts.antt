@@ -9,7 +9,7 @@ use Rattle.fuse_device.specs.declared.sink.ReplySpout.{ReplySpout}
 use Rattle.fuse_device.specs.declared.source.MessageTap.{MessageTap}
 use Rattle.fuse_device.specs.Ends.{MountEnds, ends}
 use Rattle.fuse_device.specs.Spouts.{spout_gone}
-use Rattle.fuse_device.specs.Taps.{tap_gone}
+use Rattle.fuse_device.specs.Taps.{buffered_of, tap_gone}
 use Rattle.serve_core.specs.declared.stop.Stop.TheVariants as stops
 use Rattle.strata.specs.declared.faults.Fault.{Fault}
 use Rattle.strata.specs.declared.faults.Fault.TheVariants.{Usage, ImageFile, RequestsFile, RepliesFile, BalancesFile, Bind, Accept, Broken, InSession, Stopped}
@@ -122,7 +122,7 @@ same_ends {s} {t} {j} {k} {a} {b} {x} {y} e f g h =
 
 -- new devices are those of an open /dev/fuse that was not used before
 pub new_ends : {R A W : Type 0} (remaining : R → Option (List ℕ)) (tap : MessageTap R A) (spout : ReplySpout W) (left : Option (List ℕ))
-    → source_state (reader_remaining remaining tap.reader) tap.counts ≡ source_state left no_pulls → tap_gone tap ≡ false
+    → source_state (reader_remaining remaining (buffered_of tap)) tap.counts ≡ source_state left no_pulls → tap_gone tap ≡ false
     → sink_state None spout.counts ≡ sink_state None no_pushes → spout_gone spout ≡ false
     → ends remaining tap spout ≡ mounted left
 new_ends remaining tap spout left s a k x = same_ends s k a x

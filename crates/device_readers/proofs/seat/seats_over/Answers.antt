@@ -1,7 +1,16 @@
-use Rattle.std.proofs.Common.{sym, subst, arith}
+use Rattle.std.proofs.Common.{◌≡◌, sym, subst, arith, map, replicate}
 use Rattle.device_readers.specs.Seats.{AreNew, new_seat, seat_of}
 use Rattle.device_readers.proofs.Reading.{all_new, as_many}
 use Rattle.device_readers.proofs.seat.seats_over.Goals as goal
+
+pub returns-clause-seats : goal.returns-clause-seats
+returns-clause-seats g c =
+    let seat = seat_of {O = g.row.O.Denot} {A = g.row.A.Denot} g.I.Read.remaining in
+    let new = new_seat (g.I.Read.remaining c.args.reader) in
+    let all = c.loop-reader-test.false in
+    let few = c.loop-reader.auto._reader-end in
+    let same : c.loop-reader._reader ≡ c.args.readers = omega arith in
+    subst (λ n. map seat c.loop-reader.seats.items ≡ replicate n new) same c.loop-reader.invariant
 
 pub returns-clause-count : goal.returns-clause-count
 returns-clause-count g c =

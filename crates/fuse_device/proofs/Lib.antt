@@ -1,0 +1,2 @@
+pub mod Retries
+pub mod Told
