@@ -312,6 +312,9 @@ def units(root):
         hold("systemd-analyze verify %s: %s" % (name, done.err), (0, []), (done.status, told))
     said = dict(re.findall(r"^(What|Where|Type|Options)=(.*)$", texts["srv-tree.mount"], re.M))
     os.makedirs(said["Where"])
-    root.good("mount", "-t", said["Type"], said["What"], said["Where"], "-o", said["Options"])
+    done = root.run("mount", "-t", said["Type"], said["What"], said["Where"], "-o", said["Options"])
+    hold("the unit's mount: " + done.err, (0, 1), (done.status, done.err.count("\n")))
+    # others are let in to images that keep no modes
+    hold_in("what is told", "without modes and owners", done.err)
     hold_stack(root, said["Where"])
     return "both units of MOUNTING pass systemd-analyze verify"
