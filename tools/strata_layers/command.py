@@ -19,7 +19,7 @@ from strata_format import ends
 from strata_format.refused import Refused, shown
 from strata_format.version import command, version
 
-VERBS = ("convert", "pull", "images", "verify", "remove", "prune", "config", "attributes")
+VERBS = ("convert", "pull", "images", "verify", "remove", "prune", "config", "attributes", "podman")
 
 
 def say(line):
