@@ -1,15 +1,19 @@
-"""Checks with containerd and runc: what containers see, many at once, and daemons that are killed."""
+"""Checks with containerd and runc: what containers see, many at once, and daemons that are
+killed."""
 import errno
 import os
 import random
 import signal
 import subprocess
+import sys
 import threading
 import time
 
+from checks import TOOLS
 from checks.engines import images
 from checks.engines.layers import without_links
 from checks.engines.machine import wait_until
+from checks.registry import made
 from checks.registry.tree import shape
 from checks.shared.mounting import hold
 
@@ -18,7 +22,8 @@ MADE = ("dev", "proc", "sys", "run")
 
 
 def seen(process):
-    """What a container's process sees, with extended attributes, but for links and what runc mounts."""
+    """What a container's process sees, with extended attributes, but for links and what runc
+    mounts."""
     root, found = "/proc/%d/root" % process, {}
     for folder, folders, files in os.walk(root):
         if folder == root:
@@ -44,8 +49,8 @@ def image_of(machine, name, odd=False):
     path = machine.at(name)
     if os.path.exists(path):
         return "docker.io/test/%s:1" % name, path + ".tar"
-    made = images.Image(path, "docker.io/test/%s:1" % name, images.layers(odd))
-    return made.name, made.archive
+    image = images.Image(path, "docker.io/test/%s:1" % name, images.layers(odd))
+    return image.name, image.archive
 
 
 def check_the_same_trees(machine):
@@ -55,7 +60,8 @@ def check_the_same_trees(machine):
         found = {}
         for snapshotter in ("strata", "overlayfs"):
             machine.bring(archive, snapshotter)
-            process = machine.begin("c-" + snapshotter, image, "sleep", "1000", snapshotter=snapshotter)
+            process = machine.begin("c-" + snapshotter, image, "sleep", "1000",
+                                    snapshotter=snapshotter)
             found[snapshotter] = seen(process)
             machine.end("c-" + snapshotter)
         hold("paths", sorted(found["overlayfs"]), sorted(found["strata"]))
@@ -64,6 +70,30 @@ def check_the_same_trees(machine):
         colour = found["strata"]["usr/sudo"][-1]
         hold("an attribute", [("user.colour", b"green")] * odd, colour)
         machine.forget(image)
+
+
+def check_images_as_layers(machine):
+    """An image whose layers are archives of one romfs image each: containerd unpacks them as any
+    others, and a container sees what is in them."""
+    image, archive = image_of(machine, "plain")
+    folder, given = machine.at("romfs"), "docker.io/test/given:1"
+    subprocess.run([sys.executable, "-B", TOOLS + "/layers.py", machine.at("plain"), folder],
+                   check=True, stdin=subprocess.DEVNULL, stdout=subprocess.DEVNULL,
+                   stderr=subprocess.DEVNULL)
+    layers = []
+    for name in sorted(os.listdir(folder)):
+        with open(os.path.join(folder, name), "rb") as file:
+            layers.append(made.archive(images.entry(".strata.romfs", file.read())))
+    machine.bring(images.Image(machine.at("given"), given, layers).archive)
+    machine.bring(archive, "overlayfs")
+    found = []
+    for name, which, snapshotter in (("g", given, "strata"), ("p", image, "overlayfs")):
+        found.append(seen(machine.begin(name, which, "sleep", "1000", snapshotter=snapshotter)))
+        machine.end(name)
+    hold("paths", sorted(found[1]), sorted(found[0]))
+    for path, it in found[1].items():
+        hold(path, it, found[0][path])
+    machine.forget(image, given)
 
 
 def check_many_at_once(machine):
@@ -121,16 +151,22 @@ def begin_writing(machine, name, image):
     wait_until("the container runs", lambda: works(machine, name))
 
 
+def runs(machine, image):
+    name = "n%d" % time.monotonic_ns()
+    done = machine.tried("run", "--rm", "--snapshotter", "strata", image, name, "true")
+    return done.returncode == 0
+
+
 def check_daemons_killed(machine):
-    """The snapshotter and containerd are killed under a container, which goes on; new ones start."""
+    """The snapshotter and containerd are killed under a container, which goes on; new ones
+    start."""
     image, archive = image_of(machine, "plain")
     machine.bring(archive)
     begin_writing(machine, "long", image)
     machine.snapshotter.stop(signal.SIGKILL)
     hold("without the snapshotter", True, works(machine, "long"))
     machine.snapshotter.start()
-    wait_until("a new container", lambda: machine.tried("run", "--rm", "--snapshotter", "strata", image,
-                                                        "n%d" % time.monotonic_ns(), "true").returncode == 0)
+    wait_until("a new container", lambda: runs(machine, image))
     wait_until("one server", lambda: len(machine.snapshotter.servers()) == 1)
     machine.kill("containerd")
     machine.start_containerd()
@@ -142,8 +178,8 @@ def check_daemons_killed(machine):
 
 
 def check_servers_killed(machine):
-    """strata is killed under a container: what that hasn't read yet is gone, and the next container has
-    a new mount."""
+    """strata is killed under a container: what that hasn't read yet is gone, and the next
+    container has a new mount."""
     image, archive = image_of(machine, "plain")
     machine.bring(archive)
     begin_writing(machine, "old", image)
@@ -170,7 +206,8 @@ def check_a_reboot(machine):
     for it in machine.snapshotter.servers():
         os.kill(it, signal.SIGKILL)
     for it in os.listdir(machine.snapshotter.root + "/mounts"):
-        subprocess.run(["umount", "-l", os.path.join(machine.snapshotter.root, "mounts", it)], check=True)
+        subprocess.run(["umount", "-l", os.path.join(machine.snapshotter.root, "mounts", it)],
+                       check=True)
     machine.snapshotter.start()
     machine.start_containerd()
     machine.ctr("task", "start", "-d", "kept")
@@ -180,8 +217,8 @@ def check_a_reboot(machine):
 
 
 def check_random_kills(machine, count=8):
-    """The snapshotter is killed at random moments of imports, containers and removals: afterwards all
-    works, and nothing is left."""
+    """The snapshotter is killed at random moments of imports, containers and removals: afterwards
+    all works, and nothing is left."""
     image, archive = image_of(machine, "plain")
     draw = random.Random(94)
     for number in range(count):
@@ -204,5 +241,6 @@ def check_random_kills(machine, count=8):
     machine.forget(image)
 
 
-CHECKS = (check_the_same_trees, check_one_mount, check_many_at_once, check_daemons_killed,
+CHECKS = (check_the_same_trees, check_images_as_layers, check_one_mount, check_many_at_once,
+          check_daemons_killed,
           check_servers_killed, check_a_reboot, check_random_kills)

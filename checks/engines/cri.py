@@ -84,13 +84,16 @@ class Runtime:
     def pod(self, name, logs):
         """A pod in the network of its host; its configuration and its number."""
         options = message((2, message((1, message((1, 2))))))
-        config = message((1, message((1, name), (2, "uid-" + name), (3, "default"))), (3, logs), (8, options))
-        return config, field(self.call("Runtime", "RunPodSandbox", message((1, config))), 1).decode()
+        config = message((1, message((1, name), (2, "uid-" + name), (3, "default"))), (3, logs),
+                         (8, options))
+        found = self.call("Runtime", "RunPodSandbox", message((1, config)))
+        return config, field(found, 1).decode()
 
     def container(self, pod, name, image, command):
         """A container that runs in a pod."""
         config, number_of_pod = pod
-        said = message((1, message((1, name))), (2, message((1, image))), *((3, it) for it in command),
+        said = message((1, message((1, name))), (2, message((1, image))),
+                       *((3, it) for it in command),
                        (11, name + ".log"), (15, message((2, b""))))
         found = field(self.call("Runtime", "CreateContainer",
                                 message((1, number_of_pod), (2, said), (3, config))), 1).decode()

@@ -1,7 +1,7 @@
 """Checks with containerd, runc and a registry: python3 checks engines PROGRAM [--measure]
 
-All runs in namespaces of its own, which end with it. It needs root, and Debian's packages containerd,
-runc, docker-registry, skopeo, busybox-static, python3-grpcio and python3-protobuf.
+All runs in namespaces of its own, which end with it. It needs root, and Debian's packages
+containerd, runc, docker-registry, skopeo, busybox-static, python3-grpcio and python3-protobuf.
 """
 import os
 import shutil
@@ -15,8 +15,8 @@ from checks.engines.snapshotters import python_with_grpc
 from checks.shared.mounting import Failed
 
 INSIDE = "STRATA_ENGINES_INSIDE"
-NAMESPACES = ("unshare", "--mount", "--pid", "--net", "--fork", "--mount-proc", "--propagation", "private",
-              "--kill-child")
+NAMESPACES = ("unshare", "--mount", "--pid", "--net", "--fork", "--mount-proc", "--propagation",
+              "private", "--kill-child")
 
 
 def missing():
@@ -33,7 +33,8 @@ def go_inside(words):
     folder = tempfile.mkdtemp(prefix="engines-")
     try:
         words = [*NAMESPACES, "--", python_with_grpc(), "-B", checks, "engines", *words]
-        return subprocess.run(words, env={**os.environ, INSIDE: folder}, check=False).returncode == 0
+        done = subprocess.run(words, env={**os.environ, INSIDE: folder}, check=False)
+        return done.returncode == 0
     finally:
         # with the namespaces the mounts in it have ended
         shutil.rmtree(folder)
@@ -48,7 +49,8 @@ def run(checks, machine):
             check(machine)
             said = "passed"
         except Exception as wrong:
-            said, failed = "FAILED: %s" % (wrong if isinstance(wrong, Failed) else repr(wrong)), failed + 1
+            said = "FAILED: %s" % (wrong if isinstance(wrong, Failed) else repr(wrong))
+            failed += 1
         print("engines: %s: %s (%.1f s)" % (name, said, time.monotonic() - begin), flush=True)
         if said != "passed":
             break
@@ -63,13 +65,16 @@ def main(words):
         return True
     if INSIDE not in os.environ:
         return go_inside([program, *words[1:]])
-    return inside(Machine(program, os.environ.pop(INSIDE)), words)
+    folder = os.environ.pop(INSIDE)
+    for place in ("/run", folder):
+        # in memory, so that the disk decides nothing
+        subprocess.run(["mount", "-t", "tmpfs", "tmpfs", place], check=True)
+    return inside(Machine(program, folder), words)
 
 
 def inside(machine, words):
     from checks.engines import containers, measure, pods
     begin_loopback()
-    subprocess.run(["mount", "-t", "tmpfs", "tmpfs", "/run"], check=True)
     try:
         machine.start()
         if "--measure" in words:

@@ -1,5 +1,5 @@
-"""Checks of what goes wrong: a snapshotter that is killed, mounts that are gone, a full disk, a damaged
-database, removals while images are made, many calls at once."""
+"""Checks of what goes wrong: a snapshotter that is killed, mounts that are gone, a full disk, a
+damaged database, removals while images are made, many calls at once."""
 import os
 import random
 import signal
@@ -104,11 +104,12 @@ def check_random_kills(snapshotter, count=40):
 
 
 def check_refused_roots(snapshotter):
-    """A second snapshotter on a root, a root that others may look into, a damaged database: one line
-    each, and status 1."""
+    """A second snapshotter on a root, a root that others may look into, a damaged database: one
+    line each, and status 1."""
     def hold_line(what, words):
         status, text = snapshotter.refused()
-        hold(what, (1, 1, True), (status, text.count("\n"), text.startswith("strata-snapshotter: ") and words in text))
+        hold(what, (1, 1, True),
+             (status, text.count("\n"), text.startswith("strata-snapshotter: ") and words in text))
 
     hold_line("another one", "another snapshotter runs here")
     snapshotter.layer("one", "", fill)
@@ -146,13 +147,15 @@ def check_removed_while_it_is_committed(snapshotter):
         key, name = "extract-%d" % number, "n%d" % number
         snapshotter.call("Prepare", key=key)
         said = []
-        both = [threading.Thread(target=lambda: said.append(snapshotter.tried("Commit", name=name, key=key))),
-                threading.Thread(target=lambda: said.append(snapshotter.tried("Remove", key=key)))]
+        both = [threading.Thread(target=lambda it=it, words=words: said.append(
+            snapshotter.tried(it, key=key, **words)))
+                for it, words in (("Commit", {"name": name}), ("Remove", {}))]
         for it in both:
             it.start()
         for it in both:
             it.join()
-        hold("one fails", ["NOT_FOUND"], [it.partition(":")[0] for it in said if isinstance(it, str)])
+        hold("one fails", ["NOT_FOUND"],
+             [it.partition(":")[0] for it in said if isinstance(it, str)])
 
 
 def check_many_at_once(snapshotter):
@@ -210,7 +213,8 @@ def check_a_full_disk(snapshotter):
             except OSError:
                 pass
         status = [other.tried("Prepare", key="c%d" % number) for number in range(3)]
-        hold("calls fail", {"UNAVAILABLE"}, {it.partition(":")[0] for it in status if isinstance(it, str)})
+        hold("calls fail", {"UNAVAILABLE"},
+             {it.partition(":")[0] for it in status if isinstance(it, str)})
         os.unlink(small + "/rest")
         other.call("Prepare", key="again", parent="one")
         hold_mount(other, "again")
@@ -222,11 +226,12 @@ def check_a_full_disk(snapshotter):
 
 
 def check_the_socket_of_systemd(snapshotter):
-    """With a socket that systemd holds, a call that comes while the service is down is answered once
-    it runs again; and systemd is told when it is ready."""
+    """With a socket that systemd holds, a call that comes while the service is down is answered
+    once it runs again; and systemd is told when it is ready."""
     snapshotter.stop()
     place, told = snapshotter.folder + "/outer.sock", snapshotter.folder + "/told.sock"
-    with socket.socket(socket.AF_UNIX) as outer, socket.socket(socket.AF_UNIX, socket.SOCK_DGRAM) as ready:
+    with socket.socket(socket.AF_UNIX) as outer, \
+            socket.socket(socket.AF_UNIX, socket.SOCK_DGRAM) as ready:
         outer.bind(place)
         outer.listen()
         ready.bind(told)
@@ -234,8 +239,10 @@ def check_the_socket_of_systemd(snapshotter):
 
         def start():
             script = 'exec 3<&%d; export LISTEN_PID=$$ LISTEN_FDS=1; exec "$@"' % outer.fileno()
-            return subprocess.Popen(["sh", "-c", script, "sh", *snapshotter.words], pass_fds=[outer.fileno()],
-                                    env={**os.environ, "NOTIFY_SOCKET": told}, stdin=subprocess.DEVNULL)
+            return subprocess.Popen(["sh", "-c", script, "sh", *snapshotter.words],
+                                    pass_fds=[outer.fileno()],
+                                    env={**os.environ, "NOTIFY_SOCKET": told},
+                                    stdin=subprocess.DEVNULL)
 
         snapshotter.socket, snapshotter.process = place, start()
         hold("told", b"READY=1", ready.recv(100))
@@ -253,6 +260,7 @@ def check_the_socket_of_systemd(snapshotter):
         hold("names", ["a"], names)
 
 
-CHECKS = (check_killed_and_restarted, check_mounts_that_are_gone, check_what_a_killed_one_left, check_random_kills,
+CHECKS = (check_killed_and_restarted, check_mounts_that_are_gone, check_what_a_killed_one_left,
+          check_random_kills,
           check_refused_roots, check_removed_while_it_is_made, check_removed_while_it_is_committed,
           check_many_at_once, check_a_full_disk, check_the_socket_of_systemd)

@@ -77,7 +77,8 @@ def without_links(facts):
 def overlay(folders, place):
     """Mounts folders by the kernel's overlayfs, the highest first."""
     os.mkdir(place)
-    subprocess.run(["mount", "-t", "overlay", "overlay", "-o", "lowerdir=" + ":".join(folders), place],
+    subprocess.run(["mount", "-t", "overlay", "overlay", "-o", "lowerdir=" + ":".join(folders),
+                    place],
                    check=True, stdin=subprocess.DEVNULL)
     return place
 
@@ -145,8 +146,10 @@ def stays_a_folder(snapshotter, fill):
     snapshotter.layer("top", "middle", lambda folder: put(folder, "top", b"t"))
     mount, = snapshotter.call("Prepare", key="c", parent="top").mounts
     lower = dict(it.partition("=")[::2] for it in mount.options)["lowerdir"].split(":")
-    hold("folders", ["snapshots", "snapshots", "mounts"], [kind_of(snapshotter, it) for it in lower])
-    hold("below", (True, True), (os.path.exists(lower[0] + "/top"), os.path.exists(lower[2] + "/etc/passwd")))
+    hold("folders", ["snapshots", "snapshots", "mounts"],
+         [kind_of(snapshotter, it) for it in lower])
+    hold("below", (True, True),
+         (os.path.exists(lower[0] + "/top"), os.path.exists(lower[2] + "/etc/passwd")))
     snapshotter.settled("top")
     hold("usage", 2, snapshotter.call("Usage", key="top").inodes)
     snapshotter.remove_all()
@@ -159,7 +162,8 @@ def check_what_images_do_not_hold(snapshotter):
     lost."""
     def ability(folder):
         put(folder, "ping", b"x", 0o755)
-        os.setxattr(folder + "/ping", "security.capability", bytes.fromhex("0100000200200000" + "00" * 12))
+        os.setxattr(folder + "/ping", "security.capability",
+                    bytes.fromhex("0100000200200000" + "00" * 12))
 
     def colour(folder):
         os.setxattr(folder, "user.colour", b"green")
@@ -207,17 +211,15 @@ def hold_ready(snapshotter, blobs):
     for chain, blob in zip(wanted, blobs):
         labels = {REFERENCE: chain, **({BLOB: blob} if blob else {})}
         for key in ("extract-1", "extract-2"):
-            snapshotter.fails("ALREADY_EXISTS", "Prepare", key=key + chain, parent=parent, labels=labels)
+            snapshotter.fails("ALREADY_EXISTS", "Prepare", key=key + chain, parent=parent,
+                              labels=labels)
         filters = ['labels."%s"==%s,parent=="%s"' % (REFERENCE, chain, parent)]
         info, = snapshotter.call("List", filters=filters)
         hold("kind", 3, info.kind)
         parent = info.name
     hold("paths", [".", "a", "a/two"], sorted(tree(snapshotter.view("v", parent))))
     snapshotter.call("Remove", key="v")
-    for name in reversed(snapshotter.names()) if parent > snapshotter.names()[0] else snapshotter.names():
-        snapshotter.tried("Remove", key=name)
-    for name in snapshotter.names():
-        snapshotter.call("Remove", key=name)
+    snapshotter.remove_all()
 
 
 def check_layers_of_a_store(snapshotter):
@@ -225,7 +227,8 @@ def check_layers_of_a_store(snapshotter):
     the store."""
     layout = made.layout(snapshotter.folder + "/layout", archives())
     store = snapshotter.folder + "/store"
-    subprocess.run([sys.executable, "-B", TOOLS + "/layers.py", "pull", "--store", store, "oci:" + layout.path,
+    subprocess.run([sys.executable, "-B", TOOLS + "/layers.py", "pull", "--store", store,
+                    "oci:" + layout.path,
                     "app:1"], check=True, stdin=subprocess.DEVNULL, stdout=subprocess.DEVNULL)
     hold_ready(snapshotter, [None, None])
     # a store in which others may write is none
@@ -248,7 +251,8 @@ def check_blobs_at_hand(snapshotter):
     """Layers whose blobs containerd has are made of these alone, packed or not."""
     import gzip
     first, second = archives()
-    hold_ready(snapshotter, [put_blob(snapshotter, gzip.compress(first)), put_blob(snapshotter, second)])
+    hold_ready(snapshotter,
+               [put_blob(snapshotter, gzip.compress(first)), put_blob(snapshotter, second)])
 
 
 def check_lying_labels(snapshotter):
@@ -258,7 +262,8 @@ def check_lying_labels(snapshotter):
     chain, = chain_digests([made.digest(first)])
     broken = put_blob(snapshotter, first + b"\0", made.digest(first))
     other = put_blob(snapshotter, second)
-    for number, blob in enumerate((broken, other, "sha256:" + "0" * 64, "sha256:../../x", "md5:0", "")):
+    for number, blob in enumerate((broken, other, "sha256:" + "0" * 64, "sha256:../../x", "md5:0",
+                                   "")):
         labels = {REFERENCE: chain, BLOB: blob}
         snapshotter.call("Prepare", key="extract-%d" % number, labels=labels)
         snapshotter.call("Remove", key="extract-%d" % number)
@@ -270,7 +275,8 @@ def check_lying_labels(snapshotter):
 def check_given_images(snapshotter):
     """A layer of one file that is an image is checked, and taken as it is."""
     layout = made.layout(snapshotter.folder + "/layout", archives()[:1])
-    subprocess.run([sys.executable, "-B", TOOLS + "/layers.py", layout.path, snapshotter.folder + "/images"],
+    subprocess.run([sys.executable, "-B", TOOLS + "/layers.py", layout.path,
+                    snapshotter.folder + "/images"],
                    check=True, stdin=subprocess.DEVNULL, stdout=subprocess.DEVNULL)
     image = snapshotter.folder + "/images/00.romfs"
     with open(image, "rb") as file:
@@ -284,5 +290,6 @@ def check_given_images(snapshotter):
         snapshotter.call("Remove", key="extract-1")
 
 
-CHECKS = (check_a_tree, check_whiteouts_of_all_forms, check_what_images_do_not_hold, check_many_layers,
+CHECKS = (check_a_tree, check_whiteouts_of_all_forms, check_what_images_do_not_hold,
+          check_many_layers,
           check_layers_of_a_store, check_blobs_at_hand, check_lying_labels, check_given_images)

@@ -1,4 +1,5 @@
-"""A machine of a check's own: containerd, a registry and the snapshotter, in namespaces that end with
+"""A machine of a check's own: containerd, a registry and the snapshotter, in namespaces that end
+with
 it."""
 import fcntl
 import os
@@ -61,7 +62,8 @@ class Machine:
         with open(self.at("containerd.toml"), "w", encoding="ascii") as out:
             out.write(CONTAINERD.format(at=folder, host=HOST))
         with open(self.at("registry.yml"), "w", encoding="ascii") as out:
-            out.write(CONFIGURATION.replace('"127.0.0.1:%d"', HOST.replace("%", "%%")) % self.at("registry"))
+            out.write(CONFIGURATION.replace('"127.0.0.1:%d"',
+                                            HOST.replace("%", "%%")) % self.at("registry"))
 
     def at(self, *names):
         return os.path.join(self.folder, *names)
@@ -70,7 +72,8 @@ class Machine:
 
     def daemon(self, name, *words):
         with open(self.at(name + ".log"), "ab") as log:
-            self.daemons[name] = subprocess.Popen(words, stdin=subprocess.DEVNULL, stdout=log, stderr=log)
+            self.daemons[name] = subprocess.Popen(words, stdin=subprocess.DEVNULL, stdout=log,
+                                                  stderr=log)
 
     def start_registry(self):
         self.daemon("registry", "docker-registry", "serve", self.at("registry.yml"))
@@ -98,14 +101,16 @@ class Machine:
 
     def tried(self, *words):
         return subprocess.run(["ctr", "-a", self.at("c.sock"), *words], stdin=subprocess.DEVNULL,
-                              stdout=subprocess.PIPE, stderr=subprocess.PIPE, text=True, check=False,
+                              stdout=subprocess.PIPE, stderr=subprocess.PIPE, text=True,
+                              check=False,
                               timeout=2 * SECONDS)
 
     def ctr(self, *words):
         """What ctr prints, which must succeed."""
         done = self.tried(*words)
         if done.returncode != 0:
-            raise Failed("ctr %s: %s" % (" ".join(words), (done.stderr or done.stdout).strip()[-700:]))
+            raise Failed("ctr %s: %s" % (" ".join(words),
+                                         (done.stderr or done.stdout).strip()[-700:]))
         return done.stdout
 
     def bring(self, archive, snapshotter="strata"):

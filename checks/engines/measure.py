@@ -1,6 +1,7 @@
 """Measures the snapshotter beside containerd's overlayfs: python3 checks engines PROGRAM --measure
 
-The image is Python of this machine, in four layers. Each figure is of one run; what is compared runs by
+The image is Python of this machine, in four layers. Each figure is of one run; what is compared
+runs by
 turns.
 """
 import os
@@ -72,23 +73,29 @@ def resident(process):
 
 
 def disk(path):
-    return int(subprocess.run(["du", "-sm", path], check=True, stdout=subprocess.PIPE, text=True).stdout.split()[0])
+    return int(subprocess.run(["du", "-smx", path], check=True, stdout=subprocess.PIPE,
+                              text=True).stdout.split()[0])
 
 
 def figures(machine, snapshotter, image):
     found = {}
     found["import, s"] = timed(machine.bring, image.archive, snapshotter)
-    found["first container after it, s"] = timed(machine.run, "first", IMAGE, "true", snapshotter=snapshotter)
+    found["first container after it, s"] = timed(machine.run, "first", IMAGE, "true",
+                                                 snapshotter=snapshotter)
     machine.begin("stay", IMAGE, "sleep", "1000", snapshotter=snapshotter)
-    starts = [timed(machine.run, "s%d" % number, IMAGE, "true", snapshotter=snapshotter) for number in range(10)]
+    starts = [timed(machine.run, "s%d" % number, IMAGE, "true",
+                    snapshotter=snapshotter) for number in range(10)]
     found["a container, s"] = statistics.median(starts)
     found["ten at once, s"] = at_once(machine, 10, snapshotter)
     found["fifty at once, s"] = at_once(machine, 50, snapshotter)
-    for name, words in (("find", ("find", "/usr")), ("python", ("/usr/bin/python3.11", "-c", CODE))):
+    for name, words in (("find", ("find", "/usr")),
+                        ("python", ("/usr/bin/python3.11", "-c", CODE))):
         runs = []
         for number in range(ROUNDS):
-            runs.append(timed(machine.ctr, "task", "exec", "--exec-id", "%s%d" % (name, number), "stay", *words))
-        found["%s first, s" % name], found["%s again, s" % name] = runs[0], statistics.median(runs[1:])
+            runs.append(timed(machine.ctr, "task", "exec", "--exec-id", "%s%d" % (name, number),
+                              "stay", *words))
+        found["%s first, s" % name] = runs[0]
+        found["%s again, s" % name] = statistics.median(runs[1:])
     if snapshotter == "strata":
         found["memory of servers, MiB"] = sum(map(resident, machine.snapshotter.servers()))
         found["memory of the snapshotter, MiB"] = resident(machine.snapshotter.process.pid)
@@ -102,12 +109,16 @@ def figures(machine, snapshotter, image):
 
 def measure(machine):
     image = made_image(machine)
-    print("image: %d layers, %d MiB packed" % (len(image.layers), os.path.getsize(image.archive) >> 20), flush=True)
+    print("image: %d layers, %d MiB packed" % (len(image.layers),
+                                               os.path.getsize(image.archive) >> 20), flush=True)
     runs = {"overlayfs": [], "strata": []}
     for _ in range(3):
         for snapshotter, found in runs.items():
             found.append(figures(machine, snapshotter, image))
     for key in runs["strata"][0]:
-        cells = [statistics.median(it[key] for it in found) if key in found[0] else None for found in runs.values()]
+        cells = [statistics.median(it[key] for it in found) if key in found[0] else None
+                 for found in runs.values()]
         ratio = "" if None in cells else "%.2f" % (cells[1] / cells[0])
-        print("| %s | %s | %s |" % (key, " | ".join("" if it is None else "%.2f" % it for it in cells), ratio))
+        print("| %s | %s | %s |" % (key,
+                                    " | ".join("" if it is None else "%.2f" % it for it in cells),
+                                    ratio))

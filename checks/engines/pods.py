@@ -1,4 +1,5 @@
-"""Checks by Kubernetes' container runtime interface: a pod, a container, and layers that stand ready."""
+"""Checks by Kubernetes' container runtime interface: a pod, a container, and layers that stand
+ready."""
 import json
 import os
 import subprocess
@@ -20,7 +21,8 @@ def pushed(machine):
     box.push(HOST, "box:1")
     run = dict(images.RUN)
     images.RUN["Cmd"] = ["/bin/sleep", "1000000000"]
-    images.Image(machine.at("pause"), "pause", [made.archive(*images.lowest())]).push(HOST, "pause:1")
+    images.Image(machine.at("pause"), "pause", [made.archive(*images.lowest())]).push(HOST,
+                                                                                      "pause:1")
     images.RUN.update(run)
     return box
 
@@ -41,13 +43,17 @@ def hold_a_pod(machine, runtime, image):
     """Runs a container in a pod, looks at it, and removes both."""
     logs = tempfile.mkdtemp(dir=machine.folder)
     pod = runtime.pod("pod", logs)
-    container = runtime.container(pod, "c", image, ["sh", "-c", "cat /etc/issue; echo own > /etc/own; sleep 1000"])
-    wait_until("the log", lambda: os.path.exists(logs + "/c.log") and os.path.getsize(logs + "/c.log"))
+    container = runtime.container(pod, "c", image,
+                                  ["sh", "-c", "cat /etc/issue; echo own > /etc/own; sleep 1000"])
+    wait_until("the log",
+               lambda: os.path.exists(logs + "/c.log") and os.path.getsize(logs + "/c.log"))
     with open(logs + "/c.log", encoding="utf-8") as lines:
         hold("log", " stdout F below\n", lines.read().partition("Z")[2])
-    wait_until("what it writes", lambda: runtime.execute(container, "cat", "/etc/own") == ("own\n", 0))
+    wait_until("what it writes",
+               lambda: runtime.execute(container, "cat", "/etc/own") == ("own\n", 0))
     hold("exec", ("", 3), runtime.execute(container, "sh", "-c", "exit 3"))
-    hold("what is shown", ("group\nhostname\nhosts\nissue\nown\npasswd\nresolv.conf\nshadow\nthird\n", 0),
+    hold("what is shown",
+         ("group\nhostname\nhosts\nissue\nown\npasswd\nresolv.conf\nshadow\nthird\n", 0),
          runtime.execute(container, "ls", "/etc"))
     hold("stats", True, runtime.has_stats(container))
     runtime.remove(pod, [container])
@@ -67,8 +73,10 @@ def check_a_pod(machine):
 def check_layers_in_the_store(machine):
     """What strata-layers has pulled is not fetched again: the registry sends no layer."""
     store = machine.at("store")
-    subprocess.run([sys.executable, "-B", TOOLS + "/layers.py", "pull", "--store", store, "oci:%s:1" % machine.at("box"),
-                    "box:1"], check=True, stdin=subprocess.DEVNULL, stdout=subprocess.DEVNULL, stderr=subprocess.DEVNULL)
+    subprocess.run([sys.executable, "-B", TOOLS + "/layers.py", "pull", "--store", store,
+                    "oci:%s:1" % machine.at("box"),
+                    "box:1"], check=True, stdin=subprocess.DEVNULL, stdout=subprocess.DEVNULL,
+                    stderr=subprocess.DEVNULL)
     os.truncate(machine.at("registry.log"), 0)
     runtime = cri.Runtime(machine.at("c.sock"))
     image = runtime.pull(BOX)

@@ -48,7 +48,8 @@ def main(words):
         with tempfile.TemporaryDirectory(prefix="snapshots-") as folder:
             said = apart(lambda: inside(check, program, folder))
         if said != "passed":
-            print("snapshots: %s: %s" % (check.__name__[len("check_"):].replace("_", " "), said), flush=True)
+            print("snapshots: %s: %s" % (check.__name__[len("check_"):].replace("_", " "), said),
+                  flush=True)
             failed += said.startswith("FAILED")
     print("snapshots: %d checks, %d failed" % (len(every), failed))
     return failed == 0

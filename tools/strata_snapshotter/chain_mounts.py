@@ -9,15 +9,14 @@ import os
 import subprocess
 import threading
 
-from strata_mount.device import answers, mounted, take_away
+from strata_mount.dead_mounts import mounts
+from strata_mount.device import answers, mounted_by_kernel, take_away
 from strata_mount.mounting import serve_words
 from strata_mount.plan import Plan
 from strata_snapshotter.faults import Unavailable
 
 WORDS = ("ro", "suid", "dev", "default_permissions", "allow_other")
 READERS = min(4, os.cpu_count() or 1)
-# so many mounts of dead servers may stand one on another
-DEAD_MOST = 16
 
 
 def mount_chain(program, images, place):
@@ -25,10 +24,12 @@ def mount_chain(program, images, place):
     strata's own line where it doesn't."""
     plan = Plan(program=program, images=images, folder=place, words=WORDS, readers=READERS)
     with open(os.memfd_create("errors"), "w+b", 0) as errors:
-        device = mounted(plan)
+        device = mounted_by_kernel(plan)
+        if device is None:
+            raise Unavailable("nothing may be mounted here: %s" % place)
         try:
             server = subprocess.Popen(serve_words(plan), stdin=device, stdout=device, stderr=errors,
-                                      start_new_session=True, cwd="/")
+                                      start_new_session=True, cwd="/", env={})
         except OSError:
             take_away(place)
             raise
@@ -48,10 +49,8 @@ def is_served(place):
 
 
 def clear(place):
-    """Takes away the mounts that stand at a place."""
-    for _ in range(DEAD_MOST):
-        if answers(place) and not os.path.ismount(place):
-            return
+    """Takes away the mounts that stand at a place. Their servers are not asked: one may hang."""
+    for _ in range(sum(it == place for it, _ in mounts())):
         take_away(place)
 
 

@@ -36,7 +36,7 @@ def parser():
                        help="containerd's content store, for layers that are fetched (%(default)s)")
     found.add_argument("--strata", metavar="PROGRAM", dest="program", default=None,
                        help="another program than strata's own")
-    found.add_argument("--debug", action="store_true", help="log calls that fail, too")
+    found.add_argument("--debug", action="store_true", help="log each call with its time")
     found.add_argument("--version", action="store_true", help="print the version")
     return found
 

@@ -36,7 +36,7 @@ class Places:
     write in it, or where another snapshotter holds it."""
 
     def __init__(self, root):
-        self.root = os.path.abspath(root)
+        self.root = os.path.realpath(root)
         os.makedirs(self.root, 0o700, exist_ok=True)
         self.folder = os.open(self.root, os.O_RDONLY | os.O_DIRECTORY | os.O_CLOEXEC)
         found = os.fstat(self.folder)

@@ -3,6 +3,7 @@ import concurrent.futures
 import contextlib
 import logging
 import sqlite3
+import time
 
 import grpc
 
@@ -93,8 +94,10 @@ class Service:
 @contextlib.contextmanager
 def told(name, context):
     """Ends a call that fails with the status of its fault."""
+    begin = time.monotonic()
     try:
         yield
+        logging.debug("%s: %.1f ms", name, 1000 * (time.monotonic() - begin))
     except faults.Fault as fault:
         logging.debug("%s: %s", name, fault)
         context.abort(STATUSES[type(fault)], str(fault))
