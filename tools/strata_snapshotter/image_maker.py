@@ -77,6 +77,7 @@ class ImageMaker:
         while True:
             try:
                 self.make(self.next())
+                self.snapshots.tidy()
             except (sqlite3.Error, OSError) as fault:
                 logging.error("an image can't be kept now: %s", fault)
                 with self.changed:
@@ -114,18 +115,18 @@ class ImageMaker:
 
     def settle(self, snapshot, change):
         """Makes a change to a layer if it is still there; else removes what is left of it."""
+        aside = None
         with self.changed:
-            self.making, aside = None, []
+            self.making = None
             if self.state.by_id(snapshot.id) is None:
-                aside.append(self.places.set_aside(self.places.snapshot(snapshot.id)))
+                aside = self.places.set_aside(self.places.snapshot(snapshot.id))
             else:
                 change()
             self.changed.notify_all()
-            aside += self.snapshots.release()
-        places.remove_all(aside)
+        places.remove(aside)
 
     def stay(self, snapshot, why, taken):
-        """Lets a layer stay a folder."""
+        """Lets a layer that is no image yet stay a folder."""
         places.remove(self.places.image(snapshot.id))
         logging.warning("%s stays a folder, with all above it: %s", snapshot.name, why)
         with self.state.transaction():

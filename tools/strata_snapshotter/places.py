@@ -11,6 +11,7 @@
 """
 import contextlib
 import fcntl
+import logging
 import os
 import secrets
 import shutil
@@ -78,12 +79,18 @@ class Places:
 
     def make(self, number, owner):
         """Makes the folders of a snapshot that is written to."""
+        self.forget(number)
         os.mkdir(self.snapshot(number), 0o711)
         os.mkdir(self.work(number), 0o711)
         os.mkdir(self.files(number), 0o755)
         os.chmod(self.files(number), 0o755)
         if owner is not None:
             os.chown(self.files(number), *owner)
+
+    def forget(self, number):
+        """Removes what has the number of a snapshot that is new: another call may have failed after
+        it had been given this number."""
+        remove(self.set_aside(self.snapshot(number)))
 
     @contextlib.contextmanager
     def new_image(self):
@@ -115,13 +122,17 @@ class Places:
         sync_folder(self.at("snapshots"))
 
     def set_aside(self, path):
-        """Takes a folder away at once; its new path, where it waits to be removed."""
+        """Takes a folder away at once; its new path, where it waits to be removed, or None where
+        there is none or it can't be taken away, which is logged."""
         aside = self.at("trash", secrets.token_hex(8))
         try:
             os.rename(path, aside)
+            return aside
         except FileNotFoundError:
-            return None
-        return aside
+            pass
+        except OSError as fault:
+            logging.warning("%s stays for now: %s", path, fault.strerror)
+        return None
 
     def clear(self):
         """Removes what an earlier snapshotter was about to make or to remove."""
@@ -131,18 +142,19 @@ class Places:
 
 
 def remove(path):
-    """Removes a file, or a folder with all in it; None is nothing."""
+    """Removes a file, or a folder with all in it; None is nothing. What can't be removed is logged:
+    it is found again at the next start."""
     if path is None:
         return
-    with contextlib.suppress(FileNotFoundError, NotADirectoryError):
-        shutil.rmtree(path)
-    with contextlib.suppress(FileNotFoundError):
-        os.unlink(path)
-
-
-def remove_all(paths):
-    for path in paths:
-        remove(path)
+    try:
+        if os.path.isdir(path) and not os.path.islink(path):
+            shutil.rmtree(path)
+        else:
+            os.unlink(path)
+    except FileNotFoundError:
+        pass
+    except OSError as fault:
+        logging.warning("%s stays for now: %s", path, fault.strerror)
 
 
 def usage(path):

@@ -10,6 +10,7 @@ stands on are removed.
 """
 import collections
 import contextlib
+import logging
 import os
 import threading
 
@@ -186,6 +187,7 @@ class Snapshots:
                 if self.state.ready(again, REFERENCE, labels[REFERENCE]) is None:
                     number = self.state.insert(name, again, Kind.COMMITTED, labels, Form.IMAGE,
                                                is_ready=True)
+                    self.places.forget(number)
                     self.places.keep_image(path, number)
                     self.state.settle(number, Form.IMAGE, places.usage(self.places.image(number)))
         return True
@@ -224,9 +226,8 @@ class Snapshots:
             self.maker.take_given(snapshot, given, name, labels)
         else:
             self.commit_folder(key, name, labels)
-        with self.lock:
-            aside = [self.places.set_aside(self.places.work(snapshot.id)), *self.release()]
-        places.remove_all(aside)
+        places.remove(self.places.set_aside(self.places.work(snapshot.id)))
+        self.tidy()
 
     def committable(self, name, key):
         """The active snapshot of a key, which may be committed under a name. The lock must be
@@ -277,21 +278,30 @@ class Snapshots:
                 raise FailedPrecondition("snapshot %s: others stand on it" % name)
             with self.state.transaction():
                 self.state.delete(snapshot)
-            aside = self.release()
+            aside = None
             if self.maker.making != snapshot.id:
-                aside.append(self.places.set_aside(self.places.snapshot(snapshot.id)))
-        places.remove_all(aside)
+                aside = self.places.set_aside(self.places.snapshot(snapshot.id))
+        places.remove(aside)
+        self.tidy()
 
     # --- what nothing stands on ---
 
-    def release(self):
-        """Takes away the mounts that nothing stands on, and sets aside the folders of images; the
-        paths that are left to remove. The lock must be held."""
-        self.mounts_of.release(self.state.used(True))
-        found = (self.spare & self.state.numbers()) - self.state.used(False)
-        self.spare -= found
-        return [self.places.set_aside(path) for number in found
-                for path in (self.places.files(number), self.places.work(number))]
+    def tidy(self):
+        """Takes away the mounts that nothing stands on, and removes the folders of images. What
+        can't be taken away now is logged, and found at the next start: what was asked for is
+        done."""
+        try:
+            with self.lock:
+                self.mounts_of.release(self.state.used(True))
+                found = (self.spare & self.state.numbers()) - self.state.used(False)
+                self.spare -= found
+                aside = [self.places.set_aside(path) for number in found
+                         for path in (self.places.files(number), self.places.work(number))]
+        except OSError as fault:
+            logging.warning("what is not needed stays for now: %s", fault)
+        else:
+            for path in aside:
+                places.remove(path)
 
     def cleanup(self):
         """Removes all that no snapshot needs, as a snapshotter that was killed has left it."""
@@ -300,5 +310,6 @@ class Snapshots:
             aside = [self.places.set_aside(self.places.snapshot(number)) for number in unknown
                      if self.maker.making != number]
             self.spare |= self.state.images()
-            aside += self.release()
-        places.remove_all(aside)
+        for path in aside:
+            places.remove(path)
+        self.tidy()
