@@ -12,7 +12,7 @@ import time
 
 from checks.engines.machine import PROGRAMS, Machine, begin_loopback
 from checks.engines.snapshotters import python_with_grpc
-from checks.shared.mounting import Failed
+from checks.shared.mounting import Failed, LeftOut
 
 INSIDE = "STRATA_ENGINES_INSIDE"
 NAMESPACES = ("unshare", "--mount", "--pid", "--net", "--fork", "--mount-proc", "--propagation",
@@ -48,11 +48,13 @@ def run(checks, machine):
         try:
             check(machine)
             said = "passed"
+        except LeftOut as missing_here:
+            said = "left out: %s" % missing_here
         except Exception as wrong:
             said = "FAILED: %s" % (wrong if isinstance(wrong, Failed) else repr(wrong))
             failed += 1
         print("engines: %s: %s (%.1f s)" % (name, said, time.monotonic() - begin), flush=True)
-        if said != "passed":
+        if failed:
             break
     return failed
 
@@ -73,14 +75,14 @@ def main(words):
 
 
 def inside(machine, words):
-    from checks.engines import containers, measure, pods
+    from checks.engines import containers, measure, others, pods
     begin_loopback()
     try:
         machine.start()
         if "--measure" in words:
             measure.measure(machine)
             return True
-        every = [it for it in (*containers.CHECKS, *pods.CHECKS)
+        every = [it for it in (*containers.CHECKS, *pods.CHECKS, *others.CHECKS)
                  if it.__name__[len("check_"):] in words[1:] or not words[1:]]
         failed = run(every, machine)
         print("engines: %d failed" % failed)

@@ -198,7 +198,7 @@ def check_a_full_disk(snapshotter):
     small = snapshotter.folder + "/small"
     os.mkdir(small)
     subprocess.run(["mount", "-t", "tmpfs", "-o", "size=3m,mode=700", "tmpfs", small], check=True)
-    other = Snapshotter(snapshotter.words[snapshotter.words.index("--strata") + 1], small).start()
+    other = Snapshotter(snapshotter.program, small).start()
     try:
         other.layer("one", "", fill)
         other.settled("one")

@@ -5,13 +5,17 @@ runs by
 turns.
 """
 import os
+import re
 import statistics
 import subprocess
+import sys
 import tarfile
 import threading
 import time
 
-from checks.engines import images
+from checks import TOOLS
+from checks.engines import cri, images
+from checks.engines.machine import HOST
 from checks.registry import made
 
 IMAGE = "docker.io/test/python:1"
@@ -107,10 +111,48 @@ def figures(machine, snapshotter, image):
     return found
 
 
+def use(machine, snapshotter):
+    """Lets CRI use another snapshotter."""
+    place = machine.at("containerd.toml")
+    with open(place, encoding="ascii") as file:
+        text = file.read()
+    with open(place, "w", encoding="ascii") as out:
+        out.write(re.sub(r'  snapshotter = "\w+"', '  snapshotter = "%s"' % snapshotter, text))
+    machine.kill("containerd")
+    machine.start_containerd()
+
+
+def pull(machine):
+    """The time of a pull by CRI; the image is removed again, with all that was made of it."""
+    runtime = cri.Runtime(machine.at("c.sock"))
+    found = timed(runtime.pull, HOST + "/python:1")
+    runtime.remove_image(HOST + "/python:1")
+    machine.forget()
+    return found
+
+
+def pulls(machine, image):
+    """Prints the times of pulls by CRI, the last ones with the layers in the store."""
+    image.push(HOST, "python:1")
+    found = {"overlayfs": [], "strata": []}
+    for _ in range(3):
+        for snapshotter, times in found.items():
+            use(machine, snapshotter)
+            times.append(pull(machine))
+    subprocess.run([sys.executable, "-B", TOOLS + "/layers.py", "pull", "--store",
+                    machine.at("store"),
+                    "oci:%s:1" % image.path, "python:1"], check=True, stdin=subprocess.DEVNULL)
+    ready = statistics.median(pull(machine) for _ in range(3))
+    first, other = (statistics.median(it) for it in found.values())
+    print("| pull by CRI, s | %.2f | %.2f | %.2f |" % (first, other, other / first))
+    print("| the same from the store, s | | %.2f | %.2f |" % (ready, ready / first), flush=True)
+
+
 def measure(machine):
     image = made_image(machine)
     print("image: %d layers, %d MiB packed" % (len(image.layers),
                                                os.path.getsize(image.archive) >> 20), flush=True)
+    pulls(machine, image)
     runs = {"overlayfs": [], "strata": []}
     for _ in range(3):
         for snapshotter, found in runs.items():

@@ -30,7 +30,7 @@ class Snapshotter:
     """A snapshotter with a root of its own, below a folder."""
 
     def __init__(self, program, folder, *words):
-        self.folder, self.root = folder, os.path.join(folder, "root")
+        self.program, self.folder, self.root = program, folder, os.path.join(folder, "root")
         self.socket, self.log = os.path.join(folder, "s.sock"), os.path.join(folder, "log")
         self.words = [sys.executable, "-B", SCRIPT, "--root", self.root, "--socket", self.socket,
                       "--strata", program, "--store", os.path.join(folder, "store"),
