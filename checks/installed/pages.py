@@ -13,7 +13,8 @@ FORMATS = ("man5/strata-attributes.5",)
 MAN = "/usr/local/share/man/"
 SHARE = "/usr/local/share/"
 SUBCOMMANDS = ("check", "list", "serve", "socket")
-VERBS = ("convert", "pull", "images", "verify", "remove", "prune", "config", "attributes", "podman")
+VERBS = ("image", "convert", "pull", "images", "verify", "remove", "prune", "config", "attributes",
+         "podman")
 OPTION = re.compile(r"(?<![\w-])(--[a-z][a-z-]*|-[A-Za-z])(?![\w-])")
 COMPLETED = {"bash": SHARE + "bash-completion/completions/%s", "zsh": SHARE + "zsh/site-functions/_%s",
              "fish": SHARE + "fish/vendor_completions.d/%s.fish"}

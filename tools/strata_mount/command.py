@@ -29,7 +29,7 @@ def parser_of(name):
     parser.add_argument("--background", action="store_true", help="return once the mount answers")
     parser.add_argument("-o", metavar="OPTIONS", default="",
                         help="mount options: allow_other, noexec, max_read=N, ..; strata's: strict, whole, "
-                        "workers=N, readers=N, uid=N, gid=N")
+                        "workers=N, readers=N, uid=N, gid=N, modeless")
     parser.add_argument("--strict", action="store_true", help="verify the checksum of every header, too")
     parser.add_argument("--replace", action="store_true", help="unmount a dead mount at DIR first")
     parser.add_argument("--store", metavar="DIR", help="look for container images in this store")

@@ -9,7 +9,7 @@ import threading
 
 from strata_format import ends
 from strata_format.refused import one_line
-from strata_mount import preconditions
+from strata_mount import modes, preconditions
 from strata_mount.device import DEVICE, answers, mounted, take_away
 from strata_mount.options import Options
 
@@ -178,6 +178,7 @@ def attempt(plan):
             raise OSError(0, "no such program", plan.program)
         plan.folder, plan.program = os.path.realpath(plan.folder), os.path.abspath(program)
         preconditions.hold_images(plan)
+        modes.tell(plan)
         return run(plan, counts_of(plan))
     except OSError as fault:
         plan.say_fault(fault)

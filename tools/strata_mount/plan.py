@@ -18,7 +18,7 @@ class Plan(argparse.Namespace):
     # strata's own program, unless another is named
     program, images, folder = None, (), None
     words, owner, workers, readers = (), None, None, None
-    background = strict = whole = replace = debug = verify = False
+    background = strict = whole = modeless = replace = debug = verify = False
     may_replace, store = True, None
     # the name of the file in which requests are counted
     stats = None
@@ -43,6 +43,8 @@ class Plan(argparse.Namespace):
         self.words = [*WORDS, *relayed, *options.mount]
         self.strict = self.strict or "strict" in options.strata
         self.whole = "whole" in options.strata
+        # whether it is meant that others see images that keep no modes
+        self.modeless = "modeless" in options.strata
         self.workers = options.strata.get("workers")
         self.readers = options.strata.get("readers")
         self.owner = options.owner()
