@@ -33,6 +33,23 @@ Description: read-only file trees, stacked of romfs images, by FUSE
  is the right one is proved. strata-layers makes an image of each layer of
  a container image, and mount.strata mounts by /etc/fstab.
 """
+# dpkg runs these: modules are compiled for the Python of the machine, and what was compiled goes with the package
+POSTINST = """\
+#!/bin/sh
+set -e
+if [ "$1" = configure ] && command -v py3compile > /dev/null; then
+    py3compile -p strata /usr/lib/strata
+fi
+"""
+PRERM = """\
+#!/bin/sh
+set -e
+if command -v py3clean > /dev/null; then
+    py3clean -p strata
+else
+    find /usr/lib/strata -name __pycache__ -prune -exec rm -r {} +
+fi
+"""
 COPYRIGHT = """\
 Format: https://www.debian.org/doc/packaging-manuals/copyright-format/1.0/
 Upstream-Name: strata
@@ -79,7 +96,7 @@ def entries(program, moment):
     """What the package holds: what is installed, with its texts as Debian packs them, and what is said of a package."""
     version = files.version()
     found = []
-    for entry in files.entries(program, PYTHON):
+    for entry in files.entries(program, PYTHON, is_compiled=False):
         if entry.path.startswith("share/doc/strata/LICENSE"):
             # the file of copyright has them
             continue
@@ -121,7 +138,8 @@ def control(program, found, moment):
     text = CONTROL.format(version=files.version(), architecture=architecture(), maintainer=MAINTAINER, size=size,
                           libc=libc_of(program))
     sums = "".join("%s  usr/%s\n" % (hashlib.md5(entry.data).hexdigest(), entry.path) for entry in found if entry.link is None)
-    return [files.Entry("DEBIAN/control", 0o644, text.encode()), files.Entry("DEBIAN/md5sums", 0o644, sums.encode())]
+    scripts = [files.Entry("DEBIAN/" + name, 0o755, text.encode()) for name, text in (("postinst", POSTINST), ("prerm", PRERM))]
+    return [files.Entry("DEBIAN/control", 0o644, text.encode()), files.Entry("DEBIAN/md5sums", 0o644, sums.encode()), *scripts]
 
 
 def build(program, folder):

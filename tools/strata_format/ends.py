@@ -1,6 +1,6 @@
 """What a program finds when it begins, whoever started it, and what it writes to whoever is there to read it."""
+import _signal as signal  # without enum, which takes longer to load than all of this
 import os
-import signal
 import sys
 
 

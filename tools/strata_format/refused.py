@@ -1,5 +1,4 @@
 """Why something is refused, as one line, and how what strangers wrote is shown in one."""
-import contextlib
 import os
 
 SHOWN, LINE_MOST = 200, 4200
@@ -9,15 +8,19 @@ class Refused(Exception):
     """Why something is refused, as one line."""
 
 
-@contextlib.contextmanager
-def faults_below(place):
+class faults_below:
     """Lets the faults of files that no whole path names, since they are opened below a folder, name that folder."""
-    try:
-        yield
-    except OSError as fault:
-        if isinstance(fault.filename, (str, bytes)) and os.path.isabs(fault.filename):
-            raise
-        raise OSError(fault.errno, fault.strerror, place) from None
+
+    def __init__(self, place):
+        self.place = place
+
+    def __enter__(self):
+        return self
+
+    def __exit__(self, kind, fault, trace):
+        is_named = isinstance(fault, OSError) and isinstance(fault.filename, (str, bytes)) and os.path.isabs(fault.filename)
+        if isinstance(fault, OSError) and not is_named:
+            raise OSError(fault.errno, fault.strerror, self.place) from None
 
 
 def bytes_of(text):

@@ -12,54 +12,61 @@ and so does strata's end.
 Status: 0 where the mount was taken away, 1 where nothing can be mounted, 2 for the words, 130 where --background was
 interrupted before the mount answered; else strata's own, with its line.
 """
-import argparse
-import signal
+import _signal as signal
+import sys
 
 from strata_format import ends
 from strata_format.version import version
 from strata_mount.mounting import attempt
 from strata_mount.options import Options, Wrong
 from strata_mount.plan import Plan
+from strata_mount.words import Reader, WrongWords
+
+FLAGS = {"-h": "help", "--help": "help", "--background": "background", "--strict": "strict", "--replace": "replace",
+         "--verify": "verify", "-d": "debug", "--debug": "debug", "--version": "version"}
+VALUED = {"-o": "o", "--store": "store", "--stats": "stats", "--strata": "program"}
+USAGE = "usage: %s [OPTIONS] IMAGE.. DIR\n"
+HELP = """
+Mounts romfs images, the lowest first.
+
+positional arguments:
+  IMAGE.. DIR       images from the lowest up, or image:NAME:TAG, and a
+                    folder; behind -- they may begin with a -
+
+options:
+  -h, --help        show this help message and exit
+  --background      return once the mount answers
+  -o OPTIONS        allow_other, noexec, max_read=N, .. of the mount; strict,
+                    whole, workers=N, readers=N, uid=N, gid=N of strata
+  --strict          ask a right checksum of every header, too
+  --replace         take a dead mount away that stands at DIR
+  --store DIR       the store of container images, in which names that are no
+                    files are
+  --verify          look at the digests of the store's layers first
+  -d, --debug       write each request and reply on standard error
+  --stats FILE      count requests in FILE, which SIGUSR1 and the end write
+  --strata PROGRAM  another program than strata's own
+  --version         say which version this is
+
+DIR shows what the stacked images show until `umount DIR`, or `fusermount3 -u
+DIR` for who is not root.
+"""
+WRONG_WORDS = 2
 
 
-def parser_of(name):
-    parser = argparse.ArgumentParser(
-        prog=name, usage="%(prog)s [OPTIONS] IMAGE.. DIR", description="Mounts romfs images, the lowest first.",
-        epilog="DIR shows what the stacked images show until `umount DIR`, or `fusermount3 -u DIR` for who is not root.")
-    parser.add_argument("--background", action="store_true", help="return once the mount answers")
-    parser.add_argument("-o", metavar="OPTIONS", default="",
-                        help="allow_other, noexec, max_read=N, .. of the mount; strict, whole, workers=N, readers=N, "
-                        "uid=N, gid=N of strata")
-    parser.add_argument("--strict", action="store_true", help="ask a right checksum of every header, too")
-    parser.add_argument("--replace", action="store_true", help="take a dead mount away that stands at DIR")
-    parser.add_argument("--store", metavar="DIR", help="the store of container images, in which names that are no files are")
-    parser.add_argument("--verify", action="store_true", help="look at the digests of the store's layers first")
-    parser.add_argument("-d", "--debug", action="store_true", help="write each request and reply on standard error")
-    parser.add_argument("--stats", metavar="FILE", help="count requests in FILE, which SIGUSR1 and the end write")
-    parser.add_argument("--strata", metavar="PROGRAM", dest="program", help="another program than strata's own")
-    parser.add_argument("--version", action="store_true", help="say which version this is")
-    parser.add_argument("names", metavar="IMAGE.. DIR", nargs="*",
-                        help="images from the lowest up, or image:NAME:TAG, and a folder; behind -- they may begin with a -")
-    return parser
-
-
-def plan_of(words, name):
-    """The plan that the words of strata-mount say."""
-    parser = parser_of(name)
-    front = words[:words.index("--")] if "--" in words else words
-    plan = parser.parse_intermixed_args(front, Plan(name=name))
-    names = plan.names + words[len(front) + 1:]
-    if plan.version:
-        return plan
-    if len(names) < 2:
-        parser.error("IMAGE.. DIR are missing" if not names else "DIR is missing, or an image")
+def plan_of(read, name):
+    """The plan that arguments as they were read say."""
+    said = {field: it if it is True else it[-1] for field, it in read.said.items() if field != "o"}
+    plan = Plan(name=name, **said)
+    if len(read.names) < 2:
+        raise WrongWords("DIR is missing, or an image" if read.names else "IMAGE.. DIR are missing")
     if plan.debug and plan.background:
-        parser.error("argument -d/--debug: not with --background")
-    plan.images, plan.folder = names[:-1], names[-1]
+        raise WrongWords("argument -d/--debug: not with --background")
+    plan.images, plan.folder = read.names[:-1], read.names[-1]
     try:
-        plan.settle(Options(plan.o))
+        plan.settle(Options(",".join(read.said.get("o", []))))
     except Wrong as wrong:
-        parser.error("argument -o: %s" % wrong)
+        raise WrongWords("argument -o: %s" % wrong) from None
     return plan
 
 
@@ -67,8 +74,16 @@ def main(words, name):
     # until it mounts there is nothing to take away
     signal.signal(signal.SIGINT, signal.SIG_DFL)
     ends.begin()
-    plan = plan_of(words, name)
-    if plan.version:
-        print(name, version())
-        return 0
+    try:
+        read = Reader(FLAGS, VALUED).read(words)
+        if "help" in read.said:
+            sys.stdout.write(USAGE % name + HELP)
+            return 0
+        if "version" in read.said:
+            print(name, version())
+            return 0
+        plan = plan_of(read, name)
+    except WrongWords as wrong:
+        ends.write(USAGE % name + "%s: error: %s\n" % (name, wrong))
+        return WRONG_WORDS
     return attempt(plan)

@@ -1,8 +1,6 @@
 """What is mounted at a folder; mounts whose server has ended, and how they are taken away."""
 import errno
 import os
-import re
-import shlex
 
 from strata_format.refused import one_line
 
@@ -11,13 +9,18 @@ KIND = "fuse.strata"
 GONE = (errno.ENOTCONN, errno.ECONNABORTED)
 
 
+def plain(word):
+    """The bytes of a word of mountinfo, in which a backslash and three digits stand for some."""
+    first, *parts = word.split(b"\\")
+    return first + b"".join(bytes([int(part[:3], 8)]) + part[3:] for part in parts)
+
+
 def mounts():
     """What is mounted, as pairs of place and type, in the order of mounting."""
     with open("/proc/self/mountinfo", "rb") as lines:
         for line in lines:
             front, _, back = line.partition(b" - ")
-            place = re.sub(rb"\\([0-7]{3})", lambda it: bytes([int(it[1], 8)]), front.split(b" ")[4])
-            yield os.fsdecode(place), os.fsdecode(back.split(b" ")[0])
+            yield os.fsdecode(plain(front.split(b" ")[4])), os.fsdecode(back.split(b" ")[0])
 
 
 def mount_over(folder):
@@ -41,6 +44,7 @@ def is_dead(folder):
 
 def away(place):
     """What is said of how a mount is taken away."""
+    import shlex
     command = ["umount"] if os.geteuid() == 0 else ["fusermount3", "-u"]
     return "`%s` takes it away" % " ".join([*command, shlex.quote(place)])
 

@@ -1,17 +1,16 @@
 """Mounts by a plan: strata is started on an open device that is mounted, and waited for."""
+import _signal as signal
+import _thread
 import errno
 import os
-import shutil
-import signal
-import subprocess
 import sys
-import threading
 
 from strata_format import ends
 from strata_format.refused import one_line
 from strata_mount import preconditions
 from strata_mount.device import DEVICE, answers, mounted, take_away
 from strata_mount.options import Options
+from strata_mount.processes import found_program, hold_descriptors, start
 
 RELAY = os.path.join(os.path.dirname(os.path.realpath(__file__)), "relay.py")
 INTERRUPTED = 130
@@ -47,23 +46,35 @@ def served(plan, device, errors, counts):
     if plan.is_relayed():
         words, numbers = relay_words(plan, errors, counts)
     try:
-        return subprocess.Popen([*words, *serve_words(plan)], stdin=device, stdout=device,
-                                stderr=None if plan.debug else errors, pass_fds=numbers,
-                                start_new_session=True, cwd="/", preexec_fn=unblock)
+        ends = [device, device, 2 if plan.debug else errors.fileno()]
+        return start([*words, *serve_words(plan)], ends, numbers, prepare)
     finally:
         os.close(device)
+
+
+def prepare():
+    """Makes the process that becomes the server one of its own."""
+    os.setsid()
+    os.chdir("/")
+    unblock()
 
 
 def answers_first(plan, server):
     """Whether a mount answers before its server ends. A thread asks, so that signals are heard
     here."""
-    told = []
-    asking = threading.Thread(target=lambda: told.append(answers(plan.folder)), daemon=True)
-    asking.start()
+    told, is_told = [], _thread.allocate_lock()
+
+    def ask():
+        told.append(answers(plan.folder))
+        is_told.release()
+
+    is_told.acquire()
+    _thread.start_new_thread(ask, ())
     if sys.stderr.isatty() and not plan.is_relayed():
         from strata_mount import image_progress
-        image_progress.watch(asking, server.pid, plan.images if plan.whole else None)
-    asking.join()
+        image_progress.watch(is_told, server.pid, plan.images if plan.whole else None)
+    else:
+        is_told.acquire()
     return told[0]
 
 
@@ -141,7 +152,7 @@ def waited(plan, server, errors):
     try:
         unblock()
         if plan.stats is not None:
-            signal.signal(signal.SIGUSR1, lambda *_: server.send_signal(signal.SIGUSR1))
+            signal.signal(signal.SIGUSR1, lambda *_: server.send(signal.SIGUSR1))
         is_there = (plan.background or sys.stderr.isatty()) and answers_first(plan, server)
         if not plan.background:
             return status_of(server, errors, plan)
@@ -153,7 +164,7 @@ def waited(plan, server, errors):
 def interrupted(plan, server):
     """Takes the mount away; the status to end with."""
     take_away(plan.folder)
-    server.terminate()
+    server.send(signal.SIGTERM)
     server.wait()
     # who asked for a mount in the background has none
     return INTERRUPTED if plan.background else 0
@@ -173,11 +184,12 @@ def attempt(plan):
         preconditions.hold_folder(plan)
         preconditions.find_images(plan)
         preconditions.hold_names(plan)
-        program = shutil.which(plan.program)
+        program = found_program(plan.program)
         if not program:
             raise OSError(0, "no such program", plan.program)
         plan.folder, plan.program = os.path.realpath(plan.folder), os.path.abspath(program)
         preconditions.hold_images(plan)
+        hold_descriptors()
         return run(plan, counts_of(plan))
     except OSError as fault:
         plan.say_fault(fault)

@@ -1,5 +1,4 @@
 """What is mounted where, and how."""
-import argparse
 import os
 
 from strata_format import ends, version
@@ -10,7 +9,7 @@ WORDS = ("ro", "nosuid", "nodev", "default_permissions")
 RELAYED_READ = "max_read=131072"
 
 
-class Plan(argparse.Namespace):
+class Plan:
     """What the words of strata-mount say, or those of the mount helper."""
 
     # who is called, in messages; what `findmnt` shows as the source
@@ -24,6 +23,9 @@ class Plan(argparse.Namespace):
     stats = None
     # open files that mark layers of the store as in use while strata runs
     marks = ()
+
+    def __init__(self, **said):
+        self.__dict__.update(said)
 
     def say(self, line):
         ends.write("%s: %s\n" % (self.name, line))
