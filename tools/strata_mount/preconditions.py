@@ -102,9 +102,20 @@ def packages():
     return [os.path.join(TOP, package, "__init__.py") for package in PACKAGES]
 
 
+def is_empty(folder):
+    """Whether nothing can lie below a folder."""
+    try:
+        with os.scandir(folder) as found:
+            return next(found, None) is None
+    except OSError:
+        return False
+
+
 def hold_images(plan):
     """Looks that no image lies below the folder, nor strata itself: it would wait for itself to
     open it."""
+    if is_empty(plan.folder):
+        return
     for image in plan.images:
         if lies_in(image, plan.folder):
             raise OSError(0, "this image lies in the folder that it would be mounted on", image)
