@@ -13,6 +13,7 @@ Status: 0 where the mount was taken away, 1 where nothing can be mounted, 2 for 
 interrupted before the mount answered; else strata's own, with its line.
 """
 import _signal as signal
+import os
 import sys
 
 from strata_format import ends
@@ -23,7 +24,7 @@ from strata_mount.plan import Plan
 from strata_mount.words import Reader, WrongWords
 
 FLAGS = {"-h": "help", "--help": "help", "--background": "background", "--strict": "strict", "--replace": "replace",
-         "--verify": "verify", "-d": "debug", "--debug": "debug", "--version": "version"}
+         "--verify": "verify", "--share": "share", "--print": "is_printed", "--list": "list", "--json": "json", "-d": "debug", "--debug": "debug", "--version": "version"}
 VALUED = {"-o": "o", "--store": "store", "--stats": "stats", "--strata": "program"}
 USAGE = "usage: %s [OPTIONS] IMAGE.. DIR\n"
 HELP = """
@@ -37,9 +38,15 @@ options:
   -h, --help        show this help message and exit
   --background      return once the mount answers
   -o OPTIONS        allow_other, noexec, max_read=N, .. of the mount; strict,
-                    whole, workers=N, readers=N, uid=N, gid=N of strata
+                    whole, workers=N, readers=N, uid=N, gid=N, share, stack,
+                    caps of strata
   --strict          ask a right checksum of every header, too
-  --replace         take a dead mount away that stands at DIR
+  --replace         take the mount of strata away first that stands at DIR
+  --share           one mount for all who ask for the same images: in the
+                    background, bound to DIR
+  --print           with --share and without DIR: print the folder where it is
+  --list            print what is mounted, with images, process and memory
+  --json            with --list: print it as JSON
   --store DIR       the store of container images, in which names that are no
                     files are
   --verify          look at the digests of the store's layers first
@@ -52,22 +59,45 @@ DIR shows what the stacked images show until `umount DIR`, or `fusermount3 -u
 DIR` for who is not root.
 """
 WRONG_WORDS = 2
+# so many characters of a name stand in the table of mounts
+SOURCE_MOST = 1000
 
 
 def plan_of(read, name):
     """The plan that arguments as they were read say."""
     said = {field: it if it is True else it[-1] for field, it in read.said.items() if field != "o"}
     plan = Plan(name=name, **said)
-    if len(read.names) < 2:
-        raise WrongWords("DIR is missing, or an image" if read.names else "IMAGE.. DIR are missing")
-    if plan.debug and plan.background:
-        raise WrongWords("argument -d/--debug: not with --background")
-    plan.images, plan.folder = read.names[:-1], read.names[-1]
     try:
         plan.settle(Options(",".join(read.said.get("o", []))))
     except Wrong as wrong:
         raise WrongWords("argument -o: %s" % wrong) from None
+    if plan.share and plan.is_relayed():
+        raise WrongWords("argument --share: not with --debug or --stats")
+    if plan.debug and plan.background:
+        raise WrongWords("argument -d/--debug: not with --background")
+    if plan.is_printed:
+        hold_printed(plan, read.names)
+        plan.images = read.names
+    else:
+        if len(read.names) < 2:
+            raise WrongWords("DIR is missing, or an image" if read.names else "IMAGE.. DIR are missing")
+        plan.images, plan.folder = read.names[:-1], read.names[-1]
+    plan.source = source_of(plan.images)
     return plan
+
+
+def hold_printed(plan, names):
+    """Looks that --print stands where it says something."""
+    if not plan.share:
+        raise WrongWords("argument --print: only with --share")
+    if not names:
+        raise WrongWords("IMAGE.. are missing")
+
+
+def source_of(names):
+    """What the table of mounts says of images: the lowest one's name, and how many lie on it."""
+    first = names[0] if names[0].startswith("image:") or not os.path.lexists(names[0]) else os.path.abspath(names[0])
+    return first[:SOURCE_MOST] + ("+%d" % (len(names) - 1) if len(names) > 1 else "")
 
 
 def main(words, name):
@@ -82,6 +112,9 @@ def main(words, name):
         if "version" in read.said:
             print(name, version())
             return 0
+        if "list" in read.said:
+            from strata_mount import listing
+            return listing.tell("json" in read.said)
         plan = plan_of(read, name)
     except WrongWords as wrong:
         ends.write(USAGE % name + "%s: error: %s\n" % (name, wrong))

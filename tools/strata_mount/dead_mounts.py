@@ -3,32 +3,18 @@ import errno
 import os
 
 from strata_format.refused import one_line
+from strata_mount.mount_table import KIND, mount_at, mounts
 
-KIND = "fuse.strata"
 # what a folder answers whose mount has lost its server
 GONE = (errno.ENOTCONN, errno.ECONNABORTED)
-
-
-def plain(word):
-    """The bytes of a word of mountinfo, in which a backslash and three digits stand for some."""
-    first, *parts = word.split(b"\\")
-    return first + b"".join(bytes([int(part[:3], 8)]) + part[3:] for part in parts)
-
-
-def mounts():
-    """What is mounted, as pairs of place and type, in the order of mounting."""
-    with open("/proc/self/mountinfo", "rb") as lines:
-        for line in lines:
-            front, _, back = line.partition(b" - ")
-            yield os.fsdecode(plain(front.split(b" ")[4])), os.fsdecode(back.split(b" ")[0])
 
 
 def mount_over(folder):
     """The place and the type of the mount that a folder lies in."""
     found = "/", "?"
-    for place, kind in mounts():
-        if len(place) >= len(found[0]) and (folder + "/").startswith(place.rstrip("/") + "/"):
-            found = place, kind
+    for it in mounts():
+        if len(it.place) >= len(found[0]) and (folder + "/").startswith(it.place.rstrip("/") + "/"):
+            found = it.place, it.kind
     return found
 
 
@@ -49,10 +35,16 @@ def away(place):
     return "`%s` takes it away" % " ".join([*command, shlex.quote(place)])
 
 
+def is_mount(folder):
+    """Whether something is mounted at a folder that is there."""
+    return os.lstat(folder).st_dev != os.lstat(os.path.dirname(folder)).st_dev
+
+
 def standing(folder):
-    """The lines that say of a mount of strata at a folder that it stands there: one or none."""
-    if mount_over(folder) == (folder, KIND):
-        yield "%s: a mount stands here already: %s" % (one_line(folder), away(folder))
+    """What is said of a mount of strata that stands at a folder, or None."""
+    if not is_mount(folder) or mount_at(folder) is None:
+        return None
+    return "a mount stands here already: %s, and so does --replace; -o stack mounts over it" % away(folder)
 
 
 def told(folder, may_replace):
@@ -66,7 +58,7 @@ def told(folder, may_replace):
 
 def replace(folder, take_away):
     """Takes away the dead mounts of strata at a folder; whether none is left."""
-    for _ in range(sum(place == folder for place, _ in mounts())):
+    for _ in range(sum(it.place == folder for it in mounts())):
         if not is_dead(folder):
             return True
         if mount_over(folder) != (folder, KIND):

@@ -5,7 +5,7 @@ import os
 import sys
 
 from strata_format.system import called, libc
-from strata_mount import dead_mounts
+from strata_mount.mount_table import KIND
 from strata_mount.options import CLEARS, SETS
 from strata_mount.processes import found_program, start
 
@@ -41,13 +41,19 @@ def mounted_by_kernel(plan):
 def mount(plan, device):
     """Mounts an open device on a folder."""
     owner = (os.geteuid(), os.getegid())
-    flags, text = 0, ["fd=%d,rootmode=40000,user_id=%d,group_id=%d" % (device, *owner)]
-    for word in plan.words:
-        flags = (flags | SETS.get(word, 0)) & ~CLEARS.get(word, 0)
-        text += [word] * (word not in SETS and word not in CLEARS)
-    status = libc.mount(os.fsencode(plan.source), os.fsencode(plan.folder), b"fuse.strata",
-                        ctypes.c_ulong(flags), ",".join(text).encode())
+    text = ["fd=%d,rootmode=40000,user_id=%d,group_id=%d" % (device, *owner)]
+    text += [word for word in plan.words if word not in SETS and word not in CLEARS]
+    status = libc.mount(os.fsencode(plan.source), os.fsencode(plan.folder), os.fsencode(KIND),
+                        ctypes.c_ulong(flags_of(plan.words)), ",".join(text).encode())
     called(status, plan.folder + ": mount")
+
+
+def flags_of(words):
+    """The flags of mount(2) that words say, the last one of them where they disagree."""
+    flags = 0
+    for word in words:
+        flags = (flags | SETS.get(word, 0)) & ~CLEARS.get(word, 0)
+    return flags
 
 
 def mounted_by_helper(plan):
@@ -65,9 +71,7 @@ def mounted_by_helper(plan):
     status = started_helper([helper, "-o", words, "--", plan.folder], [number], environment)
     theirs.close()
     if status != 0:
-        # it has said why, but not of a mount that stands there
-        for line in dead_mounts.standing(plan.folder):
-            plan.say(line)
+        # it has said why
         sys.exit(1)
     _, found, _, _ = ours.recvmsg(1, socket.CMSG_SPACE(INT_SIZE), socket.MSG_CMSG_CLOEXEC)
     ours.close()

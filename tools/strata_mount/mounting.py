@@ -7,7 +7,7 @@ import sys
 
 from strata_format import ends
 from strata_format.refused import one_line
-from strata_mount import preconditions
+from strata_mount import preconditions, privileges
 from strata_mount.device import DEVICE, answers, mounted, take_away
 from strata_mount.options import Options
 from strata_mount.processes import found_program, hold_descriptors, start
@@ -18,14 +18,23 @@ INTERRUPTED = 130
 
 # --- the server ---
 
-def serve_words(plan):
-    """How strata is called."""
-    words = [plan.program, "serve", "--device", "--attributes"]
-    words += ["--strict"] * plan.strict + ["--whole"] * plan.whole
+def option_words(plan):
+    """The options that strata is called with."""
+    words = ["--strict"] * plan.strict + ["--whole"] * plan.whole
     words += ["--workers", str(plan.workers)] * (plan.workers is not None)
     words += ["--readers", str(plan.readers)] * (plan.readers is not None)
     words += ["--owner", plan.owner] * (plan.owner is not None)
-    return words + list(map(os.path.abspath, plan.images))
+    return words
+
+
+def serve_words(plan):
+    """How strata is called."""
+    return [plan.program, "serve", "--device", "--attributes", *option_words(plan), *map(os.path.abspath, plan.images)]
+
+
+def shown_name(plan):
+    """The name of the server in the list of processes, which says where it was mounted."""
+    return "%s@%s" % (os.path.basename(plan.program), plan.folder)
 
 
 def relay_words(plan, errors, counts):
@@ -47,16 +56,21 @@ def served(plan, device, errors, counts):
         words, numbers = relay_words(plan, errors, counts)
     try:
         ends = [device, device, 2 if plan.debug else errors.fileno()]
-        return start([*words, *serve_words(plan)], ends, numbers, prepare)
+        shown = None if plan.is_relayed() else shown_name(plan)
+        return start([*words, *serve_words(plan)], ends, numbers, lambda: prepare(plan), shown)
     finally:
         os.close(device)
 
 
-def prepare():
-    """Makes the process that becomes the server one of its own."""
+def prepare(plan):
+    """Makes the process that becomes the server one of its own, without privileges that it has no use for."""
     os.setsid()
+    images = list(map(os.path.abspath, plan.images))
     os.chdir("/")
     unblock()
+    if not plan.keeps_privileges:
+        # the relay starts a program, which the filter would not allow
+        privileges.drop(plan.program, images, has_filter=not plan.is_relayed())
 
 
 def answers_first(plan, server):
@@ -127,9 +141,10 @@ def unblock():
 
 # --- from the mount to its end ---
 
-def run(plan, counts):
+def run(plan, counts=None, heard=None):
     """Mounts and serves; the status to end with. Requests are counted in the open file `counts`,
-    unless that is None."""
+    unless that is None. `heard` is called with the server once a mount in the background
+    answers."""
     # strata must not hold this script's standard error open in the background, and no folder is
     # needed for what it says
     errors = os.fdopen(os.memfd_create("errors"), "w+b")
@@ -139,6 +154,8 @@ def run(plan, counts):
     try:
         server = served(plan, device, errors, counts)
         status = waited(plan, server, errors)
+        if status == 0 and plan.background and heard is not None:
+            heard(server)
         return interrupted(plan, server) if status is None else status
     finally:
         # what stands there by now may be another mount, which answers
@@ -180,16 +197,24 @@ def counts_of(plan):
 def attempt(plan):
     """Mounts by a plan, or says why nothing can be mounted; the status to end with."""
     try:
-        preconditions.hold_here([*plan.images, plan.folder])
-        preconditions.hold_folder(plan)
+        preconditions.hold_here([*plan.images, *([] if plan.is_printed else [plan.folder])])
+        if not plan.is_printed:
+            preconditions.hold_folder(plan)
         preconditions.find_images(plan)
         preconditions.hold_names(plan)
         program = found_program(plan.program)
         if not program:
             raise OSError(0, "no such program", plan.program)
-        plan.folder, plan.program = os.path.realpath(plan.folder), os.path.abspath(program)
-        preconditions.hold_images(plan)
+        plan.program = os.path.abspath(program)
+        if not plan.is_printed:
+            plan.folder = os.path.realpath(plan.folder)
+            preconditions.hold_images(plan)
         hold_descriptors()
+        if plan.replace and not plan.is_printed:
+            preconditions.clear(plan)
+        if plan.share:
+            from strata_mount import sharing
+            return sharing.attempt(plan)
         return run(plan, counts_of(plan))
     except OSError as fault:
         plan.say_fault(fault)

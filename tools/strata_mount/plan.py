@@ -19,6 +19,9 @@ class Plan:
     words, owner, workers, readers = (), None, None, None
     background = strict = whole = replace = debug = verify = False
     may_replace, store = True, None
+    # one mount for all who ask for the same, of which --print tells the folder; over a mount that stands there; with all
+    # that root may do
+    share = is_printed = is_stacked = keeps_privileges = False
     # the name of the file in which requests are counted
     stats = None
     # open files that mark layers of the store as in use while strata runs
@@ -45,6 +48,10 @@ class Plan:
         self.words = [*WORDS, *relayed, *options.mount]
         self.strict = self.strict or "strict" in options.strata
         self.whole = "whole" in options.strata
+        self.share = self.share or "share" in options.strata
+        # it lasts as long as anybody's folder shows it
+        self.background = self.background or self.share
+        self.is_stacked, self.keeps_privileges = "stack" in options.strata, "caps" in options.strata
         self.workers = options.strata.get("workers")
         self.readers = options.strata.get("readers")
         self.owner = options.owner()

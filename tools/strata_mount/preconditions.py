@@ -5,6 +5,7 @@ import os
 from strata_format.version import PACKAGES, TOP
 from strata_mount import dead_mounts
 from strata_mount.device import take_away
+from strata_mount.mount_table import mount_at
 
 # what strata opens when it begins, besides its program and its libraries: the loader and its lists,
 # the standard ends, and what tells how many processors there are; python looks for open files in
@@ -37,11 +38,28 @@ def has_lost_server(folder):
 
 
 def hold_folder(plan):
-    """Looks whether a folder is there, and whether a mount stands there whose server has ended."""
-    if has_lost_server(plan.folder):
-        folder = os.path.realpath(plan.folder)
+    """Looks whether a folder is there, and whether a mount of strata stands there. With --replace a dead one is taken away,
+    and one that lives later, when all else is known to be right."""
+    is_dead, folder = has_lost_server(plan.folder), os.path.realpath(plan.folder)
+    if is_dead:
         if not plan.replace or not dead_mounts.replace(folder, take_away):
             raise OSError(0, dead_mounts.told(folder, plan.may_replace), plan.folder)
+    elif not plan.replace and not plan.is_stacked:
+        told = dead_mounts.standing(folder)
+        if told is not None:
+            raise OSError(0, told, plan.folder)
+
+
+def clear(plan):
+    """Takes the mounts of strata away that stand at a folder, if the images are there."""
+    for image in plan.images:
+        os.stat(image)
+    while dead_mounts.is_mount(plan.folder) and mount_at(plan.folder) is not None:
+        before = mount_at(plan.folder).number
+        take_away(plan.folder)
+        found = mount_at(plan.folder)
+        if found is not None and found.number == before:
+            raise OSError(0, "the mount that stands here could not be taken away", plan.folder)
 
 
 def find_images(plan):

@@ -1,0 +1,102 @@
+"""What a server is left of privileges when it begins: none that it has no use for.
+
+strata opens its images by their names when it begins, and then only reads them, and reads and writes the open /dev/fuse. So
+of root's capabilities it needs none, or, where an image could not be opened else, the one to read files whosever they are.
+It can gain none again, starts no other program, opens files only to read, and has the calls below alone. A script in
+strata's place needs other calls, and keeps them.
+"""
+import ctypes
+import os
+import struct
+
+from strata_format.system import called, libc
+
+PR_SET_NO_NEW_PRIVS, PR_SET_SECCOMP, SECCOMP_MODE_FILTER = 38, 22, 2
+CAPABILITY_VERSION, NONE, READ_SEARCH = 0x20080522, 0, 1 << 2
+ELF, MACHINE_NAME = b"\x7fELF", "x86_64"
+
+# linux/filter.h, linux/seccomp.h, linux/audit.h: a filter of calls is a program over their number, machine and arguments
+LOAD, EQUAL, AT_LEAST, ANY_BIT, GIVE = 0x20, 0x15, 0x35, 0x45, 0x06
+NUMBER, MACHINE, FIRST_ARGUMENT, ARGUMENT_SIZE = 0, 4, 16, 8
+X86_64, X32_FIRST = 0xc000003e, 0x40000000
+ALLOWED, KILLED, REFUSED = 0x7fff0000, 0x80000000, 0x00050000
+EPERM, ENOSYS = 1, 38
+
+# the calls of strata, of its C library and of the loader on x86_64, by the kernel's numbers
+CALLS = {
+    "read": 0, "write": 1, "close": 3, "stat": 4, "fstat": 5, "lstat": 6, "lseek": 8, "mmap": 9, "mprotect": 10, "munmap": 11, "brk": 12,
+    "rt_sigaction": 13, "rt_sigprocmask": 14, "rt_sigreturn": 15, "ioctl": 16, "pread64": 17, "readv": 19, "writev": 20,
+    "access": 21, "sched_yield": 24, "mremap": 25, "madvise": 28, "nanosleep": 35, "getpid": 39, "execve": 59, "exit": 60,
+    "uname": 63, "fcntl": 72, "sigaltstack": 131, "arch_prctl": 158, "gettid": 186, "futex": 202, "sched_getaffinity": 204,
+    "set_tid_address": 218, "restart_syscall": 219, "clock_gettime": 228, "clock_nanosleep": 230, "exit_group": 231,
+    "tgkill": 234, "newfstatat": 262, "set_robust_list": 273, "preadv": 295, "prlimit64": 302, "getrandom": 318,
+    "statx": 332, "rseq": 334, "poll": 7, "ppoll": 271}
+OPENAT, CLONE = 257, 56
+# openat(2) may neither write nor make; a thread may be made, and no process
+WRITES = os.O_WRONLY | os.O_RDWR | os.O_CREAT | os.O_TRUNC | os.O_TMPFILE
+CLONE_THREAD = 0x10000
+
+
+def step(code, value, if_so=0, if_not=0):
+    return struct.pack("=HBBI", code, if_so, if_not, value)
+
+
+def filter_program():
+    """The filter: a call that is not known fails as one that the kernel does not have, so that the C library does without."""
+    argument = [FIRST_ARGUMENT + at * ARGUMENT_SIZE for at in range(3)]
+    steps = [step(LOAD, MACHINE), step(EQUAL, X86_64, 1), step(GIVE, KILLED),
+             step(LOAD, NUMBER), step(AT_LEAST, X32_FIRST, 0, 1), step(GIVE, KILLED)]
+    for number in CALLS.values():
+        steps += [step(EQUAL, number, 0, 1), step(GIVE, ALLOWED)]
+    steps += [step(EQUAL, OPENAT, 0, 4), step(LOAD, argument[2]), step(ANY_BIT, WRITES, 0, 1), step(GIVE, REFUSED | EPERM),
+              step(GIVE, ALLOWED)]
+    steps += [step(EQUAL, CLONE, 0, 4), step(LOAD, argument[0]), step(ANY_BIT, CLONE_THREAD, 1, 0), step(GIVE, REFUSED | EPERM),
+              step(GIVE, ALLOWED)]
+    return [*steps, step(GIVE, REFUSED | ENOSYS)]
+
+
+def install_filter():
+    steps = filter_program()
+    data = ctypes.create_string_buffer(b"".join(steps))
+    program = struct.pack("=H6xQ", len(steps), ctypes.addressof(data))
+    called(libc.prctl(PR_SET_SECCOMP, SECCOMP_MODE_FILTER, ctypes.c_char_p(program), 0, 0))
+
+
+def set_capabilities(effective, permitted):
+    head = (ctypes.c_uint32 * 2)(CAPABILITY_VERSION, 0)
+    low, high = (2 ** 32 - 1), 32
+    data = (ctypes.c_uint32 * 6)(effective & low, permitted & low, 0, effective >> high, permitted >> high, 0)
+    called(libc.capset(head, data))
+
+
+def permitted():
+    """The capabilities that this process may have."""
+    with open("/proc/self/status", encoding="ascii", errors="replace") as lines:
+        return next(int(line.split()[1], 16) for line in lines if line.startswith("CapPrm:"))
+
+
+def drop(program, images, has_filter):
+    """Leaves this process, which becomes the server, what it needs to open these images. The program must be one that it may
+    start without privileges, else it keeps them."""
+    own = permitted()
+    if own:
+        set_capabilities(NONE, own)
+        if not os.access(program, os.X_OK, effective_ids=True):
+            set_capabilities(own, own)
+            return
+        needed = NONE if all(os.access(it, os.R_OK, effective_ids=True) for it in images) else READ_SEARCH & own
+        set_capabilities(needed, needed)
+    called(libc.prctl(PR_SET_NO_NEW_PRIVS, 1, 0, 0, 0))
+    if has_filter and is_filtered(program):
+        install_filter()
+
+
+def is_filtered(program):
+    """Whether the filter is for a program: it is one of this machine's, and no script."""
+    if os.uname().machine != MACHINE_NAME:
+        return False
+    try:
+        with open(program, "rb", 0) as it:
+            return it.read(len(ELF)) == ELF
+    except OSError:
+        return False
