@@ -1,8 +1,9 @@
-"""The commands that README.md and docs/MOUNTING.md print, run in their order in a fresh folder, and what the pages say of options.
+"""Runs the commands of README.md and docs/MOUNTING.md as they are printed, in a fresh folder.
 
-Blocks of `sh` hold commands. Blocks of `console` hold commands behind `$` or `#`, more of a command behind `>`, and what they
-print. All commands of a page run in one shell, as root. A command that needs a program that is not here is named, and so is all
-that follows it in its block; so are the blocks that need a registry, which `make registry` runs.
+Blocks of `sh` hold commands. Blocks of `console` show a command after `$` or `#`, more of it after
+`>`, and its output. All commands of a page run in order in one shell, as root. If a command needs a
+program that is missing here, it and the rest of its block are named. Blocks that need a registry
+are named, too: `make registry` runs them.
 """
 import os
 import re
@@ -13,19 +14,20 @@ from checks import ROOT
 from checks.installed import pages
 from checks.installed.roots import BIND, PATH, REC, Failed, hold, mount
 
-# programs that a system need not have
+# programs that a system may lack
 OPTIONAL = ("genromfs", "skopeo", "bwrap", "podman", "runc", "busybox")
-# what a command of a page leads to that is nowhere here, and what stands for it
+# what replaces an image of a registry here
 STANDS_FOR = {"docker://alpine:3.20": "oci:demo/layout:lantern"}
 FAR = ("docker://", "app-strata:1")
 FENCE = re.compile(r"^```(\w*)\n(.*?)^```$", re.M | re.S)
-# functions of the shell: nobody is asked for a password, and nothing is run that would not end
-HELPS = "sudo() { \"$@\"; }\n"
+# a fresh root has no sudo
+SUDO = "sudo() { \"$@\"; }\n"
 MARK = "@@ %d ends with "
 
 
 class Command:
-    """One command of a page: its text, the number of its block, and what it prints, where the page says that."""
+    """A command of a page: its text, the number of its block, and its output if the page shows
+    it."""
 
     def __init__(self, text, block, printed=None):
         self.text, self.block, self.printed = text, block, printed
@@ -37,132 +39,134 @@ def read(page):
 
 
 def commands_of_sh(text, block):
-    """The commands of a block that holds nothing else."""
-    for line in re.sub(r"\\\n\s*", "", text).splitlines():
+    """The commands of a block without output."""
+    for line in text.splitlines():
         line = re.sub(r"\s+# .*$|^#.*$", "", line).strip()
         if line:
             yield Command(line, block)
 
 
 def commands_of_console(text, block):
-    """The commands of a block that shows what they print."""
-    found = None
+    """The commands of a block with output."""
+    found = []
     for line in text.splitlines():
         if line.startswith(("$ ", "# ")):
-            if found:
-                yield found
-            found = Command(line[2:], block, [])
+            found.append(Command(line[2:], block, []))
         elif line.startswith("> "):
-            found.text += "\n" + line[2:]
+            found[-1].text += "\n" + line[2:]
         else:
-            found.printed.append(line)
-    if found:
-        yield found
+            found[-1].printed.append(line)
+    return found
 
 
 def commands(page):
-    """The commands of a page, in order."""
+    """The commands of a page, in order, with what replaces a registry."""
     found = []
     for block, (kind, text) in enumerate(FENCE.findall(read(page))):
+        for far, near in STANDS_FOR.items():
+            text = text.replace(far, near)
         if kind in ("sh", "console"):
             found += (commands_of_sh if kind == "sh" else commands_of_console)(text, block)
     return found
 
 
-def nearer(text):
-    """A command with what stands here for what is far away."""
-    for far, near in STANDS_FOR.items():
-        text = text.replace(far, near)
-    return text
-
-
 def missing_for(text):
-    """The program that a command needs and that is not here."""
-    for word in OPTIONAL:
-        if re.search(r"(?<![\w.-])%s(?![\w./-])" % word, text) and not shutil.which(word, path=PATH):
-            return "no " + word
+    """Which program a command needs that is missing here."""
+    for name in OPTIONAL:
+        is_named = re.search(r"(?<![\w.-])%s(?![\w./-])" % name, text)
+        if is_named and not shutil.which(name, path=PATH):
+            return "no " + name
     return None
 
 
 def split_by_need(found):
-    """The commands that can be run here, and those that can't, by what they need."""
+    """The commands that can run here; and the others, by what they need."""
     runs, left, ended = [], {}, {}
-    far = {it.block for it in found if any(word in nearer(it.text) for word in FAR)}
-    for command in found:
-        command.text = nearer(command.text)
-        why = "a registry" if command.block in far else ended.get(command.block) or missing_for(command.text)
+    far = {it.block for it in found if any(name in it.text for name in FAR)}
+    for it in found:
+        known = "a registry" if it.block in far else ended.get(it.block)
+        why = known or missing_for(it.text)
         if why is None:
-            runs.append(command)
+            runs.append(it)
         else:
-            ended[command.block] = why
-            left.setdefault(why, []).append(command.text.split("\n")[0])
+            ended[it.block] = why
+            left.setdefault(why, []).append(it.text.split("\n")[0])
     return runs, left
 
 
 def script_of(runs):
-    """All commands for one shell, which marks where each ends."""
-    return HELPS + "".join("%s\necho \"%s$?\"\n" % (it.text, MARK % at) for at, it in enumerate(runs))
+    """One script of all commands, which marks the end of each."""
+    return SUDO + "".join(
+        "%s\necho \"%s$?\"\n" % (it.text, MARK % at) for at, it in enumerate(runs))
 
 
-def run_all(root, runs, folder):
-    """Runs commands in a folder; each must end well, but where the page shows what it prints, which must be that."""
+def output_of(script, folder):
     with open("/tmp/printed", "w+", encoding="utf-8") as out:
-        subprocess.run(["bash", "--norc", "-c", script_of(runs)], cwd=folder, stdin=subprocess.DEVNULL, stdout=out,
-                       stderr=subprocess.STDOUT, timeout=600, check=False)
+        subprocess.run(["bash", "--norc", "-c", script], cwd=folder, stdin=subprocess.DEVNULL,
+                       stdout=out, stderr=subprocess.STDOUT, timeout=600, check=False)
         out.seek(0)
-        told = out.read()
-    for at, command in enumerate(runs):
-        text, mark, told = told.partition(MARK % at)
-        status, _, told = told.partition("\n")
+        return out.read()
+
+
+def run_all(runs, folder):
+    """Runs commands in a folder. Each must succeed, or print what the page shows."""
+    rest = output_of(script_of(runs), folder)
+    for at, it in enumerate(runs):
+        text, mark, rest = rest.partition(MARK % at)
+        status, _, rest = rest.partition("\n")
         if not mark:
-            raise Failed("`%s` did not end: %.900r" % (command.text, text))
-        if command.printed:
-            hold("what `%s` prints" % command.text, command.printed, text.splitlines())
+            raise Failed("`%s` did not end: %.900r" % (it.text, text))
+        if it.printed:
+            hold("what `%s` prints" % it.text, it.printed, text.splitlines())
         elif status != "0":
-            raise Failed("`%s` ends with %s: %.900r" % (command.text, status, text))
-    return len(runs)
+            raise Failed("`%s` ends with %s: %.900r" % (it.text, status, text))
 
 
-def told(count, left):
-    return "%d commands" % count + "".join(
-        "; left out, %s: %s" % (why, ", ".join("`%s`" % text for text in texts)) for why, texts in left.items())
+def summary(runs, left):
+    return "%d commands" % len(runs) + "".join(
+        "; left out, %s: %s" % (why, ", ".join("`%s`" % text for text in texts))
+        for why, texts in left.items())
 
 
 def copied(root, names, place):
-    """Copies what a checkout has to a place of the root, without what is built."""
+    """Copies files and folders of a checkout into a root, without what is built."""
     for name in names:
         source, target = os.path.join(ROOT, name), os.path.join(root.top + place, name)
         if os.path.isdir(source):
-            shutil.copytree(source, target, symlinks=True, ignore=shutil.ignore_patterns("out", "__pycache__"))
+            shutil.copytree(source, target, symlinks=True,
+                            ignore=shutil.ignore_patterns("out", "__pycache__"))
         else:
             os.makedirs(os.path.dirname(target), exist_ok=True)
             shutil.copy2(source, target)
 
 
 def mounting(root):
-    """The recipes of MOUNTING, over what is installed."""
+    """The recipes of MOUNTING, with the installed commands."""
     runs, left = split_by_need(commands("docs/MOUNTING.md"))
     copied(root, ["demo"], "/root/work")
-    # a container asks for control groups
+    # runc looks for control groups
     mount("/sys", root.top + "/sys", None, BIND | REC)
     root.install()
-    return told(run_all(root, runs, "/root/work"), left)
+    run_all(runs, "/root/work")
+    return summary(runs, left)
 
 
 def readme(root):
-    """The commands of README, in a checkout whose program is built."""
+    """The commands of README, in a checkout with a built program."""
     runs, left = split_by_need(commands("README.md"))
-    copied(root, [name for name in os.listdir(ROOT) if name not in (".git", "build")], "/root/work")
+    copied(root, [it for it in os.listdir(ROOT) if it not in (".git", "build")], "/root/work")
     os.mkdir(root.top + "/root/work/build")
     shutil.copy(root.program, root.top + "/root/work/build/strata")
     root.enter()
-    return told(run_all(root, runs, "/root/work"), left)
+    run_all(runs, "/root/work")
+    return summary(runs, left)
 
 
 def in_reference(root):
-    """Each option that a help names stands in docs/USE.md."""
+    """USE names each option that a help names."""
     text = read("docs/USE.md")
     root.install()
     named = set().union(*pages.helps(root).values())
-    hold("options that USE leaves out", [], sorted(it for it in named if not re.search(r"(?<![\w-])%s(?![\w-])" % it, text)))
+    missing = [it for it in named if not re.search(r"(?<![\w-])%s(?![\w-])" % it, text)]
+    hold("options that USE leaves out", [], sorted(missing))
     return "%d options" % len(named)

@@ -108,8 +108,10 @@ class Root:
 
     def enter(self):
         os.chdir(self.top)
-        # a process in a chroot may make no user namespace, so this root becomes the one of the mount namespace
-        called(subprocess.run(["pivot_root", ".", "."]).returncode, "pivot_root")
+        # in a chroot no user namespace can be made: this root becomes that of the mount namespace
+        done = subprocess.run(["pivot_root", ".", "."], stderr=subprocess.PIPE, text=True, env={"PATH": PATH})
+        if done.returncode != 0:
+            raise LeftOut(done.stderr.strip())
         called(libc.umount2(b".", DETACH), "umount of the old root")
         os.chdir("/")
         os.environ.clear()

@@ -41,7 +41,7 @@ def test_large(room):
     info, _ = file("large")
     # behind the volume's header, the root's two, and its own; a trailer with two rows has to end below 2^32
     info.size = 2 ** 32 - 16 - 96 - 64 - 32 - 80
-    room.refuse("layer 0: the archive is cut off", info.tobuf(GNU))
+    room.refuse("layer 0: the archive is truncated", info.tobuf(GNU))
     info.size += 1
     room.refuse("layer 0: large: the image would be larger than 4294967280 bytes with its attributes", info.tobuf(GNU))
     info.size = 2 ** 40
@@ -51,7 +51,7 @@ def test_large(room):
 def test_broken_archives(room):
     good = archive([file("a", b"1" * 600), file("b" * 120, b"2")])
     for size in (1, 511, 513, 1100, 1111, 2047, 2048, 2559, 3072):
-        room.refuse("layer 0: the archive is cut off", good[:size])
+        room.refuse("layer 0: the archive is truncated", good[:size])
     room.refuse("layer 0: the archive is broken: a header's checksum", good[:10] + b"x" + good[11:])
     room.refuse("layer 0: the archive is broken: a header's checksum", good[:1536] + b"7" * 512 + good[2048:])
     room.refuse("layer 0: the archive is broken: a header behind its end", bytes(512) + good)

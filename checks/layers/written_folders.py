@@ -18,7 +18,7 @@ def test_folder(room):
     with open(os.path.join(folder, "other"), "w", encoding="ascii") as out:
         out.write("x")
     broken = layout_of(room.name(), [data, data[:100]])
-    expect(room.convert(broken.path, folder)[2] == ["layer 1: the archive is cut off"], "a broken layer")
+    expect(room.convert(broken.path, folder)[2] == ["layer 1: the archive is truncated"], "a broken layer")
     expect(os.listdir(folder) == ["other"], "left: %r" % os.listdir(folder))
     expect(room.convert(parts.path, folder)[0] == 0, "a folder that is there")
     with open(os.path.join(folder, "00.romfs"), "rb") as it:
@@ -82,16 +82,16 @@ def test_command(room):
 def test_wrong_words(room):
     """Wrong words are told in one line, which says what is wrong with them, with status 2."""
     place = layout_of(room.name(), [archive([file("a", b"1")])]).path
-    verbs = "no such folder, and no verb; the verbs are convert, pull, images, verify, remove, prune, config, attributes"
+    verbs = "neither a directory nor a verb; the verbs are convert, pull, images, verify, remove, prune, config, attributes"
     for line, *words in (
-            ("a verb is missing, or LAYOUT[:TAG] FOLDER",),
-            ("FOLDER is missing, where the images of %s go" % place, place),
-            ("b: a word too many behind LAYOUT[:TAG] FOLDER", place, "a", "b"),
-            ("--store: no verb stands before it", "--store", "X", "images"),
+            ("a verb or LAYOUT[:TAG] FOLDER is missing",),
+            ("FOLDER for the images of %s is missing" % place, place),
+            ("b: unexpected after LAYOUT[:TAG] FOLDER", place, "a", "b"),
+            ("--store: an option before the verb", "--store", "X", "images"),
             ("pul: " + verbs, "pul", "oci:x"),
             ("convrt: " + verbs, "convrt", "a", "b")):
         done = subprocess.run([TOOLS + "/layers.py", *words], cwd=room.path, capture_output=True, check=False, text=True)
-        wanted = (2, "", "tools/layers.py: %s; --help tells more\n" % line)
+        wanted = (2, "", "tools/layers.py: %s; see --help\n" % line)
         expect((done.returncode, done.stdout, done.stderr) == wanted, "ended with %r" % (done,))
 
 

@@ -90,7 +90,7 @@ def killed(room):
     at, process = room.start([image])
     os.kill(server_of(process), signal.SIGKILL)
     told = process.communicate()[1]
-    hold("mount.py", (128 + signal.SIGKILL, True, False), (process.returncode, b"ended by signal 9" in told, at in places()))
+    hold("mount.py", (128 + signal.SIGKILL, True, False), (process.returncode, b"killed by signal 9" in told, at in places()))
     return "ENOTCONN, and then taken away: by umount, and by mount.py where it waits"
 
 
@@ -193,7 +193,7 @@ def refused(room):
         for words, status, line in wanted:
             hold_refused(room, background + words, status, line)
     hold_refused(room, ["--background", "--strata", "/bin/true", image, at], 1,
-                 "mount.py: /bin/true has ended before the mount answered\n")
+                 "mount.py: /bin/true ended before the mount answered\n")
     if room.is_root:
         hide_device()
         hold_refused(room, [image, at], 1, "mount.py: %s: No such file or directory\n" % DEVICE)

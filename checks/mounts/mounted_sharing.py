@@ -134,7 +134,7 @@ def revived(room):
         fails("a folder of a dead server", errno.ENOTCONN, os.statvfs, at)
     third = share(room, [image])
     status, _, told = run(room, "--share", image, first)
-    hold("a dead mount on the folder", (1, True), (status, "a dead mount stands here" in told))
+    hold("a dead mount on the folder", (1, True), (status, "a dead mount, whose server has ended" in told))
     hold("--replace", (0, "", ""), run(room, "--share", "--replace", image, first))
     hold("file systems", 1, len({device_of(first), device_of(third)}))
     # the first folder is not where the mount began
@@ -271,8 +271,8 @@ def occupied(room):
     at = room.place()
     hold("a first mount", (0, "", ""), run(room, "--background", first, at))
     status, _, told = run(room, "--background", second, at)
-    hold("a second one", (1, "mount.py: %s: a mount stands here already: `umount %s` takes it away, and so does --replace; -o "
-                             "stack mounts over it\n" % (at, at)), (status, told.replace("fusermount3 -u", "umount")))
+    hold("a second one", (1, "mount.py: %s: something is mounted here already: `umount %s` unmounts it, and so does --replace; "
+                             "`-o stack` mounts over it\n" % (at, at)), (status, told))
     status, _, told = run(room, "--background", "--replace", "/none", at)
     hold("where an image is missing", (1, "mount.py: /none: No such file or directory\n", b"1"),
          (status, told, open_and_read(at + "/x")))

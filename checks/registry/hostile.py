@@ -70,7 +70,7 @@ def check_verify(room):
     hold("verified", "", room.layers("verify"))
     hold("read only", {0o444}, {os.stat(it).st_mode & 0o777 for it in mounted_layers(room, "a:1")})
     size = os.path.getsize(first + ".damaged")
-    hold("pruned", "1 layers taken away, %d bytes; 0 are in use by a mount\n" % size, room.layers("prune"))
+    hold("pruned", "1 layers removed, %d bytes; 0 are in use by a mount\n" % size, room.layers("prune"))
     hold("gone", False, os.path.exists(first + ".damaged"))
 
 

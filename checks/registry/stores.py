@@ -109,7 +109,7 @@ def check_platforms(room):
     for verb, words in (("convert", (source.path, room.name())), ("pull", ("oci:" + source.path,))):
         done = room.tried(verb, "--platform", "windows", *words)
         hold(verb, (2, "", "tools/layers.py %s: argument --platform: windows: no platform; linux/ARCHITECTURE[/VARIANT] is wanted; "
-                    "--help tells more\n" % verb), done)
+                    "see --help\n" % verb), done)
 
 
 def check_pull(room):
@@ -145,9 +145,9 @@ def check_shared(room):
     before = room.blobs()
     hold("printed", "two:latest: 5 layers, 2 of them new\n", room.layers("pull", "oci:" + two.path, "two"))
     hold("how many layers", 7, len(room.blobs()))
-    hold("pruned", "0 layers taken away, 0 bytes; 0 are in use by a mount\n", room.layers("prune"))
+    hold("pruned", "0 layers removed, 0 bytes; 0 are in use by a mount\n", room.layers("prune"))
     room.layers("remove", "two")
-    hold("pruned", True, room.layers("prune").startswith("2 layers taken away, "))
+    hold("pruned", True, room.layers("prune").startswith("2 layers removed, "))
     hold("layers that stay", before, room.blobs())
     room.refused("two: no such image in %s" % room.store, "remove", "two")
     room.layers("remove", "one:latest")

@@ -1,12 +1,13 @@
-"""Makes romfs images of the layers of a container image, for strata to serve: tools/layers.py LAYOUT[:TAG] FOLDER
+"""Makes a romfs image of each layer of a container image: tools/layers.py LAYOUT[:TAG] FOLDER
 
-LAYOUT is an OCI image layout, as `skopeo copy docker://IMAGE oci:LAYOUT:TAG` or umoci writes it. FOLDER, which is made
-where it isn't there, gets 00.romfs, 01.romfs and so on, the lowest layer first, or nothing; images that stand there
-are never written over. The command that mounts them is printed. What romfs can't hold is told on standard error, once
-a kind; where data would be lost, the layout is refused in one line, with status 1. Status 2 is for the words.
+LAYOUT is an OCI image layout, as `skopeo copy docker://IMAGE oci:LAYOUT:TAG` or umoci writes it.
+FOLDER is created if necessary. It gets 00.romfs, 01.romfs and so on, the lowest layer first, or
+nothing; existing images are never overwritten. The command that mounts them is printed. What
+romfs cannot hold is reported on standard error, once for each kind. A layout that would lose data
+is refused with one line and status 1. Status 2 means a wrong command line.
 
-It needs no root and unpacks nothing: the bytes of files go from the archive straight into the image. Behind each image stand
-the modes, owners and times of its entries, as strata-attributes(5) has them.
+It needs no root and unpacks nothing: file data goes straight from the archive into the image.
+Modes, owners and times follow each image, as in strata-attributes(5).
 """
 import os
 import re
@@ -32,7 +33,7 @@ def say_fault(line):
 def help_text():
     name = command("layers")
     lines = ["usage: %s LAYOUT[:TAG] FOLDER" % name]
-    lines += ["       %s %s .. (each tells more with --help)" % (name, "|".join(VERBS)),
+    lines += ["       %s %s .. (each has a --help)" % (name, "|".join(VERBS)),
               "       %s -h|--help|-V|--version" % name]
     return "\n".join(lines) + "\n\n" + __doc__.split("\n\n", 1)[1].rstrip() + "\n"
 
@@ -40,16 +41,16 @@ def help_text():
 def wrong_words(words):
     """What is wrong with words that neither begin with a verb nor are a layout and a folder; None where nothing is."""
     if not words:
-        return "a verb is missing, or LAYOUT[:TAG] FOLDER"
+        return "a verb or LAYOUT[:TAG] FOLDER is missing"
     first, is_there = shown(os.fsencode(words[0])), os.path.lexists(words[0])
     if first.startswith("-") and not is_there:
-        return "%s: no verb stands before it" % first
+        return "%s: an option before the verb" % first
     # a path, or a name with a tag, is a layout's that isn't there
     if not re.search("[:/]", words[0]) and not is_there:
-        return "%s: no such folder, and no verb; the verbs are %s" % (first, ", ".join(VERBS))
+        return "%s: neither a directory nor a verb; the verbs are %s" % (first, ", ".join(VERBS))
     if len(words) == 1:
-        return "FOLDER is missing, where the images of %s go" % first
-    return "%s: a word too many behind LAYOUT[:TAG] FOLDER" % shown(os.fsencode(words[2])) if len(words) > 2 else None
+        return "FOLDER for the images of %s is missing" % first
+    return "%s: unexpected after LAYOUT[:TAG] FOLDER" % shown(os.fsencode(words[2])) if len(words) > 2 else None
 
 
 def images_of_layout(words):
@@ -76,7 +77,7 @@ def run(words):
         return verbs.run(words)
     wrong = wrong_words(words)
     if wrong is not None:
-        say_fault("%s; --help tells more" % wrong)
+        say_fault("%s; see --help" % wrong)
         return 2
     return images_of_layout(words)
 

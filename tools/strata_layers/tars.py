@@ -148,7 +148,7 @@ class Tar:
     def whole(self, size):
         data = self.taken(size)
         if len(data) < size:
-            raise Refused("the archive is cut off")
+            raise Refused("the archive is truncated")
         return data
 
     def begin_data(self, size):
@@ -158,7 +158,7 @@ class Tar:
         while self.left:
             data = self.source.read(min(self.left, PIECE))
             if not data:
-                raise Refused("the archive is cut off")
+                raise Refused("the archive is truncated")
             self.left -= len(data)
             yield data
 
@@ -193,7 +193,7 @@ class Tar:
         if not block:
             return None
         if len(block) < BLOCK:
-            raise Refused("the archive is cut off")
+            raise Refused("the archive is truncated")
         if not is_sum_right(block):
             raise Refused("the archive is broken: a header's checksum")
         return block
@@ -227,7 +227,7 @@ class Tar:
             block = self.block()
             if block is None:
                 if has_begun:
-                    raise Refused("the archive is cut off")
+                    raise Refused("the archive is truncated")
                 return None
             kind, size = block[156:157], number(block[124:136], "size")
             if size < 0:

@@ -26,7 +26,7 @@ class Parser(argparse.ArgumentParser):
     """Says in one line what is wrong with the words."""
 
     def error(self, message):
-        ends.write("%s: %s; --help tells more\n" % (self.prog, one_line(message)))
+        ends.write("%s: %s; see --help\n" % (self.prog, one_line(message)))
         sys.exit(2)
 
 
@@ -92,7 +92,7 @@ def run_remove(asked):
 def run_prune(asked):
     store = Store(asked.store)
     with store.locked():
-        print_line("%d layers taken away, %d bytes; %d are in use by a mount" % prune(store))
+        print_line("%d layers removed, %d bytes; %d are in use by a mount" % prune(store))
     return 0
 
 
@@ -126,24 +126,24 @@ def run_attributes(asked):
 
 
 HELP = {
-    "convert": "Writes an image layout whose layers are images of romfs, made of those of LAYOUT in"
+    "convert": "Writes an image layout whose layers are romfs images, made from those of LAYOUT in"
                " the same order. Layers are made in the store, each once, and copied from there."
-               " Prints the new layout as skopeo names it.",
-    "pull": "Brings an image into the store, from a layout or, by skopeo, from a registry: only the"
-            " layers that are missing. Layers may be images of romfs or archives, which are"
-            " converted. Without a NAME it is the layout's folder, or the image's name in the"
-            " registry without the host.",
-    "images": "Prints a line for each image: its name, how many layers it has, their bytes, and the"
-              " digest of its manifest.",
-    "verify": "Reads all layers, and prints a line for each whose digest is wrong or that is"
-              " missing; then the status is 1.",
-    "remove": "Takes the name of an image away; prune takes its layers away.",
-    "prune": "Takes away the layers that no image names and no mount uses.",
-    "config": "Prints entry point, command, environment, working folder and user of an image, as"
-              " words of the shell; or, for eval, a whole command of bwrap that runs it as its user,"
-              " with these options of bwrap; or words for podman run.",
-    "attributes": "Adds the modes, owners and times of all that is in FOLDER to an image that"
-                  " genromfs made of it; what was added before is replaced.",
+               " Prints the name of the new layout in skopeo's form.",
+    "pull": "Brings an image into the store, from a layout or, with skopeo, from a registry: only"
+            " the missing layers. Layers may be romfs images or archives, which are converted."
+            " NAME is by default that of the layout's folder, or the image's name in the registry"
+            " without the host.",
+    "images": "Prints a line for each image: its name, number of layers, their bytes, and the digest"
+              " of its manifest.",
+    "verify": "Reads all layers and prints a line for each that is missing or has a wrong digest;"
+              " the status is then 1.",
+    "remove": "Removes the name of an image; prune removes its layers.",
+    "prune": "Removes the layers that no image names and no mount uses.",
+    "config": "Prints entry point, command, environment, working directory and user of an image,"
+              " quoted for the shell; or, for eval, a command of bwrap that runs it as its user,"
+              " with these options of bwrap; or arguments for podman run.",
+    "attributes": "Adds the modes, owners and times of all files in FOLDER to the image that"
+                  " genromfs made of it, or replaces those that were added before.",
 }
 
 
@@ -166,9 +166,9 @@ def add_words(parts):
     """What each verb is asked."""
     platform = "linux/ARCHITECTURE[/VARIANT]; by default this machine's"
     parts["convert"].add_argument("--platform", metavar="PLATFORM", type=platform_or_all,
-                                  help=platform + "; all: every one")
+                                  help=platform + "; all for every one")
     parts["convert"].add_argument("--compress", dest="packing", choices=PACKINGS, default="",
-                                  help="pack layers; machines unpack them once, at pull")
+                                  help="compress layers; pull decompresses them once")
     parts["convert"].add_argument("layout", metavar="LAYOUT[:TAG]")
     parts["convert"].add_argument("new_layout", metavar="LAYOUT2[:TAG2]")
     parts["pull"].add_argument("--platform", metavar="PLATFORM", type=platform_asked, help=platform)
@@ -181,14 +181,14 @@ def add_words(parts):
         parts[verb].add_argument("name", metavar="NAME[:TAG]")
     form = parts["config"].add_mutually_exclusive_group()
     form.add_argument("--bwrap", dest="form", action="store_const", const="bwrap",
-                      help="as a command of bwrap, with OPTIONs of bwrap behind NAME")
+                      help="print a command of bwrap, with the OPTIONs after NAME")
     form.add_argument("--podman", dest="form", action="store_const", const="podman",
-                      help="as words of podman run, before --rootfs")
+                      help="print arguments of podman run, before --rootfs")
     parts["config"].add_argument("--as-caller", action="store_true",
-                                 help="with --bwrap: with your own rights, under the number of the"
+                                 help="with --bwrap: keep your own rights, under the number of the"
                                       " image's user")
     parts["config"].add_argument("options", metavar="OPTION", nargs=argparse.REMAINDER,
-                                 help="an option of bwrap, as --ro-bind /mnt /")
+                                 help="an option of bwrap, such as --ro-bind /mnt /")
 
 
 RUNS = {"convert": run_convert, "pull": run_pull, "images": run_images, "verify": run_verify,

@@ -24,39 +24,39 @@ from strata_mount.plan import Plan
 from strata_mount.words import Reader, WrongWords
 
 FLAGS = {"-h": "help", "--help": "help", "--background": "background", "--strict": "strict", "--replace": "replace",
-         "--verify": "verify", "--share": "share", "--print": "is_printed", "--list": "list", "--json": "json", "-d": "debug", "--debug": "debug", "--version": "version"}
+         "--verify": "verify", "--share": "share", "--print": "is_printed", "--list": "list", "--json": "json",
+         "-d": "debug", "--debug": "debug", "--version": "version"}
 VALUED = {"-o": "o", "--store": "store", "--stats": "stats", "--strata": "program"}
 USAGE = "usage: %s [OPTIONS] IMAGE.. DIR\n"
 HELP = """
-Mounts romfs images, the lowest first.
+Mounts stacked romfs images, lowest first.
 
 positional arguments:
-  IMAGE.. DIR       images from the lowest up, or image:NAME:TAG, and a
-                    folder; behind -- they may begin with a -
+  IMAGE.. DIR       images, lowest first, or image:NAME:TAG, and a directory;
+                    after -- names may begin with -
 
 options:
   -h, --help        show this help message and exit
   --background      return once the mount answers
-  -o OPTIONS        allow_other, noexec, max_read=N, .. of the mount; strict,
-                    whole, workers=N, readers=N, uid=N, gid=N, share, stack,
-                    caps of strata
-  --strict          ask a right checksum of every header, too
-  --replace         take the mount of strata away first that stands at DIR
-  --share           one mount for all who ask for the same images: in the
-                    background, bound to DIR
-  --print           with --share and without DIR: print the folder where it is
-  --list            print what is mounted, with images, process and memory
-  --json            with --list: print it as JSON
-  --store DIR       the store of container images, in which names that are no
-                    files are
-  --verify          look at the digests of the store's layers first
-  -d, --debug       write each request and reply on standard error
-  --stats FILE      count requests in FILE, which SIGUSR1 and the end write
-  --strata PROGRAM  another program than strata's own
-  --version         say which version this is
+  -o OPTIONS        mount options: allow_other, noexec, max_read=N, ..;
+                    strata's: strict, whole, workers=N, readers=N, uid=N,
+                    gid=N, share, stack, caps
+  --strict          verify the checksum of every header, too
+  --replace         unmount a mount of strata at DIR first
+  --share           one mount for all who ask for the same images and options,
+                    in the background; DIR shows it
+  --print           with --share and without DIR: print a directory that shows it
+  --list            print all mounts with images, process, memory and age
+  --json            with --list: print JSON
+  --store DIR       look for container images in this store
+  --verify          verify the digests of the store's layers first
+  -d, --debug       print each request and reply on standard error
+  --stats FILE      count requests; FILE is written on SIGUSR1 and at the end
+  --strata PROGRAM  start PROGRAM instead of the installed strata
+  --version         print the version
 
-DIR shows what the stacked images show until `umount DIR`, or `fusermount3 -u
-DIR` for who is not root.
+DIR shows the stacked tree until `umount DIR`, or `fusermount3 -u DIR` for
+users who are not root.
 """
 WRONG_WORDS = 2
 # so many characters of a name stand in the table of mounts
@@ -80,7 +80,7 @@ def plan_of(read, name):
         plan.images = read.names
     else:
         if len(read.names) < 2:
-            raise WrongWords("DIR is missing, or an image" if read.names else "IMAGE.. DIR are missing")
+            raise WrongWords("DIR or an image is missing" if read.names else "IMAGE.. and DIR are missing")
         plan.images, plan.folder = read.names[:-1], read.names[-1]
     plan.source = source_of(plan.images)
     return plan

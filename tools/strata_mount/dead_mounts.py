@@ -2,7 +2,6 @@
 import errno
 import os
 
-from strata_format.refused import one_line
 from strata_mount.mount_table import KIND, mount_at, mounts
 
 # what a folder answers whose mount has lost its server
@@ -32,7 +31,7 @@ def away(place):
     """What is said of how a mount is taken away."""
     import shlex
     command = ["umount"] if os.geteuid() == 0 else ["fusermount3", "-u"]
-    return "`%s` takes it away" % " ".join([*command, shlex.quote(place)])
+    return "`%s` unmounts it" % " ".join([*command, shlex.quote(place)])
 
 
 def is_mount(folder):
@@ -40,11 +39,12 @@ def is_mount(folder):
     return os.lstat(folder).st_dev != os.lstat(os.path.dirname(folder)).st_dev
 
 
-def standing(folder):
-    """What is said of a mount of strata that stands at a folder, or None."""
+def standing(folder, may_replace):
+    """What is said of a mount of strata at a folder, where it could be replaced or only covered; None where none is there."""
     if not is_mount(folder) or mount_at(folder) is None:
         return None
-    return "a mount stands here already: %s, and so does --replace; -o stack mounts over it" % away(folder)
+    replaced = ", and so does --replace" * may_replace
+    return "something is mounted here already: %s%s; `-o stack` mounts over it" % (away(folder), replaced)
 
 
 def told(folder, may_replace):
@@ -53,7 +53,7 @@ def told(folder, may_replace):
     taken_away = away(place)
     if may_replace and place == folder and kind == KIND:
         taken_away += ", and so does --replace"
-    return "a dead mount stands here, whose server has ended (%s): %s" % (kind, taken_away)
+    return "a dead mount, whose server has ended (%s): %s" % (kind, taken_away)
 
 
 def replace(folder, take_away):

@@ -23,30 +23,30 @@ FRONT = 36 << 10
 TAR_MOST = 10000
 # so many files strata may have open besides its images
 FILES_BESIDE = 16
-MAKE = "`genromfs -d FOLDER -f IMAGE` makes an image of a folder"
-BROKEN_IMAGE = "the file was damaged, or what made it is at fault: make it anew"
+MAKE = "`genromfs -d FOLDER -f IMAGE` makes an image from a directory"
+BROKEN_IMAGE = "the file is damaged or was badly made: make it again"
 # what each rule means, in the order in which rules are named
 RULES = {
-    "too short": "an image has 16 bytes at least",
-    "not romfs": "an image of romfs begins with `-rom1fs-`",
-    "bad full size": "the size that the image says it has is below 16 or above that of the file",
-    "bad sum": "the first 512 bytes don't add up: they were changed after the image was made",
-    "bad volume name": "the name of the volume does not end within the image",
-    "no root": "behind the volume's name stands no folder, as the root of the tree must be",
-    "header outside": "a folder or a link leads to a place outside of the image",
+    "too short": "an image has at least 16 bytes",
+    "not romfs": "a romfs image begins with `-rom1fs-`",
+    "bad full size": "the size recorded in the image is below 16 or above that of the file",
+    "bad sum": "the checksum of the first 512 bytes is wrong: they were changed after the image was made",
+    "bad volume name": "the volume name does not end within the image",
+    "no root": "no directory follows the volume name, as the root of the tree must",
+    "header outside": "a directory or a link points outside the image",
     "name not ended": "a name does not end within 255 bytes and within the image",
-    "bad name": "a name is empty or holds a `/`",
-    "data outside": "the data of a file or link reach beyond the image's end",
-    "target too long": "a symbolic link's target is above 4,095 bytes",
-    "linked twice": "a folder or file stands in two places of the tree other than by hard link",
-    "name twice": "a folder holds a name twice; genromfs does so of a device's file `@NAME,..` beside `NAME`",
-    "link loop": "hard links lead to one another in a ring",
-    "link to directory": "a hard link leads to a folder; genromfs makes one of a folder that it meets twice, as where it is "
-                         "bind-mounted into another",
+    "bad name": "a name is empty or contains `/`",
+    "data outside": "the data of a file or link extend past the end of the image",
+    "target too long": "a symbolic link's target is longer than 4,095 bytes",
+    "linked twice": "a directory or file appears twice in the tree without a hard link",
+    "name twice": "a directory contains a name twice; genromfs does that for a device file `@NAME,..` beside `NAME`",
+    "link loop": "hard links point only to each other",
+    "link to directory": "a hard link points to a directory; genromfs makes one for a directory that is bind-mounted "
+                         "into another",
     "major too large": "a device's major number is above 4,095",
-    "bad header sum": "the words of a header don't add up; only --strict asks for that",
+    "bad header sum": "the checksum of a header is wrong; only --strict verifies it",
     "too deep": "a path has more than 512 names",
-    "bad attributes": "the owners, modes and times behind the image are cut off or were changed; only --attributes asks for them",
+    "bad attributes": "the owners, modes and times behind the image are truncated or were changed; only --attributes reads them",
 }
 
 
@@ -56,15 +56,15 @@ def romfs_again(unpack):
 
 # where the letters stand by which a file is known, and what it then is, with what to do
 KINDS = (
-    (0, b"\x28\xb5\x2f\xfd", "compressed by zstd: unpack it by `zstd -dc {0} > IMAGE`; a container's layer by strata-layers"),
-    (0, b"\xfd7zXZ\0", "compressed by xz: unpack it by `xz -dc {0} > IMAGE`"),
-    (0, b"BZh", "compressed by bzip2: unpack it by `bzip2 -dc {0} > IMAGE`"),
-    (0, b"hsqs", "an image of squashfs; " + romfs_again("`unsquashfs -d FOLDER {0}`")),
-    (1024, b"\xe2\xe1\xf5\xe0", "an image of erofs; " + romfs_again("`fsck.erofs --extract=FOLDER {0}`")),
-    (1080, b"\x53\xef", "an image of ext4; " + romfs_again("mount it, or `debugfs -R 'rdump / FOLDER' {0}`")),
-    (0, b"\x7fELF", "a program or library (ELF), and no image of a tree"),
-    (0, b"PK\x03\x04", "an archive of zip: unpack it; " + MAKE),
-    (32769, b"CD001", "an image of ISO 9660; " + romfs_again("`xorriso -osirrox on -indev {0} -extract / FOLDER`")),
+    (0, b"\x28\xb5\x2f\xfd", "compressed with zstd: unpack it with `zstd -dc {0} > IMAGE`; a container's layer by strata-layers"),
+    (0, b"\xfd7zXZ\0", "compressed with xz: unpack it with `xz -dc {0} > IMAGE`"),
+    (0, b"BZh", "compressed with bzip2: unpack it with `bzip2 -dc {0} > IMAGE`"),
+    (0, b"hsqs", "a squashfs image; " + romfs_again("`unsquashfs -d FOLDER {0}`")),
+    (1024, b"\xe2\xe1\xf5\xe0", "an erofs image; " + romfs_again("`fsck.erofs --extract=FOLDER {0}`")),
+    (1080, b"\x53\xef", "an ext4 image; " + romfs_again("mount it, or `debugfs -R 'rdump / FOLDER' {0}`")),
+    (0, b"\x7fELF", "a program or library (ELF), not an image"),
+    (0, b"PK\x03\x04", "a zip archive: unpack it; " + MAKE),
+    (32769, b"CD001", "an ISO 9660 image; " + romfs_again("`xorriso -osirrox on -indev {0} -extract / FOLDER`")),
 )
 
 
@@ -81,10 +81,10 @@ def explained_line(said, images, store):
         why = broken(path, rule) if rule else unreadable(path, len(images), store)
         return ["%s %d is %s: %s" % ("layer" if rule else "image", number, shown(os.fsencode(path)), why)]
     if TOO_MANY.fullmatch(said):
-        return ["%d images were named, and 128 can be stacked: unpack some that lie on one another into one folder; %s" % (
+        return ["%d images were named, and at most 128 can be stacked: unpack some adjacent ones into one directory; %s" % (
             len(images), MAKE)]
     if said == "out of memory":
-        return ["the images have %d MiB together: see `ulimit -v`, and the memory that this machine has left" % (
+        return ["the images have %d MiB together: check `ulimit -v` and the free memory" % (
             sum(map(image_files.size_of, images)) >> 20)]
     return []
 
@@ -95,7 +95,7 @@ def unreadable(path, count, store):
     try:
         kind = image_files.read_once(path)
         if kind is not None:
-            return "it is %s, and no file" % kind
+            return "it is %s, not a file" % kind
         front_of(path, 1)
     except OSError as found:
         fault = found
@@ -108,7 +108,7 @@ def fault_told(path, fault, store):
         sought = ", and no such image in " + shown(store or default_place())
         return "no such file" + (sought if may_be_stored(path) else " or directory")
     if isinstance(fault, IsADirectoryError):
-        return "it is a folder; " + MAKE
+        return "it is a directory; " + MAKE
     if fault.errno in dead_mounts.GONE:
         return dead_mounts.told(os.path.realpath(path), False)
     return fault.strerror.lower()
@@ -118,7 +118,7 @@ def not_open(count):
     """Why strata, with so many images, could not open what can be opened here."""
     most = resource.getrlimit(resource.RLIMIT_NOFILE)[0]
     if 0 <= most < count + FILES_BESIDE:
-        return "too many open files: strata keeps one open for each of %d images, and a few more, and `ulimit -n` allows %d" % (
+        return "too many open files: strata keeps one open for each of %d images, and a few more; `ulimit -n` allows %d" % (
             count, most)
     return "it can be read now"
 
@@ -159,7 +159,7 @@ def broken(path, rule):
     if front.startswith(romfs.MAGIC) and len(front) >= 12:
         full, = struct.unpack_from(">I", front, 8)
         if full > size and rule == "bad full size":
-            return "it is cut off: %d of %d bytes are there; copy or fetch it again" % (size, full)
+            return "it is truncated: %d of %d bytes; copy or fetch it again" % (size, full)
         return "%s; %s" % (RULES.get(rule, rule), BROKEN_IMAGE)
     return kind_of(path, front, size) or RULES.get(rule, rule)
 
@@ -170,7 +170,7 @@ def kind_of(path, front, size):
     if size == 0:
         return None if image_files.read_once(path) else "the file is empty"
     if front.startswith(b"\x1f\x8b"):
-        return "compressed by gzip: " + gzipped(front, name)
+        return "compressed with gzip: " + gzipped(front, name)
     if front[257:262] == b"ustar":
         return archive(path, name)
     for place, letters, words in KINDS:
@@ -186,9 +186,9 @@ def gzipped(front, name):
     except zlib.error:
         held = b""
     if held[257:262] == b"ustar":
-        return "it holds an archive of tar, as a container's layers do, of which strata-layers makes images; else %s" % (
+        return "it contains a tar archive, like a container's layers, of which strata-layers makes images; otherwise %s" % (
             unpacked(name))
-    return "unpack it by `gzip -dc %s > IMAGE`%s" % (name, ", which is an image of romfs" * held.startswith(romfs.MAGIC))
+    return "unpack it with `gzip -dc %s > IMAGE`%s" % (name, ", which is a romfs image" * held.startswith(romfs.MAGIC))
 
 
 def archive(path, name):
@@ -197,9 +197,9 @@ def archive(path, name):
     kinds = (("oci-layout", "oci-archive"), ("manifest.json", "docker-archive"))
     for member, kind in kinds:
         if member in names:
-            return ("an archive of a container image: `skopeo copy %s:%s oci:LAYOUT:TAG`, then `strata-layers LAYOUT:TAG IMAGES` "
+            return ("an archived container image: `skopeo copy %s:%s oci:LAYOUT:TAG`, then `strata-layers LAYOUT:TAG IMAGES` "
                     "makes an image of each layer" % (kind, name))
-    return "an archive of tar: " + unpacked(name)
+    return "a tar archive: " + unpacked(name)
 
 
 def unpacked(name):

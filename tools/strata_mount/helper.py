@@ -35,17 +35,17 @@ usage: %s LOWER[:UPPER].. DIR [-sfnv] [-o OPTIONS] [-t TYPE]
 Mounts romfs images for mount(8).
 
 positional arguments:
-  LOWER[:UPPER].. DIR  the images, and the folder
+  LOWER[:UPPER].. DIR  images and directory
 
 options:
   -h, --help           show this help message and exit
-  -s                   pass over options that are not known
-  -f                   look whether the images are there, and mount nothing
-  -n                   has no effect: no table of mounts is written
-  -v                   say what is mounted
-  -o OPTIONS           strict, workers=N, .., and fstab's own words
+  -s                   ignore unknown options
+  -f                   check that the images exist, and mount nothing
+  -n                   no effect
+  -v                   print what is mounted
+  -o OPTIONS           strict, whole, workers=N, .., and options of fstab
   -t TYPE              strata or fuse.strata
-  --version            say which version this is
+  --version            print the version
 """
 
 
@@ -78,17 +78,17 @@ def plan_of(read, name):
     """The plan that mount(8)'s words say."""
     options = Options(",".join(read.said.get("o", [])))
     if options.unknown and "sloppy" not in read.said:
-        raise Wrong("-o: not known: %s" % ", ".join(options.unknown))
+        raise Wrong("-o: unknown: %s" % ", ".join(options.unknown))
     # mount(8) says rw wherever no ro was said; the tree is never written
     options.mount = [word for word in options.mount if word != "rw" and word not in options.unknown]
     if len(read.names) != 2:
-        raise WrongWords("LOWER[:UPPER].. and DIR are asked for")
+        raise WrongWords("LOWER[:UPPER].. and DIR are required")
     spec, folder = read.names
     is_stored = spec.startswith("image:")
     names = [spec] if is_stored else names_of(spec)
     source = spec if is_stored or all(map(os.path.isabs, names)) else word_of(names)
     if len(os.fsencode(source)) > SOURCE_MOST:
-        raise Wrong("the images' names are longer together than the %d bytes that a mount's source may have" % SOURCE_MOST)
+        raise Wrong("the images' names have more than %d bytes together, the limit for the source of a mount" % SOURCE_MOST)
     plan = Plan(name=name, images=names, folder=folder, background=True, may_replace=False, source=source)
     plan.settle(options)
     return plan

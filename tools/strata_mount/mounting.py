@@ -104,7 +104,7 @@ def status_of(server, errors, plan):
         for line in faults.explained(text, plan.images, plan.store):
             plan.say(line)
     if status < 0:
-        plan.say("strata was ended by signal %d" % -status)
+        plan.say("strata was killed by signal %d" % -status)
     return status if status >= 0 else 128 - status
 
 
@@ -112,7 +112,7 @@ def status_of_none(server, errors, plan):
     """The status where a server has ended before the mount answered: none of success."""
     status = status_of(server, errors, plan)
     if status == 0:
-        plan.say("%s has ended before the mount answered" % one_line(plan.program))
+        plan.say("%s ended before the mount answered" % one_line(plan.program))
     return status or 1
 
 
@@ -226,8 +226,8 @@ def attempt(plan):
 def hints(fault, plan):
     """What to do about a fault of a mount, where that is known."""
     if fault.filename == DEVICE and fault.errno in (errno.ENOENT, errno.ENODEV, errno.EPERM):
-        yield ("the kernel's FUSE is not to be had here: `modprobe fuse`, or a container with "
+        yield ("FUSE is not available here: `modprobe fuse`, or start the container with "
                "`--device /dev/fuse`")
     unknown = Options(",".join(plan.words)).unknown
     if fault.errno == errno.EINVAL and unknown:
-        yield "-o: not known: %s" % one_line(", ".join(unknown))
+        yield "-o: unknown: %s" % one_line(", ".join(unknown))

@@ -34,7 +34,7 @@ class Options:
     def add(self, word):
         name, equals, value = word.partition("=")
         if name == "remount":
-            raise Wrong("a mount of strata can't be changed (remount): take it away, and mount anew")
+            raise Wrong("a mount of strata cannot be changed (remount): unmount it and mount again")
         if name in OWN:
             raise Wrong("not allowed: %s" % ", ".join(OWN))
         if name in STRATA:
@@ -69,7 +69,7 @@ def words_in(text):
 def bare(name, equals):
     """A word that must stand alone."""
     if equals:
-        raise Wrong("%s has no value" % name)
+        raise Wrong("%s takes no value" % name)
     return True
 
 

@@ -45,7 +45,7 @@ def hold_folder(plan):
         if not plan.replace or not dead_mounts.replace(folder, take_away):
             raise OSError(0, dead_mounts.told(folder, plan.may_replace), plan.folder)
     elif not plan.replace and not plan.is_stacked:
-        told = dead_mounts.standing(folder)
+        told = dead_mounts.standing(folder, plan.may_replace)
         if told is not None:
             raise OSError(0, told, plan.folder)
 
