@@ -10,7 +10,7 @@ from strata_format.refused import one_line
 from strata_mount import preconditions, privileges
 from strata_mount.device import DEVICE, answers, mounted, take_away
 from strata_mount.options import Options
-from strata_mount.processes import found_program, hold_descriptors, start
+from strata_mount.processes import Bell, found_program, hold_descriptors, start
 
 RELAY = os.path.join(os.path.dirname(os.path.realpath(__file__)), "relay.py")
 INTERRUPTED = 130
@@ -73,29 +73,30 @@ def prepare(plan):
         privileges.drop(plan.program, images, has_filter=not plan.is_relayed())
 
 
-def answers_first(plan, server):
+def answers_first(plan, server, bell):
     """Whether a mount answers before its server ends. A thread asks, so that signals are heard
     here."""
-    told, is_told = [], _thread.allocate_lock()
+    told = []
 
     def ask():
         told.append(answers(plan.folder))
-        is_told.release()
+        bell.ring()
 
-    is_told.acquire()
     _thread.start_new_thread(ask, ())
     if sys.stderr.isatty() and not plan.is_relayed():
         from strata_mount import image_progress
-        image_progress.watch(is_told, server.pid, plan.images if plan.whole else None)
-    else:
-        is_told.acquire()
+        image_progress.watch(told, bell, server.pid, plan.images if plan.whole else None)
+    while not told:
+        bell.wait()
     return told[0]
 
 
-def status_of(server, errors, plan):
+def status_of(server, errors, plan, bell):
     """The status with which strata ends, which is waited for; its line is passed on, with what
     stands behind it."""
-    status = server.wait()
+    while not server.has_ended():
+        bell.wait()
+    status = server.status
     errors.seek(0)
     text = errors.read().decode(errors="replace")
     ends.write(text)
@@ -108,9 +109,9 @@ def status_of(server, errors, plan):
     return status if status >= 0 else 128 - status
 
 
-def status_of_none(server, errors, plan):
+def status_of_none(server, errors, plan, bell):
     """The status where a server has ended before the mount answered: none of success."""
-    status = status_of(server, errors, plan)
+    status = status_of(server, errors, plan, bell)
     if status == 0:
         plan.say("%s ended before the mount answered" % one_line(plan.program))
     return status or 1
@@ -150,10 +151,11 @@ def run(plan, counts=None, heard=None):
     errors = os.fdopen(os.memfd_create("errors"), "w+b")
     signal.pthread_sigmask(signal.SIG_BLOCK, stopping())
     hear(interrupt)
+    bell = Bell()
     device = mounted(plan)
     try:
         server = served(plan, device, errors, counts)
-        status = waited(plan, server, errors)
+        status = waited(plan, server, errors, bell)
         if status == 0 and plan.background and heard is not None:
             heard(server)
         return interrupted(plan, server) if status is None else status
@@ -163,17 +165,17 @@ def run(plan, counts=None, heard=None):
             take_away(plan.folder)
 
 
-def waited(plan, server, errors):
+def waited(plan, server, errors, bell):
     """Waits until a server has ended, or, in the background, until the mount answers; the status to
     end with, or None where that is interrupted."""
     try:
         unblock()
         if plan.stats is not None:
             signal.signal(signal.SIGUSR1, lambda *_: server.send(signal.SIGUSR1))
-        is_there = (plan.background or sys.stderr.isatty()) and answers_first(plan, server)
+        is_there = (plan.background or sys.stderr.isatty()) and answers_first(plan, server, bell)
         if not plan.background:
-            return status_of(server, errors, plan)
-        return 0 if is_there else status_of_none(server, errors, plan)
+            return status_of(server, errors, plan, bell)
+        return 0 if is_there else status_of_none(server, errors, plan, bell)
     except KeyboardInterrupt:
         return None
 

@@ -129,15 +129,23 @@ def is_empty(folder):
         return False
 
 
+def missing(paths):
+    """Those of some paths where nothing is."""
+    return [path for path in paths if not os.path.exists(path)]
+
+
 def hold_images(plan):
     """Looks that no image lies below the folder, nor strata itself: it would wait for itself to
     open it."""
     if is_empty(plan.folder):
-        return
-    for image in plan.images:
+        # what is there does not lie in it
+        images, needed = missing(plan.images), missing(OPENED)
+    else:
+        images, needed = plan.images, [plan.program, *packages(), *sorted(libraries()), *OPENED]
+    for image in images:
         if lies_in(image, plan.folder):
             raise OSError(0, "this image lies in the folder that it would be mounted on", image)
-    for path in (plan.program, *packages(), *sorted(libraries()), *OPENED):
+    for path in needed:
         if lies_in(path, plan.folder):
             why = "strata needs this file, which lies in the folder that it would mount on"
             raise OSError(0, why, path)

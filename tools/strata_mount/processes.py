@@ -26,11 +26,39 @@ def hold_descriptors():
                 pass  # the one by which the folder was read
 
 
+class Bell:
+    """Rings at each signal that is heard, at each child's end, and when it is rung. Who waits for it misses no signal that
+    comes just before, as waitpid(2) would."""
+
+    def __init__(self):
+        self.heard, self.rung = os.pipe()
+        os.set_blocking(self.rung, False)
+        signal.set_wakeup_fd(self.rung, warn_on_full_buffer=False)
+        signal.signal(signal.SIGCHLD, lambda *_: None)
+
+    def ring(self):
+        os.write(self.rung, b"\0")
+
+    def wait(self, seconds=None):
+        """Waits until it rings, or so many seconds."""
+        if seconds is not None:
+            import select
+            if not select.select([self.heard], [], [], seconds)[0]:
+                return
+        os.read(self.heard, 1 << 10)
+
+
 class Process:
     """A program that was started; its status is waited for once."""
 
     def __init__(self, pid):
         self.pid, self.status = pid, None
+
+    def has_ended(self):
+        if self.status is None:
+            pid, status = os.waitpid(self.pid, os.WNOHANG)
+            self.status = os.waitstatus_to_exitcode(status) if pid else None
+        return self.status is not None
 
     def wait(self):
         """The status, below 0 for the signal that ended the program."""

@@ -175,11 +175,20 @@ def printed_folder(folder, place, name):
     return found
 
 
+def hold_unshared(plan):
+    """Looks that a stack may be mounted that is not shared: strata says what is wrong with an image, and what is no file
+    gives its bytes to one mount alone. Without a folder it may not."""
+    if plan.is_printed:
+        for image in plan.images:
+            if not stat.S_ISREG(os.stat(image).st_mode):
+                raise OSError(0, "is no file, and cannot be shared", image)
+
+
 def attempt(plan):
     """Mounts by a plan, or joins a mount that shows the same; the status to end with."""
     identity = identity_of(plan)
     if identity is None:
-        # strata says what is wrong with an image; what is no file gives its bytes to one mount alone
+        hold_unshared(plan)
         return mounting.run(plan)
     folder, place = opened_notes()
     name = name_of(identity)
