@@ -1,10 +1,9 @@
 """The kernel's device of FUSE: opened and mounted on a folder, and taken away."""
-import ctypes
 import errno
 import os
 import sys
 
-from strata_format.system import called, libc
+from strata_format.system import c_ulong, called, get_errno, libc
 from strata_mount.mount_table import KIND
 from strata_mount.options import CLEARS, SETS
 from strata_mount.processes import found_program, start
@@ -44,7 +43,7 @@ def mount(plan, device):
     text = ["fd=%d,rootmode=40000,user_id=%d,group_id=%d" % (device, *owner)]
     text += [word for word in plan.words if word not in SETS and word not in CLEARS]
     status = libc.mount(os.fsencode(plan.source), os.fsencode(plan.folder), os.fsencode(KIND),
-                        ctypes.c_ulong(flags_of(plan.words)), ",".join(text).encode())
+                        c_ulong(flags_of(plan.words)), ",".join(text).encode())
     called(status, plan.folder + ": mount")
 
 
@@ -92,7 +91,7 @@ def started_helper(words, passed=(), environment=None):
 def take_away(folder):
     """Takes a mount away at once, even if it is in use."""
     status = libc.umount2(os.fsencode(folder), MNT_DETACH | UMOUNT_NOFOLLOW)
-    if status != 0 and ctypes.get_errno() in (errno.EPERM, errno.EACCES):
+    if status != 0 and get_errno() in (errno.EPERM, errno.EACCES):
         helper = found_program("fusermount3")
         if helper:
             started_helper([helper, "-u", "-q", "-z", "--", folder])

@@ -7,7 +7,7 @@ import sys
 
 from strata_format import ends
 from strata_format.refused import one_line
-from strata_mount import preconditions, privileges
+from strata_mount import preconditions
 from strata_mount.device import DEVICE, answers, mounted, take_away
 from strata_mount.options import Options
 from strata_mount.processes import Bell, found_program, hold_descriptors, start
@@ -69,6 +69,7 @@ def prepare(plan):
     os.chdir("/")
     unblock()
     if not plan.keeps_privileges:
+        from strata_mount import privileges
         # the relay starts a program, which the filter would not allow
         privileges.drop(plan.program, images, has_filter=not plan.is_relayed())
 

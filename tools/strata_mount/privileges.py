@@ -5,11 +5,10 @@ of root's capabilities it needs none, or, where an image could not be opened els
 It can gain none again, starts no other program, opens files only to read, and has the calls below alone. A script in
 strata's place needs other calls, and keeps them.
 """
-import ctypes
 import os
 import struct
 
-from strata_format.system import called, libc
+from strata_format.system import addressof, c_char, called, libc
 
 PR_SET_NO_NEW_PRIVS, PR_SET_SECCOMP, SECCOMP_MODE_FILTER = 38, 22, 2
 CAPABILITY_VERSION, NONE, READ_SEARCH = 0x20080522, 0, 1 << 2
@@ -57,16 +56,16 @@ def filter_program():
 
 def install_filter():
     steps = filter_program()
-    data = ctypes.create_string_buffer(b"".join(steps))
-    program = struct.pack("=H6xQ", len(steps), ctypes.addressof(data))
-    called(libc.prctl(PR_SET_SECCOMP, SECCOMP_MODE_FILTER, ctypes.c_char_p(program), 0, 0))
+    data = b"".join(steps)
+    held = (c_char * len(data)).from_buffer_copy(data)
+    program = struct.pack("=H6xQ", len(steps), addressof(held))
+    called(libc.prctl(PR_SET_SECCOMP, SECCOMP_MODE_FILTER, program, 0, 0))
 
 
 def set_capabilities(effective, permitted):
-    head = (ctypes.c_uint32 * 2)(CAPABILITY_VERSION, 0)
-    low, high = (2 ** 32 - 1), 32
-    data = (ctypes.c_uint32 * 6)(effective & low, permitted & low, 0, effective >> high, permitted >> high, 0)
-    called(libc.capset(head, data))
+    low, high = 2 ** 32 - 1, 32
+    words = effective & low, permitted & low, 0, effective >> high, permitted >> high, 0
+    called(libc.capset(struct.pack("=II", CAPABILITY_VERSION, 0), struct.pack("=6I", *words)))
 
 
 def permitted():

@@ -98,7 +98,7 @@ class Note:
     def live(self):
         """The device numbers of noted mounts whose servers are there, with the servers."""
         os.lseek(self.file, 0, os.SEEK_SET)
-        with open(self.file, encoding="ascii", errors="replace", closefd=False) as lines:
+        with open(self.file, encoding="utf-8", errors="replace", closefd=False) as lines:
             return list(live_rows(lines))
 
     def add(self, device, server):
@@ -142,7 +142,7 @@ def joinable(plan, note):
 
 def mount_number(number):
     """The number of the mount that an open file is of."""
-    with open("/proc/self/fdinfo/%d" % number, encoding="ascii") as lines:
+    with open("/proc/self/fdinfo/%d" % number, encoding="utf-8") as lines:
         return next(int(line.split()[1]) for line in lines if line.startswith("mnt_id:"))
 
 
