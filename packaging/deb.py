@@ -50,6 +50,15 @@ else
     find /usr/lib/strata -name __pycache__ -prune -exec rm -r {} +
 fi
 """
+# py3compile's own, at an upgrade of python3
+RTUPDATE = """\
+#!/bin/sh
+set -e
+if [ "$1" = rtupdate ]; then
+    py3clean -p strata
+    py3compile -p strata /usr/lib/strata
+fi
+"""
 COPYRIGHT = """\
 Format: https://www.debian.org/doc/packaging-manuals/copyright-format/1.0/
 Upstream-Name: strata
@@ -111,6 +120,7 @@ def entries(program, moment):
     year = email.utils.formatdate(moment).split()[3]
     found.append(files.Entry("share/doc/strata/copyright", 0o644, COPYRIGHT.format(year=year, mit=mit_text()).encode()))
     found.append(files.Entry("share/doc/strata/changelog.gz", 0o644, packed(log.encode(), 0)))
+    found.append(files.Entry("share/python3/runtime.d/strata.rtupdate", 0o755, RTUPDATE.encode()))
     return sorted(found)
 
 

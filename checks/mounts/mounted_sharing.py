@@ -5,12 +5,14 @@ import json
 import os
 import shutil
 import signal
+import socket
 import subprocess
 import time
 
 from checks.mounts.mounted_ends import OTHER, as_other, open_to_all, python_of
 from checks.mounts.mounted_trees import file, folder, wanted_of
 from checks.shared.mounting import SCRIPT, LeftOut, called, children, fails, hold, hold_tree, libc, places, shown, wait_until
+from strata_mount.privileges import drop
 
 # a server ends so soon after the last mount of it
 SECOND = 1.0
@@ -321,6 +323,29 @@ def status_of(process):
     return {name: int(rows[name], 16) for name in CAPABILITIES}, int(rows["NoNewPrivs"]), int(rows["Seccomp"])
 
 
+def hold_refused_calls(room, image):
+    """Holds that a process with a server's privileges can read, and neither write, start others nor signal them."""
+    if os.uname().machine != "x86_64":
+        return
+    path, parent = room.write(b"data"), os.getpid()
+    tried = (lambda: os.open(path, os.O_WRONLY), lambda: os.open(path, os.O_RDONLY | os.O_TRUNC), lambda: os.unlink(path),
+             os.fork, lambda: socket.socket(), lambda: os.kill(parent, 0), lambda: os.chmod(path, 0), lambda: os.setuid(0))
+    child = os.fork()
+    if child == 0:
+        status = 200
+        try:
+            drop(room.program, [image], has_filter=True)
+            status = len(tried) + (os.read(os.open(path, os.O_RDONLY), 9) != b"data")
+            for function in tried:
+                try:
+                    function()
+                except OSError as fault:
+                    status -= fault.errno in (errno.EPERM, errno.ENOSYS)
+        finally:
+            os._exit(status)
+    hold("calls that are not refused", 0, os.waitstatus_to_exitcode(os.waitpid(child, 0)[1]))
+
+
 def privileges(room):
     """A server has no capability, can gain none, and has a filter of calls; -o caps leaves it all."""
     image, none = room.layer(items_of(b"data")), dict.fromkeys(CAPABILITIES, 0)
@@ -331,6 +356,7 @@ def privileges(room):
         hold("privileges with %s" % (words,), wanted, status_of(mount.server))
         hold("a file", b"data", open_and_read(mount.path(b"x")))
         mount.end()
+    hold_refused_calls(room, image)
     if room.is_root:
         os.chmod(image, 0o600)
         os.chown(image, OTHER, OTHER)

@@ -14,48 +14,60 @@ PR_SET_NO_NEW_PRIVS, PR_SET_SECCOMP, SECCOMP_MODE_FILTER = 38, 22, 2
 CAPABILITY_VERSION, NONE, READ_SEARCH = 0x20080522, 0, 1 << 2
 ELF, MACHINE_NAME = b"\x7fELF", "x86_64"
 
-# linux/filter.h, linux/seccomp.h, linux/audit.h: a filter of calls is a program over their number, machine and arguments
+# linux/filter.h, linux/seccomp.h, linux/audit.h: a filter of calls is a program over their number,
+# machine and arguments
 LOAD, EQUAL, AT_LEAST, ANY_BIT, GIVE = 0x20, 0x15, 0x35, 0x45, 0x06
 NUMBER, MACHINE, FIRST_ARGUMENT, ARGUMENT_SIZE = 0, 4, 16, 8
 X86_64, X32_FIRST = 0xc000003e, 0x40000000
 ALLOWED, KILLED, REFUSED = 0x7fff0000, 0x80000000, 0x00050000
 EPERM, ENOSYS = 1, 38
 
-# the calls of strata, of its C library and of the loader on x86_64, by the kernel's numbers
+# the calls of strata, of its C library and of the loader, by the kernel's numbers for x86_64
 CALLS = {
-    "read": 0, "write": 1, "close": 3, "stat": 4, "fstat": 5, "lstat": 6, "lseek": 8, "mmap": 9, "mprotect": 10, "munmap": 11, "brk": 12,
-    "rt_sigaction": 13, "rt_sigprocmask": 14, "rt_sigreturn": 15, "ioctl": 16, "pread64": 17, "readv": 19, "writev": 20,
-    "access": 21, "sched_yield": 24, "mremap": 25, "madvise": 28, "nanosleep": 35, "getpid": 39, "execve": 59, "exit": 60,
-    "uname": 63, "fcntl": 72, "sigaltstack": 131, "arch_prctl": 158, "gettid": 186, "futex": 202, "sched_getaffinity": 204,
-    "set_tid_address": 218, "restart_syscall": 219, "clock_gettime": 228, "clock_nanosleep": 230, "exit_group": 231,
-    "tgkill": 234, "newfstatat": 262, "set_robust_list": 273, "preadv": 295, "prlimit64": 302, "getrandom": 318,
-    "statx": 332, "rseq": 334, "poll": 7, "ppoll": 271}
-OPENAT, CLONE = 257, 56
-# openat(2) may neither write nor make; a thread may be made, and no process
-WRITES = os.O_WRONLY | os.O_RDWR | os.O_CREAT | os.O_TRUNC | os.O_TMPFILE
-CLONE_THREAD = 0x10000
+    "read": 0, "write": 1, "close": 3, "stat": 4, "fstat": 5, "lstat": 6, "lseek": 8, "mmap": 9,
+    "mprotect": 10, "munmap": 11, "brk": 12, "rt_sigaction": 13, "rt_sigprocmask": 14,
+    "rt_sigreturn": 15, "pread64": 17, "readv": 19, "writev": 20, "access": 21, "sched_yield": 24,
+    "mremap": 25, "madvise": 28, "nanosleep": 35, "getpid": 39, "execve": 59, "exit": 60,
+    "sigaltstack": 131, "arch_prctl": 158, "gettid": 186, "futex": 202, "sched_getaffinity": 204,
+    "set_tid_address": 218, "restart_syscall": 219, "clock_gettime": 228, "clock_nanosleep": 230,
+    "exit_group": 231, "newfstatat": 262, "set_robust_list": 273, "preadv": 295, "getrandom": 318,
+    "statx": 332, "rseq": 334}
+# those that depend on an argument
+IOCTL, CLONE, TGKILL, OPENAT, PRLIMIT64 = 16, 56, 234, 257, 302
+WRITES = os.O_WRONLY | os.O_RDWR | os.O_CREAT | os.O_TRUNC
+CLONE_THREAD, TCGETS = 0x10000, 0x5401
 
 
 def step(code, value, if_so=0, if_not=0):
     return struct.pack("=HBBI", code, if_so, if_not, value)
 
 
-def filter_program():
-    """The filter: a call that is not known fails as one that the kernel does not have, so that the C library does without."""
-    argument = [FIRST_ARGUMENT + at * ARGUMENT_SIZE for at in range(3)]
+def depending(number, argument, test, value, is_wanted=True):
+    """The steps that allow a call if an argument passes a test, or if it does not."""
+    load = step(LOAD, FIRST_ARGUMENT + argument * ARGUMENT_SIZE)
+    tested = step(test, value, 1, 0) if is_wanted else step(test, value, 0, 1)
+    return [step(EQUAL, number, 0, 4), load, tested, step(GIVE, REFUSED | EPERM), step(GIVE, ALLOWED)]
+
+
+def filter_program(process):
+    """The filter for a process. A call that is not known fails as one that the kernel does not
+    have, so that the C library does without."""
     steps = [step(LOAD, MACHINE), step(EQUAL, X86_64, 1), step(GIVE, KILLED),
              step(LOAD, NUMBER), step(AT_LEAST, X32_FIRST, 0, 1), step(GIVE, KILLED)]
     for number in CALLS.values():
         steps += [step(EQUAL, number, 0, 1), step(GIVE, ALLOWED)]
-    steps += [step(EQUAL, OPENAT, 0, 4), step(LOAD, argument[2]), step(ANY_BIT, WRITES, 0, 1), step(GIVE, REFUSED | EPERM),
-              step(GIVE, ALLOWED)]
-    steps += [step(EQUAL, CLONE, 0, 4), step(LOAD, argument[0]), step(ANY_BIT, CLONE_THREAD, 1, 0), step(GIVE, REFUSED | EPERM),
-              step(GIVE, ALLOWED)]
+    # files are opened to read alone; threads are made, and no process; signals go to this process
+    # alone, and limits are of it; a descriptor is asked whether it is a terminal
+    steps += depending(OPENAT, 2, ANY_BIT, WRITES, is_wanted=False)
+    steps += depending(CLONE, 0, ANY_BIT, CLONE_THREAD)
+    steps += depending(TGKILL, 0, EQUAL, process)
+    steps += depending(PRLIMIT64, 0, EQUAL, 0)
+    steps += depending(IOCTL, 1, EQUAL, TCGETS)
     return [*steps, step(GIVE, REFUSED | ENOSYS)]
 
 
 def install_filter():
-    steps = filter_program()
+    steps = filter_program(os.getpid())
     data = b"".join(steps)
     held = (c_char * len(data)).from_buffer_copy(data)
     program = struct.pack("=H6xQ", len(steps), addressof(held))

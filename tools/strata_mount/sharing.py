@@ -6,10 +6,12 @@ nothing watches: the kernel ends a file system with its last mount, in whatever 
 
 A mount is joined only where its server is the process that was noted, and where the kernel says that it is this user's.
 """
+import errno
 import fcntl
 import os
 import stat
 
+from strata_format import ends
 from strata_mount import dead_mounts, mounting
 from strata_mount.device import flags_of, take_away
 from strata_mount.mount_table import KIND, mount_at, mounts
@@ -112,21 +114,27 @@ class Note:
         os.close(self.file)
 
 
-def sweep(folder, place, kept):
-    """Takes away notes of mounts that are all gone, and folders that were printed for them, but for the stack `kept`."""
+def sweep(folder):
+    """Takes away notes of mounts that are all gone, with the folders that were printed for them."""
     for name in os.listdir(folder):
-        if name.partition(".")[0] == kept:
-            continue
         try:
-            if name.endswith(PRINTED):
-                os.rmdir(name, dir_fd=folder)
-                continue
-            note = Note(folder, name, is_waited_for=False)
+            note = None if name.endswith(PRINTED) else Note(folder, name, is_waited_for=False)
         except OSError:
-            continue  # it is in use
-        if not any(note.live()):
+            continue  # another run has locked it, or it has just gone
+        if note is None:
+            continue
+        if not note.live() and is_removed(folder, name + PRINTED):
             os.unlink(name, dir_fd=folder)
         note.close()
+
+
+def is_removed(folder, name):
+    """Whether a folder below an open one is gone, if it had to be taken away or not."""
+    try:
+        os.rmdir(name, dir_fd=folder)
+        return True
+    except OSError as fault:
+        return fault.errno == errno.ENOENT
 
 
 # --- joining ---
@@ -197,10 +205,11 @@ def attempt(plan):
         if plan.is_printed:
             plan.folder = printed_folder(folder, place, name)
             hold_images(plan)
-        status = joined_or_mounted(plan, note, identity)
-        sweep(folder, place, name)
+        status, is_new = joined_or_mounted(plan, note, identity)
+        if is_new:
+            sweep(folder)
         if status == 0 and plan.is_printed:
-            print(plan.folder)
+            ends.put(os.fsencode(plan.folder) + b"\n")
         return status
     finally:
         note.close()
@@ -208,15 +217,16 @@ def attempt(plan):
 
 
 def joined_or_mounted(plan, note, identity):
+    """The status to end with, and whether a mount was made."""
     found = list(joinable(plan, note))
     if plan.is_printed and any(it.place == plan.folder for it in found):
-        return 0
+        return 0, False
     if not plan.is_printed and os.geteuid() != 0:
         why = "only root may show a shared mount at a folder; for others `strata-mount --share --print IMAGE..` tells one"
         raise OSError(0, why, plan.folder)
     if os.geteuid() == 0 and any(is_joined(plan, it) for it in found):
-        return 0
-    return mounting.run(plan, None, lambda server: noted(plan, note, identity, server))
+        return 0, False
+    return mounting.run(plan, None, lambda server: noted(plan, note, identity, server)), True
 
 
 def noted(plan, note, identity, server):
