@@ -1,7 +1,8 @@
-"""Compiles modules for the Python that runs it: python3 -IBS packaging/compiled.py FOLDER OUT NAME..
+"""Compiles modules for the Python that runs it: python3 -IBS packaging/compiled.py FOLDER OUT
+NAME..
 
-Each NAME is a module's path below FOLDER. Python takes what is written below OUT as long as the module has the bytes that it
-was made of. The same modules and the same Python give the same bytes.
+Each NAME is a module's path below FOLDER. Python takes what is written below OUT as long as the
+module has the bytes that it was made of. The same modules and the same Python give the same bytes.
 """
 import importlib.util
 import os

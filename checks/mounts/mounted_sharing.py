@@ -1,5 +1,6 @@
-"""Checks of checks/mounts/mounted.py: one mount for all who ask for the same (--share), what is seen of mounts from outside,
-a second mount on one folder, and what a server is left of privileges."""
+"""Checks of checks/mounts/mounted.py: one mount for all who ask for the same (--share), what is
+seen of mounts from outside, a second mount on one folder, and what a server is left of
+privileges."""
 import errno
 import json
 import os
@@ -11,7 +12,8 @@ import time
 
 from checks.mounts.mounted_ends import OTHER, as_other, open_to_all, python_of
 from checks.mounts.mounted_trees import file, folder, wanted_of
-from checks.shared.mounting import SCRIPT, LeftOut, called, children, fails, hold, hold_tree, libc, places, shown, wait_until
+from checks.shared.mounting import (SCRIPT, LeftOut, called, children, fails, hold, hold_tree, libc,
+                                    places, shown, wait_until)
 from strata_mount.privileges import drop
 
 # a server ends so soon after the last mount of it
@@ -19,6 +21,9 @@ SECOND = 1.0
 # of a process, what proc(5) says of its capabilities
 CAPABILITIES = ("CapInh", "CapPrm", "CapEff", "CapAmb")
 READ_SEARCH = 1 << 2
+ENDS = {"stdin": subprocess.DEVNULL, "stdout": subprocess.PIPE, "stderr": subprocess.PIPE,
+        "text": True}
+ENDED = os.WEXITED | os.WNOHANG | os.WNOWAIT
 
 
 def own_runtime():
@@ -26,10 +31,9 @@ def own_runtime():
     called(libc.mount(b"tmpfs", b"/run", b"tmpfs", 0, b"mode=755"))
 
 
-def run(room, *words, **named):
+def run(room, *words):
     """A run of mount.py: its status and what it wrote."""
-    done = subprocess.run([*room.words(), *words], stdin=subprocess.DEVNULL, stdout=subprocess.PIPE, stderr=subprocess.PIPE,
-                          text=True, **named)
+    done = subprocess.run([*room.words(), *words], **ENDS)
     return done.returncode, done.stdout, done.stderr
 
 
@@ -51,7 +55,7 @@ def umount(at, flags=0):
 def hold_ended(server):
     """Holds that a server ends by itself within a second, with 0."""
     until = time.monotonic() + SECOND
-    wait_until("the server's end", lambda: os.waitid(os.P_PID, server, os.WEXITED | os.WNOHANG | os.WNOWAIT))
+    wait_until("the server's end", lambda: os.waitid(os.P_PID, server, ENDED))
     hold("ended in time", True, time.monotonic() < until)
     hold("the server's status", 0, os.waitstatus_to_exitcode(os.waitpid(server, 0)[1]))
 
@@ -61,7 +65,8 @@ def items_of(text):
 
 
 def sharing(room):
-    """Folders that show one mount; other options, and other bytes, make another; the last one ends the server."""
+    """Folders that show one mount; other options, and other bytes, make another; the last one ends
+    the server."""
     own_runtime()
     items = items_of(b"data")
     image = room.layer(items)
@@ -72,7 +77,8 @@ def sharing(room):
         hold("the file system", device_of(places_of[0]), device_of(at))
         fails("a write", errno.EROFS, os.mkdir, at + "/new")
     hold("the flags", os.statvfs(places_of[0]).f_flag, os.statvfs(places_of[2]).f_flag)
-    others = [share(room, [image], "-o", "noexec"), share(room, [image], "--strict"), share(room, [image, image])]
+    others = [share(room, [image], "-o", "noexec"), share(room, [image], "--strict"),
+              share(room, [image, image])]
     hold("servers of other options", 4, len(children()))
     os.utime(image, (5, 5))
     others.append(share(room, [image]))
@@ -91,28 +97,28 @@ def sharing(room):
     hold("notes", 1, len(os.listdir("/run/strata")))
     umount(at)
     wait_until("the last server's end", lambda: not alive())
-    return "3 folders, one server, which ends with the last; other options, other times and other stacks have others"
+    return "3 folders, one server, which ends with the last; others for other options, times, stacks"
 
 
 def alive():
     """The children of this process that have not ended."""
     found = set(children())
     for child in found.copy():
-        if os.waitid(os.P_PID, child, os.WEXITED | os.WNOHANG | os.WNOWAIT):
+        if os.waitid(os.P_PID, child, ENDED):
             os.waitpid(child, 0)
             found.remove(child)
     return found
 
 
 def raced(room):
-    """Eight that begin at one moment make one mount; so do eight where a server has just been killed."""
+    """Eight that begin at one moment make one mount; so do eight where a server has just been
+    killed."""
     own_runtime()
     image = room.layer(items_of(b"data"))
     for _ in range(3):
         found = [room.place() for _ in range(8)]
-        runs = [subprocess.Popen([*room.words(), "--share", image, at], stdin=subprocess.DEVNULL, stderr=subprocess.PIPE)
-                for at in found]
-        hold("what they say", [(b"", 0)] * 8, [(it.communicate()[1], it.returncode) for it in runs])
+        runs = [subprocess.Popen([*room.words(), "--share", image, at], **ENDS) for at in found]
+        hold("what they say", [("", 0)] * 8, [(it.communicate()[1], it.returncode) for it in runs])
         server, = alive()
         hold("file systems", 1, len(set(map(device_of, found))))
         os.kill(server, signal.SIGKILL)
@@ -124,7 +130,8 @@ def raced(room):
 
 
 def revived(room):
-    """A server that dies is told by each folder, and made anew by who asks next; who is taken away is not missed."""
+    """A server that dies is told by each folder, and made anew by who asks next; who is taken away
+    is not missed."""
     own_runtime()
     items = items_of(b"data")
     image = room.layer(items)
@@ -136,7 +143,7 @@ def revived(room):
         fails("a folder of a dead server", errno.ENOTCONN, os.statvfs, at)
     third = share(room, [image])
     status, _, told = run(room, "--share", image, first)
-    hold("a dead mount on the folder", (1, True), (status, "a dead mount, whose server has ended" in told))
+    hold("a dead mount on the folder", (1, True), (status, "a dead mount, whose server" in told))
     hold("--replace", (0, "", ""), run(room, "--share", "--replace", image, first))
     hold("file systems", 1, len({device_of(first), device_of(third)}))
     # the first folder is not where the mount began
@@ -183,12 +190,12 @@ def open_and_read(path):
 def user_words(room):
     """How another user calls mount.py, with a folder for what is of this boot."""
     runtime = room.place()
-    script = os.path.join(shutil.copytree(os.path.dirname(SCRIPT), room.folder + "/scripts"), os.path.basename(SCRIPT))
+    scripts = shutil.copytree(os.path.dirname(SCRIPT), room.folder + "/scripts")
     os.chown(runtime, OTHER, OTHER)
     environment = {**os.environ, "XDG_RUNTIME_DIR": runtime}
-    who = {"user": OTHER, "group": OTHER, "extra_groups": [], "env": environment, "stdin": subprocess.DEVNULL,
-           "stdout": subprocess.PIPE, "stderr": subprocess.PIPE, "text": True}
-    return [python_of(room), "-B", script, "--strata", shutil.copy(room.program, room.folder)], who, runtime
+    who = {"user": OTHER, "group": OTHER, "extra_groups": [], "env": environment, **ENDS}
+    words = [python_of(room), "-B", os.path.join(scripts, os.path.basename(SCRIPT))]
+    return [*words, "--strata", shutil.copy(room.program, room.folder)], who, runtime
 
 
 def printed_to_user(room, image):
@@ -201,23 +208,26 @@ def printed_to_user(room, image):
     words, who, runtime = user_words(room)
     os.chmod(image, 0o644)
     told = [subprocess.run([*words, "--share", "--print", image], **who) for _ in range(2)]
-    hold("told to a user", (0, "", True), (told[0].returncode, told[0].stderr, told[0].stdout == told[1].stdout))
+    hold("told to a user", (0, ""), (told[0].returncode, told[0].stderr))
+    hold("told twice", told[0].stdout, told[1].stdout)
     at = told[0].stdout.rstrip("\n")
     hold("below", runtime + "/strata", os.path.dirname(at))
     hold("servers", 1, len(alive()))
     hold("a look", 0, as_other(room, lambda: hold("a file", b"data", open_and_read(at + "/x"))))
     bound = subprocess.run([*words, "--share", image, room.place()], **who)
-    hold("a folder of their own", (1, 1), (bound.returncode, bound.stderr.count("--share --print")))
+    hold("a folder of their own", (1, True), (bound.returncode, "--share --print" in bound.stderr))
     hold("fusermount3 -u", 0, subprocess.run(["fusermount3", "-u", at], **who).returncode)
     wait_until("all servers' end", lambda: not alive())
     os.chmod(runtime, 0o777)
     refused = subprocess.run([*words, "--share", "--print", image], **who)
-    hold("a folder in which all may write", (1, True), (refused.returncode, "others may write" in refused.stderr))
+    hold("a folder in which all may write", 1, refused.returncode)
+    hold("what is said of it", True, "others may write" in refused.stderr)
     return "and for a user who is not root"
 
 
 def strangers(room):
-    """No stranger's mount is joined, whatever it says of itself, and no stranger's folder or link is used for notes."""
+    """No stranger's mount is joined, whatever it says of itself, and no stranger's folder or link
+    is used for notes."""
     if not room.is_root:
         raise LeftOut("who is not root can't become another user")
     own_runtime()
@@ -227,7 +237,7 @@ def strangers(room):
         os.chown("/run/strata", owner, owner)
         os.chmod("/run/strata", mode)
         status, _, told = run(room, "--share", image, room.place())
-        hold("a folder of %d with %o" % (owner, mode), (1, True), (status, "others may write" in told))
+        hold("a folder of %d" % owner, (1, True), (status, "others may write" in told))
     os.rmdir("/run/strata")
     os.mkdir("/run/elsewhere", 0o700)
     os.symlink("/run/elsewhere", "/run/strata")
@@ -254,7 +264,8 @@ def other_mount(room, image):
     done = subprocess.run([*words, "--background", image, theirs], **who)
     hold("a user's mount", (0, ""), (done.returncode, done.stderr))
     server, = alive()
-    row = next(line.split() for line in open_and_read("/proc/self/mountinfo").decode().splitlines() if theirs in line)
+    table = open_and_read("/proc/self/mountinfo").decode().splitlines()
+    row = next(line.split() for line in table if theirs in line)
     ticks = open_and_read("/proc/%d/stat" % server).rpartition(b")")[2].split()[19].decode()
     with open("/run/strata/" + note, "w", encoding="ascii") as out:
         out.write("%s %d %s\n" % (row[2], server, ticks))
@@ -268,13 +279,15 @@ def other_mount(room, image):
 
 
 def occupied(room):
-    """A second mount on one folder is told; --replace takes the first one away, and -o stack mounts over it."""
+    """A second mount on one folder is told; --replace takes the first one away, and -o stack mounts
+    over it."""
     first, second = room.layer([file("x", b"1")]), room.layer([file("x", b"2")])
     at = room.place()
     hold("a first mount", (0, "", ""), run(room, "--background", first, at))
     status, _, told = run(room, "--background", second, at)
-    hold("a second one", (1, "mount.py: %s: something is mounted here already: `umount %s` unmounts it, and so does --replace; "
-                             "`-o stack` mounts over it\n" % (at, at)), (status, told))
+    line = ("mount.py: %s: something is mounted here already: `umount %s` unmounts it, and so does "
+            "--replace; `-o stack` mounts over it\n" % (at, at))
+    hold("a second one", (1, line), (status, told))
     status, _, told = run(room, "--background", "--replace", "/none", at)
     hold("where an image is missing", (1, "mount.py: /none: No such file or directory\n", b"1"),
          (status, told, open_and_read(at + "/x")))
@@ -290,7 +303,8 @@ def occupied(room):
 
 
 def listed(room):
-    """--list and --json tell folder, images, process, memory and age; the table of mounts and the list of processes name them."""
+    """--list and --json tell folder, images, process, memory and age; the table of mounts and the
+    list of processes name them."""
     own_runtime()
     image, other = room.layer([file("x", b"1")]), room.layer([file("y", b"2")])
     alone, (one, two) = room.place(), (share(room, [image]) for _ in range(2))
@@ -299,16 +313,19 @@ def listed(room):
     server, = children() - {shared_server}
     status, text, fault = run(room, "--list", "--json")
     hold("--list --json", (0, ""), (status, fault))
-    found = {row["folder"]: row for row in json.loads(text) if row["folder"].startswith(room.folder)}
-    wanted = {one: ([image], shared_server), two: ([image], shared_server), alone: ([image, other], server)}
-    hold("folders, images and processes", wanted, {at: (row["images"], row["process"]) for at, row in found.items()})
-    hold("sources", {one: image, two: image, alone: image + "+1"}, {at: row["source"] for at, row in found.items()})
-    for row in found.values():
+    found = {row["folder"]: row for row in json.loads(text)}
+    wanted = {one: (image, [image], shared_server), two: (image, [image], shared_server),
+              alone: (image + "+1", [image, other], server)}
+    for at, told in wanted.items():
+        row = found[at]
+        hold("source, images and process", told, (row["source"], row["images"], row["process"]))
         hold("memory, age", (True, True), (0 < row["memory"] < 100 << 20, 0 <= row["age"] <= 600))
     status, text, fault = run(room, "--list")
     hold("--list", (0, "", "PROCESS"), (status, fault, text.split()[0]))
-    hold("rows", 1, sum(line.split()[0] == str(server) and alone in line and other in line for line in text.splitlines()))
-    hold("the server's words", ("strata@" + alone).encode(), open_and_read("/proc/%d/cmdline" % server).split(b"\0")[0])
+    row, = [line for line in text.splitlines() if line.split()[0] == str(server)]
+    hold("folder and images", [alone, image, other], row.split()[3:])
+    shown_name = open_and_read("/proc/%d/cmdline" % server).decode().split("\0")[0]
+    hold("the server's name", "%s@%s" % (os.path.basename(room.program), alone), shown_name)
     for at in (one, two, alone):
         umount(at)
     wait_until("all servers' end", lambda: not alive())
@@ -320,16 +337,19 @@ def status_of(process):
     """The fields of proc(5) that tell of privileges."""
     text = open_and_read("/proc/%d/status" % process).decode()
     rows = dict(line.split(":\t", 1) for line in text.splitlines() if ":\t" in line)
-    return {name: int(rows[name], 16) for name in CAPABILITIES}, int(rows["NoNewPrivs"]), int(rows["Seccomp"])
+    capabilities = {name: int(rows[name], 16) for name in CAPABILITIES}
+    return capabilities, int(rows["NoNewPrivs"]), int(rows["Seccomp"])
 
 
 def hold_refused_calls(room, image):
-    """Holds that a process with a server's privileges can read, and neither write, start others nor signal them."""
+    """Holds that a process with a server's privileges can read, and neither write, start others nor
+    signal them."""
     if os.uname().machine != "x86_64":
         return
     path, parent = room.write(b"data"), os.getpid()
-    tried = (lambda: os.open(path, os.O_WRONLY), lambda: os.open(path, os.O_RDONLY | os.O_TRUNC), lambda: os.unlink(path),
-             os.fork, lambda: socket.socket(), lambda: os.kill(parent, 0), lambda: os.chmod(path, 0), lambda: os.setuid(0))
+    tried = (lambda: os.open(path, os.O_WRONLY), lambda: os.open(path, os.O_RDONLY | os.O_TRUNC),
+             lambda: os.unlink(path), lambda: os.chmod(path, 0), os.fork, socket.socket,
+             lambda: os.kill(parent, 0), lambda: os.setuid(0))
     child = os.fork()
     if child == 0:
         status = 200
@@ -347,11 +367,13 @@ def hold_refused_calls(room, image):
 
 
 def privileges(room):
-    """A server has no capability, can gain none, and has a filter of calls; -o caps leaves it all."""
+    """A server has no capability, can gain none, and has a filter of calls; -o caps leaves it
+    all."""
     image, none = room.layer(items_of(b"data")), dict.fromkeys(CAPABILITIES, 0)
     filtered = 2 if os.uname().machine == "x86_64" else 0
     own = status_of(os.getpid())
-    for words, wanted in ((("-o", "readers=4,workers=4"), (none, 1, filtered)), (("-o", "caps"), own)):
+    dropped = (none, 1, filtered)
+    for words, wanted in ((("-o", "readers=4,workers=4"), dropped), (("-o", "caps"), own)):
         mount = room.mount([image], *words)
         hold("privileges with %s" % (words,), wanted, status_of(mount.server))
         hold("a file", b"data", open_and_read(mount.path(b"x")))
@@ -361,8 +383,8 @@ def privileges(room):
         os.chmod(image, 0o600)
         os.chown(image, OTHER, OTHER)
         mount = room.mount([image])
-        wanted = {**none, "CapPrm": READ_SEARCH, "CapEff": READ_SEARCH}
-        hold("with an image that is another user's alone", (wanted, 1, filtered), status_of(mount.server))
+        kept = {**none, "CapPrm": READ_SEARCH, "CapEff": READ_SEARCH}
+        hold("with another user's image", (kept, 1, filtered), status_of(mount.server))
         mount.end()
     return "none but to read, where an image is another user's alone; a filter of calls; -o caps"
 

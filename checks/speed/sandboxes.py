@@ -1,16 +1,19 @@
-"""From the command to a sandbox's first output, one and fifty at once: python3 checks sandboxes PROGRAM [WORDS..]
+"""From the command to a sandbox's first output, one and fifty at once: python3 checks sandboxes
+PROGRAM [WORDS..]
 
     python3 checks sandboxes PROGRAM [--tree FOLDER] [--paths N] [--count N] [--runs N]
 
-A sandbox is `bwrap` with a mount at /image, of which it prints a file. For each kind of mount, in turns: the clock from the
-mount command to that output and the processor time of all that was started, servers included, for one sandbox (the median of N
-runs, 9); the clock for N at once (50), each with a mount of its own, in the median and for the last one; and the memory of
-their servers (PSS). Beside strata, and strata with --share: squashfuse_ll on an image that mksquashfs makes, fuse-overlayfs and
-the kernel's overlayfs on the folder itself, and bwrap without a mount. Those that are not here are left out, by name.
+A sandbox is `bwrap` with a mount at /image, of which it prints a file. For each kind of mount, in
+turns: the clock from the mount command to that output and the processor time of all that was
+started, servers included, for one sandbox (the median of N runs, 9); the clock for N at once (50),
+each with a mount of its own, in the median and for the last one; and the memory of their servers
+(PSS). Beside strata, and strata with --share: squashfuse_ll on an image that mksquashfs makes,
+fuse-overlayfs and the kernel's overlayfs on the folder itself, and bwrap without a mount. Those
+that are not here are left out, by name.
 
-strata is installed into a folder of its own, so its modules are compiled. What python takes by itself is told, too. The tree is
-FOLDER, or one of N paths (14,496) with 4 KiB a file. It judges nothing: the status is 0 where all sandboxes print the file. It
-takes root.
+strata is installed into a folder of its own, so its modules are compiled. What python takes by
+itself is told, too. The tree is FOLDER, or one of N paths (14,496) with 4 KiB a file. It judges
+nothing: the status is 0 where all sandboxes print the file. It takes root.
 """
 import argparse
 import os
@@ -28,13 +31,15 @@ from checks.shared.mounting import adopt, children, enter
 
 NAME, DATA = "first", b"a sandbox has begun\n"
 FILES_EACH, FILE_SIZE = 11, 4096
-SANDBOX = ("bwrap --ro-bind /usr /usr --symlink usr/bin /bin --symlink usr/lib /lib --symlink usr/lib64 /lib64 --dev /dev "
-           "--proc /proc --unshare-all %s cat %s")
+SANDBOX = ("bwrap --ro-bind /usr /usr --symlink usr/bin /bin --symlink usr/lib /lib "
+           "--symlink usr/lib64 /lib64 --dev /dev --proc /proc --unshare-all %s cat %s")
 PREFIX = "/usr/local"
+ROW = "%-16s %8s %8s %10s %8s %8s %8s"
 
 
 class Kind:
-    """A kind of mount: its name, and the command that mounts at a folder, or None where a program is missing."""
+    """A kind of mount: its name, and the command that mounts at a folder, or None where a program
+    is missing."""
 
     def __init__(self, name, command, *programs):
         missing = [it for it in programs if shutil.which(it) is None]
@@ -62,7 +67,8 @@ def make_tree(folder, paths):
 def kinds(scratch, program, folder):
     """The kinds of mounts, with the images and folders that they want."""
     installed, empty = scratch + "/installed", scratch + "/empty"
-    subprocess.run([sys.executable, "-B", ROOT + "/packaging/install.py", program, installed, PREFIX, ""], check=True)
+    install = [sys.executable, "-B", ROOT + "/packaging/install.py"]
+    subprocess.run([*install, program, installed, PREFIX, ""], check=True)
     os.mkdir(empty)
     image, packed = scratch + "/tree.romfs", scratch + "/tree.squashfs"
     layers = installed + PREFIX + "/bin/strata-layers"
@@ -71,16 +77,18 @@ def kinds(scratch, program, folder):
     if shutil.which("mksquashfs"):
         subprocess.run(["mksquashfs", folder, packed, "-quiet", "-no-progress"], check=True)
     mount = installed + PREFIX + "/bin/strata-mount"
+    below = "lowerdir=%s:%s" % (empty, folder)
     return (Kind("strata", "%s --background %s DIR" % (mount, image)),
             Kind("strata --share", "%s --share %s DIR" % (mount, image)),
             Kind("squashfuse_ll", "squashfuse_ll %s DIR" % packed, "squashfuse_ll", "mksquashfs"),
-            Kind("fuse-overlayfs", "fuse-overlayfs -o lowerdir=%s:%s DIR" % (empty, folder), "fuse-overlayfs"),
-            Kind("overlayfs", "mount -t overlay overlay -o lowerdir=%s:%s DIR" % (empty, folder)),
+            Kind("fuse-overlayfs", "fuse-overlayfs -o %s DIR 2>&-" % below, "fuse-overlayfs"),
+            Kind("overlayfs", "mount -t overlay overlay -o %s DIR" % below),
             Kind("no mount", None))
 
 
 class Measured:
-    """What some sandboxes took: the clock until each printed, in order, the processor's seconds, and the servers' memory."""
+    """What some sandboxes took: the clock until each printed, in order, the processor's seconds,
+    and the servers' memory."""
 
     def __init__(self, clock, processor, memory):
         self.clock, self.processor, self.memory = sorted(clock), processor, memory
@@ -104,8 +112,8 @@ def sandboxes(scratch, kind, source, count):
     places = [tempfile.mkdtemp(dir=scratch) for _ in range(count)]
     before, waiting, clock = used(), selectors.DefaultSelector(), []
     start = time.monotonic()
-    runs = [subprocess.Popen(["sh", "-c", kind.line(at, source)], stdin=subprocess.DEVNULL, stdout=subprocess.PIPE)
-            for at in places]
+    runs = [subprocess.Popen(["sh", "-c", kind.line(at, source)], stdin=subprocess.DEVNULL,
+                             stdout=subprocess.PIPE) for at in places]
     for run in runs:
         waiting.register(run.stdout, selectors.EVENT_READ)
     while len(clock) < count:
@@ -130,7 +138,8 @@ def sandboxes(scratch, kind, source, count):
 def python_alone(count):
     """The same of python without a module, started by a shell as well."""
     before, start = used(), time.monotonic()
-    runs = [subprocess.Popen(["sh", "-c", "exec %s -I -S -c pass" % sys.executable], stdin=subprocess.DEVNULL) for _ in range(count)]
+    words = ["sh", "-c", "exec %s -I -S -c pass" % sys.executable]
+    runs = [subprocess.Popen(words, stdin=subprocess.DEVNULL) for _ in range(count)]
     for run in runs:
         run.wait()
     return time.monotonic() - start, used() - before
@@ -139,8 +148,9 @@ def python_alone(count):
 def told(name, ones, many):
     first = statistics.median(it.clock[0] for it in ones)
     processor = statistics.median(it.processor for it in ones)
-    return "%-16s %8.0f %8.0f %10.2f %8.2f %10.2f %10.1f" % (
-        name, first * 1e3, processor * 1e3, statistics.median(many.clock), many.clock[-1], many.processor, many.memory)
+    middle = statistics.median(many.clock)
+    return ROW % (name, "%.0f" % (first * 1e3), "%.0f" % (processor * 1e3), "%.2f" % middle,
+                  "%.2f" % many.clock[-1], "%.2f" % many.processor, "%.1f" % many.memory)
 
 
 def measure(scratch, asked):
@@ -156,17 +166,20 @@ def measure(scratch, asked):
     for _ in range(asked.runs):
         for kind in here:
             ones[kind.name].append(sandboxes(scratch, kind, folder, 1))
-    print("%-16s %8s %8s %10s %8s %10s %10s" % ("", "first ms", "cpu ms", "%d: median" % asked.count, "last s", "cpu s", "MiB"))
+    middle = "%d: median" % asked.count
+    print(ROW % ("", "first ms", "cpu ms", middle, "last s", "cpu s", "MiB"))
     for kind in here:
-        print(told(kind.name, ones[kind.name], sandboxes(scratch, kind, folder, asked.count)), flush=True)
+        many = sandboxes(scratch, kind, folder, asked.count)
+        print(told(kind.name, ones[kind.name], many), flush=True)
     one = [python_alone(1) for _ in range(asked.runs)]
-    print("python3 -I -S -c pass: %.0f ms, %.0f ms of processor; %d at once %.2f s, %.2f s of processor" % (
-        statistics.median(it[0] for it in one) * 1e3, statistics.median(it[1] for it in one) * 1e3, asked.count,
-        *python_alone(asked.count)))
+    clock, processor = (statistics.median(column) * 1e3 for column in zip(*one))
+    print("python3 -I -S -c pass: %.0f ms, %.0f ms of processor; %d at once %.2f s, %.2f s" % (
+        clock, processor, asked.count, *python_alone(asked.count)))
 
 
 def main():
-    parser = argparse.ArgumentParser(prog="checks sandboxes", description="From the mount command to a sandbox's first output.")
+    parser = argparse.ArgumentParser(
+        prog="checks sandboxes", description="From the mount command to a sandbox's first output.")
     parser.add_argument("program", metavar="PROGRAM")
     parser.add_argument("--tree", metavar="FOLDER", help="a folder, into which a file is written")
     parser.add_argument("--paths", metavar="N", type=int, default=14_496)
@@ -175,7 +188,8 @@ def main():
     asked = parser.parse_args()
     missing = [it for it in ("bwrap", "genromfs") if shutil.which(it) is None]
     if missing or os.geteuid() != 0:
-        print("sandboxes: left out: %s" % ("no " + ", ".join(missing) if missing else "it takes root"))
+        why = "no " + ", ".join(missing) if missing else "it takes root"
+        print("sandboxes: left out: " + why)
         return
     adopt()
     enter()

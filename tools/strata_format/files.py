@@ -36,8 +36,9 @@ def make_folder(name, above=None):
 # --- new files ---
 
 class new_file:
-    """A new file of a mode, open for writing and reading without a buffer, in an open folder, where it stays only under a name
-    that it is given. Its passing name begins with `front`; faults name the folder's place."""
+    """A new file of a mode, open for writing and reading without a buffer, in an open folder, where
+    it stays only under a name that it is given. Its passing name begins with `front`; faults name
+    the folder's place."""
 
     def __init__(self, folder, place, mode, front="", is_lasting=False):
         self.folder, self.is_lasting, self.faults = folder, is_lasting, faults_below(place)

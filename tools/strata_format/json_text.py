@@ -1,4 +1,5 @@
-"""The value of JSON text, by the part of Python's own reader that is in C: the whole of it takes longer to load than a mount."""
+"""The value of JSON text, by the part of Python's own reader that is in C: the whole of it takes
+longer to load than a mount."""
 
 
 class Reading:
@@ -12,7 +13,8 @@ SPACE = " \t\n\r"
 
 
 def value_of(data):
-    """The value of bytes; ValueError where they are no JSON, RecursionError where it is very deep."""
+    """The value of bytes; ValueError where they are no JSON, RecursionError where it is very
+    deep."""
     text = data.decode("utf-8")
     try:
         from _json import make_scanner

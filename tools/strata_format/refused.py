@@ -9,7 +9,8 @@ class Refused(Exception):
 
 
 class faults_below:
-    """Lets the faults of files that no whole path names, since they are opened below a folder, name that folder."""
+    """Lets the faults of files that no whole path names, since they are opened below a folder, name
+    that folder."""
 
     def __init__(self, place):
         self.place = place
@@ -18,8 +19,9 @@ class faults_below:
         return self
 
     def __exit__(self, kind, fault, trace):
-        is_named = isinstance(fault, OSError) and isinstance(fault.filename, (str, bytes)) and os.path.isabs(fault.filename)
-        if isinstance(fault, OSError) and not is_named:
+        if not isinstance(fault, OSError):
+            return
+        if not isinstance(fault.filename, (str, bytes)) or not os.path.isabs(fault.filename):
             raise OSError(fault.errno, fault.strerror, self.place) from None
 
 
@@ -32,14 +34,15 @@ def bytes_of(text):
 
 
 def shown(words):
-    """Bytes or text of strangers: all but visible characters of ASCII, and the backslash, as a backslash and two digits,
-    as `list` prints them. Where that is long, its beginning."""
+    """Bytes or text of strangers: all but visible characters of ASCII, and the backslash, as a
+    backslash and two digits, as `list` prints them. Where that is long, its beginning."""
     data = bytes_of(words) if isinstance(words, str) else words
     text = "".join(chr(b) if 0x21 <= b <= 0x7e and b != 0x5c else "\\%02x" % b for b in data[:SHOWN])
     return text + ".." * (len(data) > SHOWN)
 
 
 def one_line(text):
-    """Text in one line: what can't be seen stands there as `shown` has it. Where it is very long, its beginning."""
+    """Text in one line: what can't be seen stands there as `shown` has it. Where it is very long,
+    its beginning."""
     found = "".join(it if it.isprintable() else shown(it) for it in text[:LINE_MOST])
     return found + ".." * (len(text) > LINE_MOST)

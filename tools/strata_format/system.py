@@ -1,12 +1,13 @@
 """Calls of the C library that Python has no function for.
 
-They are made by the part of ctypes that is in C: the whole of it takes half as long to load as Python to start. Where a Python
-has that part in another form, ctypes itself is loaded.
+They are made by the part of ctypes that is in C: the whole of it takes half as long to load as
+Python to start. Where a Python has that part in another form, ctypes itself is loaded.
 """
 import os
 
 try:
-    from _ctypes import FUNCFLAG_CDECL, FUNCFLAG_USE_ERRNO, CFuncPtr, _SimpleCData, addressof, dlopen, get_errno
+    from _ctypes import (FUNCFLAG_CDECL, FUNCFLAG_USE_ERRNO, CFuncPtr, _SimpleCData, addressof, dlopen,
+                         get_errno)
 
     class c_int(_SimpleCData):
         _type_ = "i"

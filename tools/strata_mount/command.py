@@ -1,16 +1,18 @@
-"""Mounts romfs images, the lowest first: tools/mount.py [OPTIONS] IMAGE.. DIR, installed as strata-mount
+"""Mounts romfs images, the lowest first: tools/mount.py [OPTIONS] IMAGE.. DIR, installed as
+strata-mount
 
-An IMAGE is a file, or else the name of a container image in the store of strata-layers (image:NAME:TAG, or NAME:TAG where
-no such file is there), which stands for its layers.
+An IMAGE is a file, or else the name of a container image in the store of strata-layers
+(image:NAME:TAG, or NAME:TAG where no such file is there), which stands for its layers.
 
-It mounts an open /dev/fuse on DIR, by mount(2) where it may and else by fusermount3, and starts `strata serve --device`
-with it as standard input and output: no byte of a request or reply comes by here, but with --debug or --stats. The mount
-is ro, nosuid, nodev and default_permissions; the words of -o come after these. It waits until the mount is taken away
-(umount DIR, fusermount3 -u DIR), or returns once the mount answers (--background). SIGINT and SIGTERM take the mount away,
-and so does strata's end.
+It mounts an open /dev/fuse on DIR, by mount(2) where it may and else by fusermount3, and starts
+`strata serve --device` with it as standard input and output: no byte of a request or reply comes by
+here, but with --debug or --stats. The mount is ro, nosuid, nodev and default_permissions; the words
+of -o come after these. It waits until the mount is taken away (umount DIR, fusermount3 -u DIR), or
+returns once the mount answers (--background). SIGINT and SIGTERM take the mount away, and so does
+strata's end.
 
-Status: 0 where the mount was taken away, 1 where nothing can be mounted, 2 for the words, 130 where --background was
-interrupted before the mount answered; else strata's own, with its line.
+Status: 0 where the mount was taken away, 1 where nothing can be mounted, 2 for the words, 130 where
+--background was interrupted before the mount answered; else strata's own, with its line.
 """
 import _signal as signal
 import os
@@ -23,9 +25,10 @@ from strata_mount.options import Options, Wrong
 from strata_mount.plan import Plan
 from strata_mount.words import Reader, WrongWords
 
-FLAGS = {"-h": "help", "--help": "help", "--background": "background", "--strict": "strict", "--replace": "replace",
-         "--verify": "verify", "--share": "share", "--print": "is_printed", "--list": "list", "--json": "json",
-         "-d": "debug", "--debug": "debug", "--version": "version"}
+FLAGS = {"-h": "help", "--help": "help", "--background": "background", "--strict": "strict",
+         "--replace": "replace", "--share": "share", "--print": "is_printed", "--list": "list",
+         "--json": "json", "--verify": "verify", "-d": "debug", "--debug": "debug",
+         "--version": "version"}
 VALUED = {"-o": "o", "--store": "store", "--stats": "stats", "--strata": "program"}
 USAGE = "usage: %s [OPTIONS] IMAGE.. DIR\n"
 HELP = """
@@ -80,7 +83,8 @@ def plan_of(read, name):
         plan.images = read.names
     else:
         if len(read.names) < 2:
-            raise WrongWords("DIR or an image is missing" if read.names else "IMAGE.. and DIR are missing")
+            missing = "DIR or an image is" if read.names else "IMAGE.. and DIR are"
+            raise WrongWords(missing + " missing")
         plan.images, plan.folder = read.names[:-1], read.names[-1]
     plan.source = source_of(plan.images)
     return plan
@@ -96,8 +100,10 @@ def hold_printed(plan, names):
 
 def source_of(names):
     """What the table of mounts says of images: the lowest one's name, and how many lie on it."""
-    first = names[0] if names[0].startswith("image:") or not os.path.lexists(names[0]) else os.path.abspath(names[0])
-    return first[:SOURCE_MOST] + ("+%d" % (len(names) - 1) if len(names) > 1 else "")
+    first, *upper = names
+    if not first.startswith("image:") and os.path.lexists(first):
+        first = os.path.abspath(first)
+    return first[:SOURCE_MOST] + ("+%d" % len(upper) if upper else "")
 
 
 def main(words, name):

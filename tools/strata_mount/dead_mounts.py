@@ -18,8 +18,8 @@ def mount_over(folder):
 
 
 def is_dead(folder):
-    """Whether the mount that a folder lies in has lost its server. The kernel keeps attributes, but asks for STATFS each
-    time."""
+    """Whether the mount that a folder lies in has lost its server. The kernel keeps attributes, but
+    asks for STATFS each time."""
     try:
         os.statvfs(folder)
         return False
@@ -40,11 +40,13 @@ def is_mount(folder):
 
 
 def standing(folder, may_replace):
-    """What is said of a mount of strata at a folder, where it could be replaced or only covered; None where none is there."""
+    """What is said of a mount of strata at a folder, where it could be replaced or only covered;
+    None where none is there."""
     if not is_mount(folder) or mount_at(folder) is None:
         return None
     replaced = ", and so does --replace" * may_replace
-    return "something is mounted here already: %s%s; `-o stack` mounts over it" % (away(folder), replaced)
+    told = "something is mounted here already: %s%s; `-o stack` mounts over it"
+    return told % (away(folder), replaced)
 
 
 def told(folder, may_replace):

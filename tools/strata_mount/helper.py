@@ -1,13 +1,14 @@
 """Mounts as mount(8) asks for it: mount.strata LOWER[:UPPER].. DIR [-sfnv] [-o OPTIONS] [-t TYPE]
 
-`mount -t strata`, `mount -t fuse.strata` and lines of /etc/fstab come by here. The images stand in one word, the lowest
-first, with a colon between them; `\\:` is a colon in a name, and `\\\\` a backslash. `image:NAME:TAG` is a container image of
-the store of strata-layers. The mount is as strata-mount makes it in the background, always read-only, and its source is that
-word, so that mount(8) sees that it is mounted already.
+`mount -t strata`, `mount -t fuse.strata` and lines of /etc/fstab come by here. The images stand in
+one word, the lowest first, with a colon between them; `\\:` is a colon in a name, and `\\\\` a
+backslash. `image:NAME:TAG` is a container image of the store of strata-layers. The mount is as
+strata-mount makes it in the background, always read-only, and its source is that word, so that
+mount(8) sees that it is mounted already.
 
-It runs as root: what it starts are the program beside which it is installed, and fusermount3 in the system's own folders.
-Nothing of the environment is left for them. Status, as mount(8) has it: 0, 1 for the words, 8 for an interrupt, 32 where
-nothing was mounted.
+It runs as root: what it starts are the program beside which it is installed, and fusermount3 in the
+system's own folders. Nothing of the environment is left for them. Status, as mount(8) has it: 0, 1
+for the words, 8 for an interrupt, 32 where nothing was mounted.
 """
 import _signal as signal
 import os
@@ -27,7 +28,8 @@ SOURCE_MOST = 4095
 WRONG_WORDS, INTERRUPTED, NOT_MOUNTED = 1, 8, 32
 
 
-FLAGS = {"-h": "help", "--help": "help", "-s": "sloppy", "-f": "fake", "-n": "n", "-v": "verbose", "--version": "version"}
+FLAGS = {"-h": "help", "--help": "help", "-s": "sloppy", "-f": "fake", "-n": "n", "-v": "verbose",
+         "--version": "version"}
 VALUED = {"-o": "o", "-t": "t"}
 HELP = """\
 usage: %s LOWER[:UPPER].. DIR [-sfnv] [-o OPTIONS] [-t TYPE]

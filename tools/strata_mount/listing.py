@@ -1,6 +1,7 @@
 """Which mounts of strata there are in this namespace: --list, as text or as JSON.
 
-A server is found by what it is called with, where it was mounted among it, or, of a shared mount, by its note.
+A server is found by what it is called with, where it was mounted among it, or, of a shared mount,
+by its note.
 """
 import os
 
@@ -16,7 +17,8 @@ VALUED = ("--workers", "--readers", "--owner")
 
 
 class Server:
-    """A process that serves a mount: its number, the folder that it was mounted on first, and the images."""
+    """A process that serves a mount: its number, the folder that it was mounted on first, and the
+    images."""
 
     def __init__(self, process, words):
         self.process, self.images = process, []
@@ -29,7 +31,8 @@ class Server:
                 self.images.append(word)
 
     def memory(self):
-        """The bytes of memory that it holds, those that it shares by parts; None where that can't be seen."""
+        """The bytes of memory that it holds, those that it shares by parts; None where that can't
+        be seen."""
         try:
             with open("/proc/%d/smaps_rollup" % self.process, encoding="ascii") as it:
                 return next(int(line.split()[1]) << 10 for line in it if line.startswith("Pss:"))
@@ -58,8 +61,8 @@ def servers():
 
 
 def server_of(mount, known, noted):
-    """The process that serves a mount, among those that are known; None where it isn't found. A process whose user is another
-    than the mount's is none, whatever it says."""
+    """The process that serves a mount, among those that are known; None where it isn't found. A
+    process whose user is another than the mount's is none, whatever it says."""
     ours = [server for user, server in known if mount.is_of(user)]
     by_note = [it for it in ours if it.process == noted.get(mount.device)]
     return (by_note or [it for it in ours if it.folder == mount.place] or [None])[-1]
@@ -75,16 +78,17 @@ def rows():
         by_device[mount.device] = by_device.get(mount.device) or server_of(mount, known, noted)
     for mount in found:
         it = by_device[mount.device]
-        yield {"folder": mount.place, "source": mount.source, "images": it.images if it else None,
-               "process": it.process if it else None, "memory": it.memory() if it else None, "age": it.age() if it else None}
+        facts = (None,) * 4 if it is None else (it.images, it.process, it.memory(), it.age())
+        yield {"folder": mount.place, "source": mount.source,
+               **dict(zip(("images", "process", "memory", "age"), facts))}
 
 
 def words_of(row):
     """A row of text: what is not known is a `-`."""
     memory = "-" if row["memory"] is None else "%.1f" % (row["memory"] / (1 << 20))
     images = [row["source"]] if row["images"] is None else row["images"]
-    numbers = ["-" if row[name] is None else str(row[name]) for name in ("process", "age")]
-    return [numbers[0], memory, numbers[1], one_line(row["folder"]), " ".join(map(one_line, images))]
+    process, age = ("-" if row[name] is None else str(row[name]) for name in ("process", "age"))
+    return [process, memory, age, one_line(row["folder"]), " ".join(map(one_line, images))]
 
 
 def tell(is_json):
@@ -95,9 +99,9 @@ def tell(is_json):
         text = json.dumps(found, indent=1) + "\n"
     else:
         lines = [["PROCESS", "MIB", "SECONDS", "FOLDER", "IMAGES"], *map(words_of, found)]
-        widths = [max(len(line[at]) for line in lines) for at in range(4)]
-        text = "".join("%*s  %*s  %*s  %-*s  %s\n" % (
-            widths[0], line[0], widths[1], line[1], widths[2], line[2], widths[3], line[3], line[4]) for line in lines)
+        process, memory, age, folder = (max(map(len, column)) for column in list(zip(*lines))[:4])
+        form = "%%%ds  %%%ds  %%%ds  %%-%ds  %%s\n" % (process, memory, age, folder)
+        text = "".join(form % tuple(line) for line in lines)
     try:
         ends.put(os.fsencode(text))
     except OSError as fault:

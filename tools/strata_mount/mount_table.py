@@ -5,8 +5,9 @@ KIND = "fuse.strata"
 
 
 class Mount:
-    """A row of the table: its number, the device number of its file system (`0:53`), which folder of that it shows, where it
-    is mounted, its type and source, and the file system's own options."""
+    """A row of the table: its number, the device number of its file system (`0:53`), which folder
+    of that it shows, where it is mounted, its type and source, and the file system's own
+    options."""
     __slots__ = ("number", "device", "root", "place", "kind", "source", "options")
 
     def __init__(self, line):
@@ -14,7 +15,8 @@ class Mount:
         words, more = front.split(b" "), back.split(b" ")
         self.number, self.device = int(words[0]), words[2].decode()
         self.root, self.place = plain(words[3]), plain(words[4])
-        self.kind, self.source, self.options = plain(more[0]), plain(more[1]), more[-1].decode(errors="replace").split(",")
+        self.kind, self.source = plain(more[0]), plain(more[1])
+        self.options = more[-1].decode(errors="replace").split(",")
 
     def is_of(self, user):
         """Whether a user mounted it, which the kernel itself says of a mount of FUSE."""
@@ -22,7 +24,8 @@ class Mount:
 
 
 def plain(word):
-    """The text of a word of the table, in which a backslash and three digits stand for some bytes."""
+    """The text of a word of the table, in which a backslash and three digits stand for some
+    bytes."""
     first, *parts = word.split(b"\\")
     return os.fsdecode(first + b"".join(bytes([int(part[:3], 8)]) + part[3:] for part in parts))
 

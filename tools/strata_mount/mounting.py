@@ -29,7 +29,8 @@ def option_words(plan):
 
 def serve_words(plan):
     """How strata is called."""
-    return [plan.program, "serve", "--device", "--attributes", *option_words(plan), *map(os.path.abspath, plan.images)]
+    words = [plan.program, "serve", "--device", "--attributes", *option_words(plan)]
+    return [*words, *map(os.path.abspath, plan.images)]
 
 
 def shown_name(plan):
@@ -63,7 +64,8 @@ def served(plan, device, errors, counts):
 
 
 def prepare(plan):
-    """Makes the process that becomes the server one of its own, without privileges that it has no use for."""
+    """Makes the process that becomes the server one of its own, without privileges that it has no
+    use for."""
     os.setsid()
     images = list(map(os.path.abspath, plan.images))
     os.chdir("/")

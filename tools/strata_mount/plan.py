@@ -19,8 +19,8 @@ class Plan:
     words, owner, workers, readers = (), None, None, None
     background = strict = whole = replace = debug = verify = False
     may_replace, store = True, None
-    # one mount for all who ask for the same, of which --print tells the folder; over a mount that stands there; with all
-    # that root may do
+    # one mount for all who ask for the same, of which --print tells the folder; over a mount that
+    # stands there; with all that root may do
     share = is_printed = is_stacked = keeps_privileges = False
     # the name of the file in which requests are counted
     stats = None

@@ -38,8 +38,8 @@ def has_lost_server(folder):
 
 
 def hold_folder(plan):
-    """Looks whether a folder is there, and whether a mount of strata stands there. With --replace a dead one is taken away,
-    and one that lives later, when all else is known to be right."""
+    """Looks whether a folder is there, and whether a mount of strata stands there. With --replace a
+    dead one is taken away, and one that lives later, when all else is known to be right."""
     is_dead, folder = has_lost_server(plan.folder), os.path.realpath(plan.folder)
     if is_dead:
         if not plan.replace or not dead_mounts.replace(folder, take_away):
@@ -81,7 +81,8 @@ def hold_names(plan):
 
 
 def way_to(path):
-    """What the kernel looks at on the way to a file, links among it, each without links above it."""
+    """What the kernel looks at on the way to a file, links among it, each without links above
+    it."""
     place, names, links = "/", os.path.abspath(path).split("/"), 0
     while names:
         name = names.pop(0)

@@ -1,9 +1,10 @@
 """What a server is left of privileges when it begins: none that it has no use for.
 
-strata opens its images by their names when it begins, and then only reads them, and reads and writes the open /dev/fuse. So
-of root's capabilities it needs none, or, where an image could not be opened else, the one to read files whosever they are.
-It can gain none again, starts no other program, opens files only to read, and has the calls below alone. A script in
-strata's place needs other calls, and keeps them.
+strata opens its images by their names when it begins, and then only reads them, and reads and
+writes the open /dev/fuse. So of root's capabilities it needs none, or, where an image could not be
+opened else, the one to read files whosever they are. It can gain none again, starts no other
+program, opens files only to read, and has the calls below alone. A script in strata's place needs
+other calls, and keeps them.
 """
 import os
 import struct
@@ -46,7 +47,8 @@ def depending(number, argument, test, value, is_wanted=True):
     """The steps that allow a call if an argument passes a test, or if it does not."""
     load = step(LOAD, FIRST_ARGUMENT + argument * ARGUMENT_SIZE)
     tested = step(test, value, 1, 0) if is_wanted else step(test, value, 0, 1)
-    return [step(EQUAL, number, 0, 4), load, tested, step(GIVE, REFUSED | EPERM), step(GIVE, ALLOWED)]
+    return [step(EQUAL, number, 0, 4), load, tested,
+            step(GIVE, REFUSED | EPERM), step(GIVE, ALLOWED)]
 
 
 def filter_program(process):
@@ -87,15 +89,16 @@ def permitted():
 
 
 def drop(program, images, has_filter):
-    """Leaves this process, which becomes the server, what it needs to open these images. The program must be one that it may
-    start without privileges, else it keeps them."""
+    """Leaves this process, which becomes the server, what it needs to open these images. The
+    program must be one that it may start without privileges, else it keeps them."""
     own = permitted()
     if own:
         set_capabilities(NONE, own)
         if not os.access(program, os.X_OK, effective_ids=True):
             set_capabilities(own, own)
             return
-        needed = NONE if all(os.access(it, os.R_OK, effective_ids=True) for it in images) else READ_SEARCH & own
+        are_readable = all(os.access(it, os.R_OK, effective_ids=True) for it in images)
+        needed = NONE if are_readable else READ_SEARCH & own
         set_capabilities(needed, needed)
     called(libc.prctl(PR_SET_NO_NEW_PRIVS, 1, 0, 0, 0))
     if has_filter and is_filtered(program):

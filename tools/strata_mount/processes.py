@@ -1,4 +1,5 @@
-"""Programs that a mount starts: found, started and waited for, without what takes longer to load than a mount takes."""
+"""Programs that a mount starts: found, started and waited for, without what takes longer to load
+than a mount takes."""
 import _signal as signal
 import os
 
@@ -6,10 +7,10 @@ import os
 ERRNO_SIZE = 4
 
 
-def found_program(name, path=None):
+def found_program(name):
     """The path of a program: of a name alone, in the folders of PATH; None where there is none."""
-    folders = [""] if os.path.dirname(name) else (path or os.environ.get("PATH", os.defpath)).split(os.pathsep)
-    for folder in folders:
+    path = "" if os.path.dirname(name) else os.environ.get("PATH", os.defpath)
+    for folder in path.split(os.pathsep):
         place = os.path.join(folder, name)
         if os.access(place, os.X_OK) and not os.path.isdir(place):
             return place
@@ -17,7 +18,8 @@ def found_program(name, path=None):
 
 
 def hold_descriptors():
-    """Keeps open files that came from who called this from what is started: only its standard ends are passed on."""
+    """Keeps open files that came from who called this from what is started: only its standard ends
+    are passed on."""
     for number in map(int, os.listdir("/proc/self/fd")):
         if number > 2:
             try:
@@ -27,8 +29,8 @@ def hold_descriptors():
 
 
 class Bell:
-    """Rings at each signal that is heard, at each child's end, and when it is rung. Who waits for it misses no signal that
-    comes just before, as waitpid(2) would."""
+    """Rings at each signal that is heard, at each child's end, and when it is rung. Who waits for
+    it misses no signal that comes just before, as waitpid(2) would."""
 
     def __init__(self):
         self.heard, self.rung = os.pipe()
@@ -72,9 +74,9 @@ class Process:
 
 
 def start(words, ends, passed=(), prepared=None, shown=None, environment=None):
-    """Starts a program at a path with these words, `ends` as its standard ends, and the descriptors `passed`. The new process
-    calls `prepared` before it becomes the program. `shown` stands for the program's name in the list of processes. OSError,
-    with the path, where it can't be started."""
+    """Starts a program at a path with these words, `ends` as its standard ends, and the descriptors
+    `passed`. The new process calls `prepared` before it becomes the program. `shown` stands for the
+    program's name in the list of processes. OSError, with the path, where it can't be started."""
     told, telling = os.pipe()
     pid = os.fork()
     if pid == 0:
@@ -108,4 +110,5 @@ def become(words, ends, passed, prepared, shown, environment):
         signal.signal(number, signal.SIG_DFL)
     if prepared is not None:
         prepared()
-    os.execve(words[0], [shown or words[0], *words[1:]], os.environ if environment is None else environment)
+    environment = os.environ if environment is None else environment
+    os.execve(words[0], [shown or words[0], *words[1:]], environment)

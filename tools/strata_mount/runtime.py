@@ -1,4 +1,5 @@
-"""The folder of this boot in which a user's shared mounts are noted, and what is known of processes."""
+"""The folder of this boot in which a user's shared mounts are noted, and what is known of
+processes."""
 import errno
 import os
 
@@ -10,7 +11,8 @@ FOLDER = os.O_RDONLY | os.O_DIRECTORY | os.O_NOFOLLOW | os.O_CLOEXEC
 
 
 def runtime_folder():
-    """The folder for what lasts until the machine goes off: /run for root, who owns it, and else the user's own."""
+    """The folder for what lasts until the machine goes off: /run for root, who owns it, and else
+    the user's own."""
     if os.stat("/run").st_uid == os.geteuid():
         return "/run"
     said = os.environ.get("XDG_RUNTIME_DIR", "")
@@ -18,12 +20,14 @@ def runtime_folder():
 
 
 def opened_own(place, name, above=None):
-    """An open folder, below an open one; it must be this user's, and nobody else may write in it."""
+    """An open folder, below an open one; it must be this user's, and nobody else may write in
+    it."""
     number = os.open(name, FOLDER, dir_fd=above)
     found = os.fstat(number)
     if found.st_uid != os.geteuid() or found.st_mode & OTHERS_WRITE:
         os.close(number)
-        raise OSError(0, "shared mounts are noted in a folder of this user alone, and others may write in this one", place)
+        why = "shared mounts are noted in a directory of this user alone, and others may write to this one"
+        raise OSError(0, why, place)
     return number
 
 
@@ -42,15 +46,18 @@ def opened_notes():
     except OSError as fault:
         if fault.errno == 0:
             raise
-        what = "is a symbolic link" if fault.errno in (errno.ELOOP, errno.ENOTDIR) else fault.strerror
-        raise OSError(0, "%s; shared mounts are noted there" % what, top if above is None else place) from None
+        is_link = fault.errno in (errno.ELOOP, errno.ENOTDIR)
+        what = "is a symbolic link" if is_link else fault.strerror
+        where = top if above is None else place
+        raise OSError(0, "%s; shared mounts are noted there" % what, where) from None
     finally:
         if above is not None:
             os.close(above)
 
 
 def start_of(process):
-    """When a process has begun, in ticks of the clock since the machine did; None where there is none, or it has ended."""
+    """When a process has begun, in ticks of the clock since the machine did; None where there is
+    none, or it has ended."""
     try:
         with open("/proc/%d/stat" % process, "rb") as it:
             state, *words = it.read().rpartition(b")")[2].split()
@@ -63,8 +70,8 @@ MS_REMOUNT, MS_BIND, MS_PRIVATE = 0x20, 0x1000, 0x40000
 
 
 def bind(number, folder, flags):
-    """Shows the mount that a descriptor is open of at a folder, with these flags; what is mounted below the one is not seen
-    below the other."""
+    """Shows the mount that a descriptor is open of at a folder, with these flags; what is mounted
+    below the one is not seen below the other."""
     source, place = b"/proc/self/fd/%d" % number, os.fsencode(folder)
     called(libc.mount(source, place, None, MS_BIND, None), folder + ": bind")
     called(libc.mount(None, place, None, MS_PRIVATE, None), folder + ": bind")

@@ -1,10 +1,12 @@
 """One mount for all who ask for the same images with the same options: --share.
 
-Who comes first mounts as always, and notes the mount's device number and its server in a file, which is named by what the
-images and options are. Who comes later finds a mount of that device in this namespace, and binds it to their own folder. So
-nothing watches: the kernel ends a file system with its last mount, in whatever namespace that is, and its server with it.
+Who comes first mounts as always, and notes the mount's device number and its server in a file,
+which is named by what the images and options are. Who comes later finds a mount of that device in
+this namespace, and binds it to their own folder. So nothing watches: the kernel ends a file system
+with its last mount, in whatever namespace that is, and its server with it.
 
-A mount is joined only where its server is the process that was noted, and where the kernel says that it is this user's.
+A mount is joined only where its server is the process that was noted, and where the kernel says
+that it is this user's.
 """
 import errno
 import fcntl
@@ -28,8 +30,9 @@ ANY_PLACE = os.O_PATH | os.O_DIRECTORY | os.O_NOFOLLOW | os.O_CLOEXEC
 # --- what a stack is ---
 
 def identity_of(plan):
-    """What a plan would show, as bytes: the images' files, by device, inode, size and times, and all options; None where an
-    image is no file, or is missing. A layer of a store never changes, so that its file stands for its digest."""
+    """What a plan would show, as bytes: the images' files, by device, inode, size and times, and
+    all options; None where an image is no file, or is missing. A layer of a store never changes, so
+    that its file stands for its digest."""
     files = []
     for image in plan.images:
         try:
@@ -64,8 +67,8 @@ def noted_servers():
     found = {}
     for name in os.listdir(folder):
         try:
-            with open(os.open(name, os.O_RDONLY | os.O_NOFOLLOW | os.O_CLOEXEC, dir_fd=folder), encoding="ascii",
-                      errors="replace") as lines:
+            number = os.open(name, os.O_RDONLY | os.O_NOFOLLOW | os.O_CLOEXEC, dir_fd=folder)
+            with open(number, encoding="utf-8", errors="replace") as lines:
                 found.update(live_rows(lines))
         except OSError:
             continue  # a folder that was printed
@@ -81,8 +84,8 @@ def live_rows(lines):
 
 
 class Note:
-    """The file in which the mounts of one stack are noted: a line for each, of the device number, the server, and when that
-    began. It is locked for this run alone until it is closed."""
+    """The file in which the mounts of one stack are noted: a line for each, of the device number,
+    the server, and when that began. It is locked for this run alone until it is closed."""
 
     def __init__(self, folder, name, is_waited_for=True):
         while True:
@@ -143,8 +146,8 @@ def joinable(plan, note):
     """The mounts in this namespace that show what a plan would show."""
     devices = [device for device, _ in note.live()]
     for it in mounts() if devices else ():
-        is_ours = it.kind == KIND and it.root == "/" and it.source == plan.source and it.is_of(os.geteuid())
-        if is_ours and it.device in devices:
+        is_alike = it.kind == KIND and it.root == "/" and it.source == plan.source
+        if is_alike and it.is_of(os.geteuid()) and it.device in devices:
             yield it
 
 
@@ -172,7 +175,8 @@ def is_joined(plan, found):
 # --- from the plan to the mount ---
 
 def printed_folder(folder, place, name):
-    """The folder that --print tells of a stack, which is made where it isn't there; a dead mount is taken away."""
+    """The folder that --print tells of a stack, which is made where it isn't there; a dead mount is
+    taken away."""
     try:
         os.mkdir(name + PRINTED, 0o700, dir_fd=folder)
     except FileExistsError:
@@ -184,8 +188,8 @@ def printed_folder(folder, place, name):
 
 
 def hold_unshared(plan):
-    """Looks that a stack may be mounted that is not shared: strata says what is wrong with an image, and what is no file
-    gives its bytes to one mount alone. Without a folder it may not."""
+    """Looks that a stack may be mounted that is not shared: strata says what is wrong with an
+    image, and what is no file gives its bytes to one mount alone. Without a folder it may not."""
     if plan.is_printed:
         for image in plan.images:
             if not stat.S_ISREG(os.stat(image).st_mode):
@@ -222,7 +226,8 @@ def joined_or_mounted(plan, note, identity):
     if plan.is_printed and any(it.place == plan.folder for it in found):
         return 0, False
     if not plan.is_printed and os.geteuid() != 0:
-        why = "only root may show a shared mount at a folder; for others `strata-mount --share --print IMAGE..` tells one"
+        why = ("only root can share a mount at a directory; `strata-mount --share --print IMAGE..` "
+               "prints one for other users")
         raise OSError(0, why, plan.folder)
     if os.geteuid() == 0 and any(is_joined(plan, it) for it in found):
         return 0, False

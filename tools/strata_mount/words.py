@@ -1,7 +1,8 @@
 """Reads a command's arguments by tables of its options.
 
-It takes what argparse takes: `--name=value`, `--name value`, unique beginnings of long names, letters in one word (`-fn`),
-options and names in any order. Everything behind `--` is a name. It is here because to load argparse takes longer than to mount.
+It takes what argparse takes: `--name=value`, `--name value`, unique beginnings of long names,
+letters in one word (`-fn`), options and names in any order. Everything behind `--` is a name. It is
+here because to load argparse takes longer than to mount.
 """
 
 
@@ -10,7 +11,8 @@ class WrongWords(Exception):
 
 
 class Reader:
-    """Reads arguments: `flags` stand alone, `valued` options have a value; both are tables of field by option."""
+    """Reads arguments: `flags` stand alone, `valued` options have a value; both are tables of field
+    by option."""
 
     def __init__(self, flags, valued):
         self.flags, self.valued = flags, valued
@@ -52,7 +54,8 @@ class Reader:
             self.said[self.flags[option]] = True
 
     def add_value(self, option, value, is_attached):
-        """Notes a value. One in a word of its own that begins with a `-` is an option, and the value is missing."""
+        """Notes a value. One in a word of its own that begins with a `-` is an option, and the
+        value is missing."""
         if value is None or not is_attached and value != "-" and value.startswith("-"):
             raise WrongWords("argument %s: expected one argument" % option)
         self.said.setdefault(self.valued[option], []).append(value)
