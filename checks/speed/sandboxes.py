@@ -27,7 +27,7 @@ import tempfile
 import time
 
 from checks import ROOT
-from checks.shared.mounting import adopt, children, enter
+from checks.shared.mounting import Failed, adopt, children, enter
 
 NAME, DATA = "first", b"a sandbox has begun\n"
 FILES_EACH, FILE_SIZE = 11, 4096
@@ -81,7 +81,8 @@ def kinds(scratch, program, folder):
     return (Kind("strata", "%s --background %s DIR" % (mount, image)),
             Kind("strata --share", "%s --share %s DIR" % (mount, image)),
             Kind("squashfuse_ll", "squashfuse_ll %s DIR" % packed, "squashfuse_ll", "mksquashfs"),
-            Kind("fuse-overlayfs", "fuse-overlayfs -o %s DIR 2>&-" % below, "fuse-overlayfs"),
+            Kind("fuse-overlayfs", "fuse-overlayfs -o %s DIR 2>/dev/null" % below,
+                 "fuse-overlayfs"),
             Kind("overlayfs", "mount -t overlay overlay -o %s DIR" % below),
             Kind("no mount", None))
 
@@ -107,29 +108,37 @@ def memory_of(process):
         return 0.0
 
 
+def printed(kind, runs, start):
+    """The seconds after which each of these sandboxes has printed the file."""
+    waiting, clock = selectors.DefaultSelector(), []
+    for run in runs:
+        waiting.register(run.stdout, selectors.EVENT_READ)
+    while len(clock) < len(runs):
+        for key, _ in waiting.select():
+            if os.read(key.fd, 1 << 12) != DATA:
+                raise Failed("%s: the sandbox did not print the file" % kind.name)
+            clock.append(time.monotonic() - start)
+            waiting.unregister(key.fileobj)
+    return clock
+
+
 def sandboxes(scratch, kind, source, count):
     """What so many sandboxes at once take, each with a mount of its own."""
     places = [tempfile.mkdtemp(dir=scratch) for _ in range(count)]
-    before, waiting, clock = used(), selectors.DefaultSelector(), []
-    start = time.monotonic()
+    before, start = used(), time.monotonic()
     runs = [subprocess.Popen(["sh", "-c", kind.line(at, source)], stdin=subprocess.DEVNULL,
                              stdout=subprocess.PIPE) for at in places]
-    for run in runs:
-        waiting.register(run.stdout, selectors.EVENT_READ)
-    while len(clock) < count:
-        for key, _ in waiting.select():
-            if os.read(key.fd, 1 << 12) != DATA:
-                sys.exit("%s: the sandbox did not print the file" % kind.name)
-            clock.append(time.monotonic() - start)
-            waiting.unregister(key.fileobj)
-    for run in runs:
-        run.wait()
-        run.stdout.close()
-    memory = sum(map(memory_of, children()))
-    for at in places:
-        if kind.command is not None:
-            subprocess.run(["umount", at], check=True)
-        os.rmdir(at)
+    try:
+        clock = printed(kind, runs, start)
+        for run in runs:
+            run.wait()
+            run.stdout.close()
+        memory = sum(map(memory_of, children()))
+    finally:
+        for at in places:
+            if kind.command is not None:
+                subprocess.run(["umount", at])
+            os.rmdir(at)
     while children():
         os.waitpid(-1, 0)
     return Measured(clock, used() - before, memory)
@@ -195,7 +204,10 @@ def main():
     enter()
     with tempfile.TemporaryDirectory(prefix="sandboxes-") as scratch:
         os.chmod(scratch, 0o755)
-        measure(scratch, asked)
+        try:
+            measure(scratch, asked)
+        except Failed as wrong:
+            sys.exit("sandboxes: %s" % wrong)
 
 
 if __name__ == "__main__":
