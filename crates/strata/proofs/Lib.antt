@@ -11,3 +11,4 @@ pub mod Statuses
 pub mod Mounts
 pub mod Blames
 pub mod Told
+pub mod OverFiles
