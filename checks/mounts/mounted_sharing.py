@@ -306,6 +306,7 @@ def listed(room):
     """--list and --json tell folder, images, process, memory and age; the table of mounts and the
     list of processes name them."""
     own_runtime()
+    hold("--list makes nothing", (0, []), (run(room, "--list")[0], os.listdir("/run")))
     image, other = room.layer([file("x", b"1")]), room.layer([file("y", b"2")])
     alone, (one, two) = room.place(), (share(room, [image]) for _ in range(2))
     shared_server, = children()

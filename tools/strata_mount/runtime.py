@@ -26,20 +26,22 @@ def opened_own(place, name, above=None):
     found = os.fstat(number)
     if found.st_uid != os.geteuid() or found.st_mode & OTHERS_WRITE:
         os.close(number)
-        why = "shared mounts are noted in a directory of this user alone, and others may write to this one"
+        why = "shared mounts are noted in this user's own directory, and others may write to this one"
         raise OSError(0, why, place)
     return number
 
 
-def opened_notes():
-    """The open folder of notes, which is made where it isn't there, and its path."""
+def opened_notes(makes=True):
+    """The open folder of notes, which is made where it isn't there if `makes` says so, and its
+    path."""
     top = runtime_folder()
     place = os.path.join(top, NAME)
     above = None
     try:
         above = opened_own(top, top)
         try:
-            os.mkdir(NAME, 0o700, dir_fd=above)
+            if makes:
+                os.mkdir(NAME, 0o700, dir_fd=above)
         except FileExistsError:
             pass
         return opened_own(place, NAME, above), place

@@ -61,7 +61,7 @@ def name_of(identity):
 def noted_servers():
     """The servers of this user's shared mounts by device number."""
     try:
-        folder, _ = opened_notes()
+        folder, _ = opened_notes(makes=False)
     except OSError:
         return {}
     found = {}
