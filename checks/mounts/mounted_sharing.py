@@ -97,7 +97,7 @@ def sharing(room):
     hold("notes", 1, len(os.listdir("/run/strata")))
     umount(at)
     wait_until("the last server's end", lambda: not alive())
-    return "3 folders, one server, which ends with the last; others for other options, times, stacks"
+    return "3 folders, one server that ends with the last; other options, times, stacks have others"
 
 
 def alive():
@@ -342,26 +342,32 @@ def status_of(process):
     return capabilities, int(rows["NoNewPrivs"]), int(rows["Seccomp"])
 
 
+def has_landlock():
+    """Whether the kernel has rules for files that processes hold themselves to."""
+    return libc.syscall(444, None, 0, 1) > 0
+
+
 def hold_refused_calls(room, image):
-    """Holds that a process with a server's privileges can read, and neither write, start others nor
-    signal them."""
+    """Holds that a process with a server's privileges can read its image, and neither read other
+    files, write, start others nor signal them."""
     if os.uname().machine != "x86_64":
         return
     path, parent = room.write(b"data"), os.getpid()
-    tried = (lambda: os.open(path, os.O_WRONLY), lambda: os.open(path, os.O_RDONLY | os.O_TRUNC),
+    tried = [lambda: os.open(image, os.O_WRONLY), lambda: os.open(image, os.O_RDONLY | os.O_TRUNC),
              lambda: os.unlink(path), lambda: os.chmod(path, 0), os.fork, socket.socket,
-             lambda: os.kill(parent, 0), lambda: os.setuid(0))
+             lambda: os.kill(parent, 0), lambda: os.setuid(0)]
+    tried += [lambda: os.open(path, os.O_RDONLY)] * has_landlock()
     child = os.fork()
     if child == 0:
         status = 200
         try:
-            drop(room.program, [image], has_filter=True)
-            status = len(tried) + (os.read(os.open(path, os.O_RDONLY), 9) != b"data")
+            drop(room.program, [image], is_direct=True)
+            status = len(tried) + (os.read(os.open(image, os.O_RDONLY), 8) != b"-rom1fs-")
             for function in tried:
                 try:
                     function()
                 except OSError as fault:
-                    status -= fault.errno in (errno.EPERM, errno.ENOSYS)
+                    status -= fault.errno in (errno.EPERM, errno.ENOSYS, errno.EACCES)
         finally:
             os._exit(status)
     hold("calls that are not refused", 0, os.waitstatus_to_exitcode(os.waitpid(child, 0)[1]))
@@ -387,7 +393,8 @@ def privileges(room):
         kept = {**none, "CapPrm": READ_SEARCH, "CapEff": READ_SEARCH}
         hold("with another user's image", (kept, 1, filtered), status_of(mount.server))
         mount.end()
-    return "none but to read, where an image is another user's alone; a filter of calls; -o caps"
+    return "no capability, but to read another user's image; a filter of calls%s; -o caps" % (
+        "; no file but images" * has_landlock())
 
 
 CHECKS = (sharing, raced, revived, printed, strangers, occupied, listed, privileges)

@@ -72,8 +72,7 @@ def prepare(plan):
     unblock()
     if not plan.keeps_privileges:
         from strata_mount import privileges
-        # the relay starts a program, which the filter would not allow
-        privileges.drop(plan.program, images, has_filter=not plan.is_relayed())
+        privileges.drop(plan.program, images, is_direct=not plan.is_relayed())
 
 
 def answers_first(plan, server, bell):

@@ -3,13 +3,14 @@
 strata opens its images by their names when it begins, and then only reads them, and reads and
 writes the open /dev/fuse. So of root's capabilities it needs none, or, where an image could not be
 opened else, the one to read files whosever they are. It can gain none again, starts no other
-program, opens files only to read, and has the calls below alone. A script in strata's place needs
-other calls, and keeps them.
+program, opens no files but its images and libraries, those only to read, and has the calls below
+alone. A script in strata's place needs other files and calls, and keeps them.
 """
 import os
 import struct
 
 from strata_format.system import addressof, c_char, called, libc
+from strata_mount import landlock
 
 PR_SET_NO_NEW_PRIVS, PR_SET_SECCOMP, SECCOMP_MODE_FILTER = 38, 22, 2
 CAPABILITY_VERSION, NONE, READ_SEARCH = 0x20080522, 0, 1 << 2
@@ -88,9 +89,13 @@ def permitted():
         return next(int(line.split()[1], 16) for line in lines if line.startswith("CapPrm:"))
 
 
-def drop(program, images, has_filter):
+def drop(program, images, is_direct):
     """Leaves this process, which becomes the server, what it needs to open these images. The
-    program must be one that it may start without privileges, else it keeps them."""
+    program must be one that it may start without privileges, else it keeps them. A relay, which
+    starts the program, is no direct one, and neither is a script: they open other files, too, and
+    make other calls."""
+    is_held = is_direct and is_elf(program)
+    rules = landlock.rules_for(program, images) if is_held else None
     own = permitted()
     if own:
         set_capabilities(NONE, own)
@@ -101,14 +106,14 @@ def drop(program, images, has_filter):
         needed = NONE if are_readable else READ_SEARCH & own
         set_capabilities(needed, needed)
     called(libc.prctl(PR_SET_NO_NEW_PRIVS, 1, 0, 0, 0))
-    if has_filter and is_filtered(program):
+    if rules is not None:
+        rules.hold_self()
+    if is_held and os.uname().machine == MACHINE_NAME:
         install_filter()
 
 
-def is_filtered(program):
-    """Whether the filter is for a program: it is one of this machine's, and no script."""
-    if os.uname().machine != MACHINE_NAME:
-        return False
+def is_elf(program):
+    """Whether a program is none that another one reads."""
     try:
         with open(program, "rb", 0) as it:
             return it.read(len(ELF)) == ELF
