@@ -85,8 +85,8 @@ def set_capabilities(effective, permitted):
 
 def permitted():
     """The capabilities that this process may have."""
-    with open("/proc/self/status", encoding="ascii", errors="replace") as lines:
-        return next(int(line.split()[1], 16) for line in lines if line.startswith("CapPrm:"))
+    with open("/proc/self/status", "rb", 0) as it:
+        return int(it.read().partition(b"\nCapPrm:")[2].split(None, 1)[0], 16)
 
 
 def drop(program, images, is_direct):
