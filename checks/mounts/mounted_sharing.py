@@ -14,7 +14,7 @@ from checks.mounts.mounted_ends import OTHER, as_other, open_to_all, python_of
 from checks.mounts.mounted_trees import file, folder, wanted_of
 from checks.shared.mounting import (SCRIPT, LeftOut, called, children, fails, hold, hold_tree, libc,
                                     places, shown, wait_until)
-from strata_mount.privileges import drop
+from strata_mount.privileges import Confinement
 
 # a server ends so soon after the last mount of it
 SECOND = 1.0
@@ -72,6 +72,8 @@ def sharing(room):
     image = room.layer(items)
     places_of = [share(room, [image]) for _ in range(3)]
     server, = children()
+    with open("/run/strata/another", "wb"):
+        pass  # no note of strata's, which nobody takes away
     for at in places_of:
         hold_tree("shared", wanted_of([items]), shown(at))
         hold("the file system", device_of(places_of[0]), device_of(at))
@@ -94,7 +96,8 @@ def sharing(room):
     hold_ended(server)
     wait_until("all servers' end", lambda: not alive())
     at = share(room, [image])
-    hold("notes", 1, len(os.listdir("/run/strata")))
+    hold("notes, and what is none", 2, len(os.listdir("/run/strata")))
+    hold("what is no note", True, os.path.exists("/run/strata/another"))
     umount(at)
     wait_until("the last server's end", lambda: not alive())
     return "3 folders, one server that ends with the last; other options, times, stacks have others"
@@ -361,7 +364,7 @@ def hold_refused_calls(room, image):
     if child == 0:
         status = 200
         try:
-            drop(room.program, [image], is_direct=True)
+            Confinement(room.program, [image], is_direct=True).enter()
             status = len(tried) + (os.read(os.open(image, os.O_RDONLY), 8) != b"-rom1fs-")
             for function in tried:
                 try:
@@ -371,6 +374,16 @@ def hold_refused_calls(room, image):
         finally:
             os._exit(status)
     hold("calls that are not refused", 0, os.waitstatus_to_exitcode(os.waitpid(child, 0)[1]))
+
+
+def hold_over_libraries(room, image):
+    """Holds that a mount over folders that rules name waits for nothing."""
+    status, _, told = run(room, "--background", image, "/usr/local")
+    if status == 0:
+        umount("/usr/local")
+        wait_until("the server's end", lambda: not alive())
+    else:
+        hold("a mount over what runs it", True, "strata needs this file" in told)
 
 
 def privileges(room):
@@ -386,6 +399,7 @@ def privileges(room):
         hold("a file", b"data", open_and_read(mount.path(b"x")))
         mount.end()
     hold_refused_calls(room, image)
+    hold_over_libraries(room, image)
     if room.is_root:
         os.chmod(image, 0o600)
         os.chown(image, OTHER, OTHER)

@@ -7,7 +7,7 @@ import sys
 
 from strata_format import ends
 from strata_format.refused import one_line
-from strata_mount import preconditions
+from strata_mount import preconditions, privileges
 from strata_mount.device import DEVICE, answers, mounted, take_away
 from strata_mount.options import Options
 from strata_mount.processes import Bell, found_program, hold_descriptors, start
@@ -49,7 +49,7 @@ def relay_words(plan, errors, counts):
     return [*words, "--"], numbers
 
 
-def served(plan, device, errors, counts):
+def served(plan, device, errors, counts, confinement):
     """Starts strata on an open device, away from the signals of the terminal and from this folder.
     The device is open there alone from then on."""
     words, numbers = [], plan.marks
@@ -58,21 +58,28 @@ def served(plan, device, errors, counts):
     try:
         ends = [device, device, 2 if plan.debug else errors.fileno()]
         shown = None if plan.is_relayed() else shown_name(plan)
-        return start([*words, *serve_words(plan)], ends, numbers, lambda: prepare(plan), shown)
+        words += serve_words(plan)
+        return start(words, ends, numbers, lambda: prepare(confinement), shown)
     finally:
         os.close(device)
 
 
-def prepare(plan):
+def confinement_of(plan):
+    """What the server will be held to; None where it keeps all privileges."""
+    if plan.keeps_privileges:
+        return None
+    images = list(map(os.path.abspath, plan.images))
+    return privileges.Confinement(plan.program, images, is_direct=not plan.is_relayed())
+
+
+def prepare(confinement):
     """Makes the process that becomes the server one of its own, without privileges that it has no
     use for."""
     os.setsid()
-    images = list(map(os.path.abspath, plan.images))
     os.chdir("/")
     unblock()
-    if not plan.keeps_privileges:
-        from strata_mount import privileges
-        privileges.drop(plan.program, images, is_direct=not plan.is_relayed())
+    if confinement is not None:
+        confinement.enter()
 
 
 def answers_first(plan, server, bell):
@@ -153,10 +160,10 @@ def run(plan, counts=None, heard=None):
     errors = os.fdopen(os.memfd_create("errors"), "w+b")
     signal.pthread_sigmask(signal.SIG_BLOCK, stopping())
     hear(interrupt)
-    bell = Bell()
+    bell, confinement = Bell(), confinement_of(plan)
     device = mounted(plan)
     try:
-        server = served(plan, device, errors, counts)
+        server = served(plan, device, errors, counts, confinement)
         status = waited(plan, server, errors, bell)
         if status == 0 and plan.background and heard is not None:
             heard(server)

@@ -89,27 +89,34 @@ def permitted():
         return int(it.read().partition(b"\nCapPrm:")[2].split(None, 1)[0], 16)
 
 
-def drop(program, images, is_direct):
-    """Leaves this process, which becomes the server, what it needs to open these images. The
-    program must be one that it may start without privileges, else it keeps them. A relay, which
-    starts the program, is no direct one, and neither is a script: they open other files, too, and
-    make other calls."""
-    is_held = is_direct and is_elf(program)
-    rules = landlock.rules_for(program, images) if is_held else None
-    own = permitted()
-    if own:
-        set_capabilities(NONE, own)
-        if not os.access(program, os.X_OK, effective_ids=True):
-            set_capabilities(own, own)
-            return
-        are_readable = all(os.access(it, os.R_OK, effective_ids=True) for it in images)
-        needed = NONE if are_readable else READ_SEARCH & own
-        set_capabilities(needed, needed)
-    called(libc.prctl(PR_SET_NO_NEW_PRIVS, 1, 0, 0, 0))
-    if rules is not None:
-        rules.hold_self()
-    if is_held and os.uname().machine == MACHINE_NAME:
-        install_filter()
+class Confinement:
+    """What a server will be held to. It is made before there is a mount, since afterwards a path
+    may lead into that. A relay, which starts the program, is no direct one, and neither is a
+    script: they open other files, too, and make other calls."""
+
+    def __init__(self, program, images, is_direct):
+        self.program, self.images = program, images
+        is_held = is_direct and is_elf(program)
+        self.has_filter = is_held and os.uname().machine == MACHINE_NAME
+        self.rules = landlock.rules_for(program, images) if is_held else None
+
+    def enter(self):
+        """Leaves this process, which becomes the server, what it needs to open its images. The
+        program must be one that it may start without privileges, else it keeps them."""
+        own = permitted()
+        if own:
+            set_capabilities(NONE, own)
+            if not os.access(self.program, os.X_OK, effective_ids=True):
+                set_capabilities(own, own)
+                return
+            are_readable = all(os.access(it, os.R_OK, effective_ids=True) for it in self.images)
+            needed = NONE if are_readable else READ_SEARCH & own
+            set_capabilities(needed, needed)
+        called(libc.prctl(PR_SET_NO_NEW_PRIVS, 1, 0, 0, 0))
+        if self.rules is not None:
+            self.rules.hold_self()
+        if self.has_filter:
+            install_filter()
 
 
 def is_elf(program):

@@ -4,6 +4,7 @@ import errno
 import os
 
 from strata_format.system import called, libc
+from strata_mount.device import take_away
 
 NAME = "strata"
 OTHERS_WRITE = 0o022
@@ -26,7 +27,7 @@ def opened_own(place, name, above=None):
     found = os.fstat(number)
     if found.st_uid != os.geteuid() or found.st_mode & OTHERS_WRITE:
         os.close(number)
-        why = "shared mounts are noted in this user's own directory, and others may write to this one"
+        why = "shared mounts are noted in a user's own directory, and others may write to this one"
         raise OSError(0, why, place)
     return number
 
@@ -73,8 +74,15 @@ MS_REMOUNT, MS_BIND, MS_PRIVATE = 0x20, 0x1000, 0x40000
 
 def bind(number, folder, flags):
     """Shows the mount that a descriptor is open of at a folder, with these flags; what is mounted
-    below the one is not seen below the other."""
+    below the one is not seen below the other. Whether it does: the mount may have gone, and this
+    process may lack the right."""
     source, place = b"/proc/self/fd/%d" % number, os.fsencode(folder)
-    called(libc.mount(source, place, None, MS_BIND, None), folder + ": bind")
-    called(libc.mount(None, place, None, MS_PRIVATE, None), folder + ": bind")
-    called(libc.mount(None, place, None, MS_REMOUNT | MS_BIND | flags, None), folder + ": bind")
+    if libc.mount(source, place, None, MS_BIND, None) != 0:
+        return False
+    try:
+        for flag in (MS_PRIVATE, MS_REMOUNT | MS_BIND | flags):
+            called(libc.mount(None, place, None, flag, None), folder + ": bind")
+    except OSError:
+        take_away(folder)
+        raise
+    return True

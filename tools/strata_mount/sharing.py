@@ -21,7 +21,7 @@ from strata_mount.preconditions import hold_images
 from strata_mount.runtime import bind, opened_notes, start_of
 
 NOTE = os.O_RDWR | os.O_CREAT | os.O_NOFOLLOW | os.O_CLOEXEC
-NAME_SIZE = 16
+NAME_SIZE, HEX = 16, frozenset("0123456789abcdef")
 # the end of the name of a folder that --print tells
 PRINTED = ".tree"
 ANY_PLACE = os.O_PATH | os.O_DIRECTORY | os.O_NOFOLLOW | os.O_CLOEXEC
@@ -56,6 +56,11 @@ def name_of(identity):
     return blake2b(identity, digest_size=NAME_SIZE).hexdigest()
 
 
+def is_name(text):
+    """Whether a file is named as a stack."""
+    return len(text) == 2 * NAME_SIZE and HEX.issuperset(text)
+
+
 # --- notes ---
 
 def noted_servers():
@@ -65,13 +70,13 @@ def noted_servers():
     except OSError:
         return {}
     found = {}
-    for name in os.listdir(folder):
+    for name in filter(is_name, os.listdir(folder)):
         try:
             number = os.open(name, os.O_RDONLY | os.O_NOFOLLOW | os.O_CLOEXEC, dir_fd=folder)
             with open(number, encoding="utf-8", errors="replace") as lines:
                 found.update(live_rows(lines))
         except OSError:
-            continue  # a folder that was printed
+            continue  # it has just gone
     os.close(folder)
     return found
 
@@ -119,13 +124,11 @@ class Note:
 
 def sweep(folder):
     """Takes away notes of mounts that are all gone, with the folders that were printed for them."""
-    for name in os.listdir(folder):
+    for name in filter(is_name, os.listdir(folder)):
         try:
-            note = None if name.endswith(PRINTED) else Note(folder, name, is_waited_for=False)
+            note = Note(folder, name, is_waited_for=False)
         except OSError:
             continue  # another run has locked it, or it has just gone
-        if note is None:
-            continue
         if not note.live() and is_removed(folder, name + PRINTED):
             os.unlink(name, dir_fd=folder)
         note.close()
@@ -166,8 +169,7 @@ def is_joined(plan, found):
     try:
         if mount_number(number) != found.number:
             return False
-        bind(number, plan.folder, flags_of(plan.words))
-        return True
+        return bind(number, plan.folder, flags_of(plan.words))
     finally:
         os.close(number)
 
@@ -202,6 +204,10 @@ def attempt(plan):
     if identity is None:
         hold_unshared(plan)
         return mounting.run(plan)
+    if not plan.is_printed and os.geteuid() != 0:
+        why = ("only root can share a mount at a directory; `strata-mount --share --print IMAGE..` "
+               "prints one for other users")
+        raise OSError(0, why, plan.folder)
     folder, place = opened_notes()
     name = name_of(identity)
     note = Note(folder, name)
@@ -225,10 +231,6 @@ def joined_or_mounted(plan, note, identity):
     found = list(joinable(plan, note))
     if plan.is_printed and any(it.place == plan.folder for it in found):
         return 0, False
-    if not plan.is_printed and os.geteuid() != 0:
-        why = ("only root can share a mount at a directory; `strata-mount --share --print IMAGE..` "
-               "prints one for other users")
-        raise OSError(0, why, plan.folder)
     if os.geteuid() == 0 and any(is_joined(plan, it) for it in found):
         return 0, False
     return mounting.run(plan, None, lambda server: noted(plan, note, identity, server)), True
