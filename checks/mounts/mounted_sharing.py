@@ -333,7 +333,8 @@ def listed(room):
     for at in (one, two, alone):
         umount(at)
     wait_until("all servers' end", lambda: not alive())
-    hold("--list of none", "[]\n", run(room, "--list", "--json")[1])
+    left = json.loads(run(room, "--list", "--json")[1])
+    hold("what is listed at the end", [], [it for it in left if it["folder"].startswith(room.folder)])
     return "two folders of one mount and one of another, with images, process, memory and age"
 
 
