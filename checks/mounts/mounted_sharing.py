@@ -98,7 +98,11 @@ def sharing(room):
     at = share(room, [image])
     hold("notes, and what is none", 2, len(os.listdir("/run/strata")))
     hold("what is no note", True, os.path.exists("/run/strata/another"))
-    umount(at)
+    called(libc.mount(b"tmpfs", at.encode(), b"tmpfs", 0, None))
+    beside = share(room, [image])
+    hold_tree("beside a mount that is covered", wanted_of([items]), shown(beside))
+    for it in (at, at, beside):
+        umount(it)
     wait_until("the last server's end", lambda: not alive())
     return "3 folders, one server that ends with the last; other options, times, stacks have others"
 
@@ -256,12 +260,12 @@ def other_mount(room, image):
     if not shutil.which("fusermount3"):
         return "left out: no fusermount3"
     open_to_all(room)
+    os.chmod(image, 0o644)
     at = share(room, [image])
     note, = os.listdir("/run/strata")
     umount(at)
     wait_until("all servers' end", lambda: not alive())
     words, who, _ = user_words(room)
-    os.chmod(image, 0o644)
     theirs = room.place()
     os.chown(theirs, OTHER, OTHER)
     done = subprocess.run([*words, "--background", image, theirs], **who)
