@@ -125,4 +125,4 @@ def main(words, name):
     except WrongWords as wrong:
         ends.write(USAGE % name + "%s: error: %s\n" % (name, wrong))
         return WRONG_WORDS
-    return attempt(plan)
+    return ends.leave(attempt(plan))

@@ -151,4 +151,4 @@ def main(words, name="mount.strata"):
     status = mounted(plan)
     if status == 0 and "verbose" in read.said:
         ends.write("%s: %s on %s\n" % (name, one_line(plan.source), one_line(plan.folder)), sys.stdout)
-    return status
+    return ends.leave(status)

@@ -70,7 +70,7 @@ def server_of(mount, known, noted):
 
 def rows():
     """What there is to say of each mount, in the order of mounting."""
-    found = [mount for mount in mounts() if mount.kind == KIND]
+    found = mounts(KIND)
     known, noted = list(servers()), noted_servers()
     # a mount that is bound to other folders has one server
     by_device = {}

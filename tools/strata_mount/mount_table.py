@@ -30,10 +30,11 @@ def plain(word):
     return os.fsdecode(first + b"".join(bytes([int(part[:3], 8)]) + part[3:] for part in parts))
 
 
-def mounts():
-    """What is mounted, in the order of mounting."""
+def mounts(kind=None):
+    """What is mounted, of one type or of all, in the order of mounting."""
+    mark = b" - %s " % os.fsencode(kind or "")
     with open("/proc/self/mountinfo", "rb") as lines:
-        return [Mount(line) for line in lines]
+        return [Mount(line) for line in lines if kind is None or mark in line]
 
 
 def mount_at(folder):

@@ -148,8 +148,8 @@ def is_removed(folder, name):
 def joinable(plan, note):
     """The mounts in this namespace that show what a plan would show."""
     devices = [device for device, _ in note.live()]
-    for it in mounts() if devices else ():
-        is_alike = it.kind == KIND and it.root == "/" and it.source == plan.source
+    for it in mounts(KIND) if devices else ():
+        is_alike = it.root == "/" and it.source == plan.source
         if is_alike and it.is_of(os.geteuid()) and it.device in devices:
             yield it
 
