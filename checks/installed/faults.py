@@ -42,7 +42,7 @@ def images(root):
     wanted = (
         ("none.romfs", 1, "image 1: cannot be read\n" + front % ("image", "none.romfs", "no such file or directory")),
         ("folder", 1, "image 1: cannot be read\n" + front % ("image", "folder", "it is a directory; "
-                                                             "`genromfs -d FOLDER -f IMAGE` makes an image from a directory")),
+                                                             "`strata-layers image FOLDER IMAGE` makes an image from a directory")),
         ("cut.romfs", 3, "layer 1 at 00000008: bad full size\n" + front % ("layer", "cut.romfs", cut)),
         ("empty.romfs", 3, "layer 1 at 00000000: too short\n" + front % ("layer", "empty.romfs", "the file is empty")))
     for name, status, lines in wanted:
@@ -109,7 +109,7 @@ def kinds(root):
         (at(0, b"hsqs"), "a squashfs image; strata serves romfs: `unsquashfs -d FOLDER %s`"),
         (at(1024, struct.pack("<I", 0xE0F5E1E2)), "an erofs image; strata serves romfs: `fsck.erofs --extract=FOLDER %s`"),
         (at(1024 + 56, struct.pack("<H", 0xEF53)), "an ext4 image; strata serves romfs: "),
-        (archive(["bin/sh"]), "a tar archive: `tar xf %s -C FOLDER`"),
+        (archive(["bin/sh"]), "a tar archive: `strata-layers image - IMAGE < %s` makes an image of it"),
         (archive(["oci-layout", "index.json"]), "an archived container image: `skopeo copy oci-archive:%s oci:LAYOUT:TAG`"),
         (archive(["a/layer.tar", "manifest.json"]), "an archived container image: `skopeo copy docker-archive:%s "),
         (at(0, b"\x7fELF"), "a program or library (ELF), not an image"),

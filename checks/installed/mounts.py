@@ -16,7 +16,7 @@ OTHER = 65534
 # every word of fstab(5) and mount(8) that says when, by whom, or how a file system of the usual kind is mounted
 FSTAB_WORDS = ("defaults,auto,nouser,nofail,_netdev,nonempty,async,relatime,nodiratime,lazytime,x-systemd.automount,"
                "x-systemd.requires=srv.mount,x-systemd.requires-mounts-for=/data2,X-mount.mkdir,comment=of a tree,strict,whole,"
-               "workers=2,noexec,nosuid,nodev,allow_other")
+               "workers=2,noexec,nosuid,nodev,allow_other,modeless")
 
 
 def tried(root):

@@ -12,7 +12,7 @@ FORMATS = ("man5/strata-attributes.5",)
 MAN = "/usr/local/share/man/"
 SHARE = "/usr/local/share/"
 SUBCOMMANDS = ("check", "list", "serve", "socket")
-VERBS = ("convert", "pull", "images", "verify", "remove", "prune", "config", "attributes")
+VERBS = ("image", "convert", "pull", "images", "verify", "remove", "prune", "config", "attributes")
 OPTION = re.compile(r"(?<![\w-])(--[a-z][a-z-]*|-[A-Za-z])(?![\w-])")
 COMPLETED = {"bash": SHARE + "bash-completion/completions/%s", "zsh": SHARE + "zsh/site-functions/_%s",
              "fish": SHARE + "fish/vendor_completions.d/%s.fish"}

@@ -1,5 +1,6 @@
 """Tests of tools/layers.py: the folder that it writes, its words, and the demo's layout. A test is a function of a room."""
 import gzip
+import hashlib
 import os
 import subprocess
 
@@ -61,8 +62,10 @@ def test_same_bytes(room):
         room.convert(layout_of(room.name(), [made], (packed,)).path, folder)
         with open(os.path.join(folder, "00.romfs"), "rb") as it:
             images.append(it.read())
-    # the volume's name is the blob's digest
-    expect(images[0][96:] == images[1][96:] and images[0][:8] == b"-rom1fs-" and len(images[0]) % 1024 == 0, "the images differ")
+    expect(images[0] == images[1] and images[0][:8] == b"-rom1fs-", "the images differ")
+    # the volume's name is the digest of the archive
+    name = b"sha256:" + hashlib.sha256(made).hexdigest().encode() + b"\0"
+    expect(images[0][16:16 + len(name)] == name and len(images[0]) % 1024 == 0, "its name differs")
 
 
 def test_command(room):
@@ -82,7 +85,7 @@ def test_command(room):
 def test_wrong_words(room):
     """Wrong words are told in one line, which says what is wrong with them, with status 2."""
     place = layout_of(room.name(), [archive([file("a", b"1")])]).path
-    verbs = "neither a directory nor a verb; the verbs are convert, pull, images, verify, remove, prune, config, attributes"
+    verbs = "neither a directory nor a verb; the verbs are image, convert, pull, images, verify, remove, prune, config, attributes"
     for line, *words in (
             ("a verb or LAYOUT[:TAG] FOLDER is missing",),
             ("FOLDER for the images of %s is missing" % place, place),

@@ -23,7 +23,7 @@ from checks.shared.random_inputs import random_stack
 from checks.shared.random_trailers import with_trailer
 from strata_format.system import called, libc
 
-ALL = ("-o", "allow_other")
+ALL = ("-o", "allow_other,modeless")
 # what the kernel shows of an owner that it takes for none
 NO_OWNER, SHOWN = 2 ** 32 - 1, 65534
 PR_GET_NO_NEW_PRIVS = 39

@@ -222,8 +222,12 @@ def shared(room):
         raise LeftOut("who is not root can't become another user")
     items = [file("x", random.Random(8).randbytes(MIB + 3)), folder("d"), file("d/y", b"y")]
     image = room.layer(items)
-    for words, number in (([], errno.EACCES), (["-o", "allow_other"], 0), (["-o", "max_read=4096,noatime"], errno.EACCES)):
-        mount = room.mount([image], *words)
+    told = ("mount.py: %s: without modes and owners, so with allow_other everybody can read all files; "
+            "`strata-layers image` keeps them, and -o modeless says that this is meant\n" % image)
+    for option, number, line in (("", errno.EACCES, ""), ("allow_other", 0, told), ("allow_other,modeless", 0, ""),
+                                 ("max_read=4096,noatime", errno.EACCES, "")):
+        words = ["-o", option] if option else []
+        mount = room.mount([image], *words, told=line.encode())
         hold_tree("mounted with %s" % words, wanted_of([items]), shown(mount.at))
         opened = os.open(mount.path(b"x"), os.O_RDONLY | os.O_DIRECT)
         hold("data past the pages", True, os.pread(opened, 300000, 5) == items[0].data[5:300005])

@@ -90,11 +90,31 @@ def write_at(number, data, at):
         at, data = at + count, data[count:]
 
 
+def data_parts(number, size):
+    """Where data of the first `size` bytes of an open file begin and end. Between them are holes."""
+    end = 0
+    while end < size:
+        try:
+            start = os.lseek(number, end, os.SEEK_DATA)
+        except OSError as fault:
+            if fault.errno != errno.ENXIO:
+                raise
+            return
+        end = min(os.lseek(number, start, os.SEEK_HOLE), size)
+        if start < end:
+            yield start, end
+
+
 def copy_front(source, out, size):
-    """Copies the first bytes of an open file into a new one; an error where there are fewer."""
-    at = 0
-    while at < size:
-        count = os.sendfile(out, source, at, min(PIECE, size - at))
-        if count == 0:
-            raise OSError(errno.EIO, os.strerror(errno.EIO))
-        at += count
+    """Copies the first bytes of an open file into a new one, with their holes; an error where there
+    are fewer."""
+    os.ftruncate(out, size)
+    for at, end in data_parts(source, size):
+        os.lseek(out, at, os.SEEK_SET)
+        while at < end:
+            count = os.sendfile(out, source, at, min(PIECE, end - at))
+            if count == 0:
+                raise OSError(errno.EIO, os.strerror(errno.EIO))
+            at += count
+    if os.fstat(source).st_size < size:
+        raise OSError(errno.EIO, os.strerror(errno.EIO))

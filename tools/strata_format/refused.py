@@ -4,8 +4,52 @@ import os
 SHOWN, LINE_MOST = 200, 4200
 
 
+# so many lines tell what is wrong with entries of one layer or folder
+TOLD_MOST = 10
+
+
 class Refused(Exception):
-    """Why something is refused, as one line."""
+    """Why something is refused, as one line; and lines of what else is wrong with it."""
+
+    def __init__(self, line, others=()):
+        super().__init__(line)
+        self.others = list(others)
+
+    def lines(self):
+        return [str(self), *self.others]
+
+    def of(self, words):
+        """The same, each line of it said of what the words name."""
+        line, *others = ("%s: %s" % (words, it) for it in self.lines())
+        return Refused(line, others)
+
+
+class BadEntry(Refused):
+    """Why one entry of a layer or folder is refused; the next ones can be looked at."""
+
+
+class NotHeld(BadEntry):
+    """What no image holds. Without this entry it can be made."""
+
+
+class Faults:
+    """What is wrong with entries, of which one must not hide which others there are."""
+
+    def __init__(self):
+        self.found, self.more = [], 0
+
+    def note(self, refused):
+        for line in refused.lines():
+            if len(self.found) < TOLD_MOST:
+                self.found.append(line)
+            else:
+                self.more += 1
+
+    def settle(self):
+        """Refused where something was noted."""
+        if self.found:
+            more = [".. and %d more" % self.more] * bool(self.more)
+            raise Refused(self.found[0], self.found[1:] + more)
 
 
 class faults_below:

@@ -1,8 +1,7 @@
 """The folders that stacked layers show, for the layer on top of them: what their rows say of those that it only implies."""
 from strata_format.read_romfs import ReadImage
 from strata_format.refused import Refused
-
-MARKER, OPAQUE = b".wh.", b".wh..wh..opq"
+from strata_layers.entries import MARKER, OPAQUE
 
 
 class Below:
@@ -60,7 +59,7 @@ def below(folders, name):
 
 
 def implied(root):
-    """The folders of a layer, as romfs.Image has them, that no entry said anything of and that layers below may show, each
+    """The folders of a layer, as Image has them, that no entry said anything of and that layers below may show, each
     with its path."""
     path, todo = [], [iter([(None, root)])]
     while todo:

@@ -19,7 +19,7 @@ from strata_format import ends
 from strata_format.refused import Refused, shown
 from strata_format.version import command, version
 
-VERBS = ("convert", "pull", "images", "verify", "remove", "prune", "config", "attributes")
+VERBS = ("image", "convert", "pull", "images", "verify", "remove", "prune", "config", "attributes")
 
 
 def say(line):
@@ -89,7 +89,8 @@ def main(words):
     try:
         return run(words)
     except Refused as refused:
-        say_fault(str(refused))
+        for line in refused.lines():
+            say_fault(line)
     except OSError as fault:
         where = shown(fault.filename if isinstance(fault.filename, (str, bytes)) else words[-1])
         say_fault("%s: %s" % (where, (fault.strerror or str(fault)).lower()))

@@ -4,23 +4,22 @@ import os
 
 from strata_format.progress import Progress
 from strata_format.refused import Refused, shown
-from strata_layers.layout_images import PACKED_ROMFS, ROMFS, all_images, image_of
+from strata_layers.layout_images import PACKED_ROMFS, PART, ROMFS, all_images, image_of
 from strata_layers.layout_writer import LayoutWriter, check_tag, split_new_name
 from strata_layers.layouts import INDEXES, MANIFESTS, digest_of
 from strata_layers.packing import packed_pieces
+from strata_layers.store import pieces_of
 from strata_layers.store_layers import Maker
 
 CONFIG = "application/vnd.oci.image.config.v1+json"
 # what a layer was made of stands in its annotations under this key
 SOURCE = "vnd.strata.layer.source"
-PIECE = 1 << 18
 
 
-def pieces_of(layer, number, where, heard):
+def checked_pieces(layer, number, where, heard):
     """The bytes of an open layer, in pieces; Refused at the end where its digest is wrong."""
-    found, at = hashlib.sha256(), 0
-    for data in iter(lambda: os.pread(number, PIECE, at), b""):
-        at += len(data)
+    found = hashlib.sha256()
+    for data in pieces_of(number):
         found.update(data)
         heard(len(data))
         yield data
@@ -36,10 +35,12 @@ class Converter:
         self.maker, self.target, self.packing, self.store = maker, target, packing, maker.store
 
     def image(self, image, layers):
-        """Writes an image with its layers of the store; the descriptor of its manifest."""
-        rootfs = {**image.config["rootfs"], "diff_ids": ["sha256:" + it.digits for it in layers]}
+        """Writes an image with its layers of the store, a list of images each; the descriptor of
+        its manifest."""
+        each = [(it, number) for number, found in enumerate(layers) for it in found]
+        rootfs = {**image.config["rootfs"], "diff_ids": ["sha256:" + it.digits for it, _ in each]}
         described = self.target.document(CONFIG, {**image.config, "rootfs": rootfs})
-        found = [self.layer(it, source_of(image, number)) for number, it in enumerate(layers)]
+        found = [self.layer(it, source_of(image, number)) for it, number in each]
         value = {"schemaVersion": 2, "mediaType": MANIFESTS[0], "config": described,
                  "layers": found}
         if isinstance(image.manifest.get("annotations"), dict):
@@ -50,8 +51,9 @@ class Converter:
         """Writes a layer; its descriptor."""
         digits, size = self.blob(layer)
         media = ROMFS + ("+" + self.packing if self.packing else "")
+        notes = {SOURCE: source, **({PART: str(layer.part + 1)} if layer.part else {})}
         return {"mediaType": media, "digest": "sha256:" + digits, "size": size,
-                "annotations": {SOURCE: source}}
+                "annotations": notes}
 
     def blob(self, layer):
         """Writes the blob of a layer; its digits and its size."""
@@ -73,7 +75,7 @@ class Converter:
         if found is not None and self.target.has(*found):
             return found
         with Progress("packed", layer.size) as progress:
-            pieces = pieces_of(layer, number, self.store.name, progress.add)
+            pieces = checked_pieces(layer, number, self.store.name, progress.add)
             found = self.target.blob(packed_pieces(pieces, self.packing))
         self.maker.note_packed(layer, self.packing, found)
         return found

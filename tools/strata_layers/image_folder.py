@@ -7,7 +7,7 @@ from strata_format.files import new_file, open_folder
 from strata_format.progress import Progress
 from strata_format.refused import Refused, shown
 from strata_layers.below import Below
-from strata_layers.layer_images import write_layer
+from strata_layers.layer_images import LayerWriter
 from strata_layers.lost import Lost
 from strata_layers.open_layout import open_layout
 
@@ -61,9 +61,11 @@ def write_images(word, path):
         with Progress("layers", sum(it.size for it in descriptors)) as progress:
             layout.heard = progress.add
             for number, descriptor in enumerate(descriptors):
-                with folder.new_file() as out:
-                    write_layer(layout, number, descriptor, out, lost, below)
-                    below.add(out.fileno())
+                made = len(folder.new)
+                LayerWriter(layout, number, descriptor).write(folder.new_file, lost, below)
+                for new in folder.new[made:]:
+                    below.add(new.file.fileno())
+                    new.file.close()
         return folder.keep(), lost
     finally:
         folder.close()

@@ -6,6 +6,7 @@ together.
     image.archives[0]    the digest of what it was before it was packed
 """
 import collections
+import re
 
 from strata_format.refused import Refused, shown
 from strata_layers.layouts import INDEXES, LAYERS_MOST, MANIFESTS, NESTED_MOST, PACKED, descriptor_of, field
@@ -14,7 +15,11 @@ ROMFS = "application/vnd.strata.layer.v1.romfs"
 # media types of layers that are images of romfs, each with how it is packed
 PACKED_ROMFS = {ROMFS: "", ROMFS + "+gzip": "gzip", ROMFS + "+zstd": "zstd"}
 
-Image = collections.namedtuple("Image", "descriptor manifest config media layers archives")
+# where a layer takes several images, the higher ones say their place among them, from 2 on
+PART = "vnd.strata.layer.part"
+PARTS = re.compile("[2-9]|[1-9][0-9]{1,2}")
+
+Image = collections.namedtuple("Image", "descriptor manifest config media layers archives parts")
 
 
 def layers_in(manifest, where):
@@ -37,6 +42,16 @@ def archives_in(config, count, where):
     return found
 
 
+def parts_in(manifest):
+    """Of each layer of a manifest which part of a layer it is, from 0 on; what is no image of romfs
+    has no parts."""
+    found = []
+    for it in manifest["layers"]:
+        said = it.get("annotations", {}).get(PART) if it["mediaType"] in PACKED_ROMFS else None
+        found.append(int(said) - 1 if isinstance(said, str) and PARTS.fullmatch(said) else 0)
+    return found
+
+
 def image_of(layout, descriptor, asked=None):
     """The image of a manifest; where a platform is asked for, it must be of it."""
     manifest, where = layout.document(descriptor)
@@ -46,7 +61,8 @@ def image_of(layout, descriptor, asked=None):
     if asked and config.get("architecture", asked[0]) != asked[0]:
         raise Refused("%s: is for %s" % (where, shown(str(config["architecture"]))))
     archives = archives_in(config, len(layers), where)
-    return Image(descriptor, manifest, config, described.media, layers, archives)
+    parts = parts_in(manifest)
+    return Image(descriptor, manifest, config, described.media, layers, archives, parts)
 
 
 def all_images(layout, tag):

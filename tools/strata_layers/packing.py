@@ -22,7 +22,8 @@ UNPACKED_MOST = 1 << 34
 # as Python's own module says it
 CUT_OFF = "Compressed file ended before the end-of-stream marker was reached"
 PACKINGS = ("gzip", "zstd")
-NO_ZSTD = "zstd, which this python has no module for (3.14 and later have), and there is no zstd"
+NO_ZSTD = ("zstd wants the program zstd: install the package zstd (this python has no module for it;"
+           " 3.14 and later have)")
 
 
 def zstd_module():
@@ -36,7 +37,7 @@ def zstd_module():
 def zstd_program():
     program = shutil.which("zstd")
     if program is None:
-        raise Refused("packed by " + NO_ZSTD)
+        raise Refused(NO_ZSTD)
     return program
 
 

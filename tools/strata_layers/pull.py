@@ -8,7 +8,7 @@ from strata_layers.fetch import TAG, TRANSPORT, fetched, split_reference
 from strata_layers.layout_images import image_of
 from strata_layers.layouts import digest_of
 from strata_layers.open_layout import open_layout
-from strata_layers.store_images import LATEST, StoredImage, put_image, split_image
+from strata_layers.store_images import LATEST, StoredImage, count_of, put_image, split_image
 from strata_layers.store_layers import Maker
 
 LAYOUT = "oci:"
@@ -56,9 +56,9 @@ def pull(store, source, name, platform, lost):
             image = image_of(layout, found, platform)
             with Progress("layers", sum(it.size for it in image.layers)) as progress:
                 layout.heard = progress.add
-                layers = maker.layers(layout, image)
+                layers = [it for found in maker.layers(layout, image) for it in found]
         put_image(store, name, StoredImage(source, digest, layers, image.config))
-    return name, len(layers), maker.made_count
+    return name, count_of(layers), maker.made_count
 
 
 def name_said(source):

@@ -16,7 +16,7 @@ import os
 import stat
 
 from strata_format import ends
-from strata_format.files import READING, make_folder, new_file, open_folder, write_all
+from strata_format.files import READING, data_parts, make_folder, new_file, open_folder, write_all
 from strata_format.json_text import value_of
 from strata_format.progress import unheard
 from strata_format.refused import Refused, faults_below, shown
@@ -26,6 +26,7 @@ DIGEST, DIGITS, DIGITS_COUNT = "sha256:", frozenset("0123456789abcdef"), 64
 # the end of the name of a layer that is set aside
 DAMAGED = ".damaged"
 PIECE = 1 << 18
+ZEROS = bytes(PIECE)
 SMALL_MOST = 8 << 20
 
 
@@ -51,17 +52,36 @@ def digits_of(digest, where):
     return digest.partition(":")[2]
 
 
+def pieces_of(number):
+    """The bytes of an open file, in pieces. Its holes are not read."""
+    size, at = os.fstat(number).st_size, 0
+    for start, end in data_parts(number, size):
+        yield from zeros(start - at)
+        at = start
+        while at < end:
+            data = os.pread(number, min(PIECE, end - at), at)
+            if not data:
+                return
+            yield data
+            at += len(data)
+    yield from zeros(size - at)
+
+
+def zeros(size):
+    for _ in range(size // PIECE):
+        yield ZEROS
+    if size % PIECE:
+        yield ZEROS[:size % PIECE]
+
+
 def file_digits(number, heard=unheard):
     """The digits of the digest of an open file."""
-    import hashlib  # here, as shutil below: a mount by name needs neither, and they load longer than it takes
-    found, at = hashlib.sha256(), 0
-    while True:
-        data = os.pread(number, PIECE, at)
-        if not data:
-            return found.hexdigest()
+    import hashlib  # here, as shutil below: a mount by name needs neither, and they load longer
+    found = hashlib.sha256()
+    for data in pieces_of(number):
         found.update(data)
         heard(len(data))
-        at += len(data)
+    return found.hexdigest()
 
 
 def is_locked_at_once(number):

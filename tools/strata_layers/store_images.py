@@ -16,7 +16,8 @@ LATEST = "latest"
 # what is known of an image: where it came from, its manifest's digest there, its layers from the
 # lowest up, and its configuration
 StoredImage = collections.namedtuple("StoredImage", "source manifest layers config")
-StoredLayer = collections.namedtuple("StoredLayer", "digits size")
+# an image of a layer; where a layer takes several, the higher ones are its parts from 1 on
+StoredLayer = collections.namedtuple("StoredLayer", "digits size part", defaults=(0,))
 
 
 def is_word(text, not_first):
@@ -71,20 +72,33 @@ def image_of_json(value, where):
     layers, config = value.get("layers"), value.get("config")
     if not isinstance(layers, list) or not layers or not isinstance(config, dict):
         raise Refused("%s: no good description of an image" % where)
-    found = []
-    for it in layers:
-        if not isinstance(it, dict) or not isinstance(it.get("size"), int):
-            raise Refused("%s: no good description of a layer" % where)
-        found.append(StoredLayer(digits_of(it.get("digest"), where), it["size"]))
+    found = [layer_of_json(it, where) for it in layers]
     return StoredImage(str(value.get("source")), str(value.get("manifest")), found, config)
+
+
+def layer_of_json(value, where):
+    said = value if isinstance(value, dict) else {}
+    size, part = said.get("size"), said.get("part", 0)
+    if not isinstance(size, int) or not isinstance(part, int):
+        raise Refused("%s: no good description of a layer" % where)
+    return StoredLayer(digits_of(said.get("digest"), where), size, part)
+
+
+def layer_json(layer):
+    value = {"digest": "sha256:" + layer.digits, "size": layer.size}
+    return {**value, "part": layer.part} if layer.part else value
+
+
+def count_of(layers):
+    """How many layers these images are of."""
+    return sum(it.part == 0 for it in layers)
 
 
 def put_image(store, word, image):
     """Gives an image its name in the store; one of this name that was there is replaced."""
     name, tag = split_image(word)
-    layers = [{"digest": "sha256:" + it.digits, "size": it.size} for it in image.layers]
-    value = {**image._asdict(), "layers": layers}
     import json
+    value = {**image._asdict(), "layers": [layer_json(it) for it in image.layers]}
     data = json.dumps(value, indent=1).encode()
     store.write_small(store.images, file_name(name, tag or LATEST), data)
 

@@ -1,6 +1,7 @@
 """Brings the layers of an image into a store: what is there already is neither read nor made
-again."""
+again. A layer is an image of romfs, or, if one can't hold it, several that lie on one another."""
 import collections
+import contextlib
 import json
 import os
 
@@ -9,17 +10,18 @@ from strata_format.files import copy_front, write_all
 from strata_format.read_romfs import ReadImage
 from strata_format.refused import Refused, shown
 from strata_layers.below import Below
-from strata_layers.layer_images import read_blob, write_layer
+from strata_layers.layer_images import LayerWriter, read_blob
 from strata_layers.layout_images import PACKED_ROMFS
-from strata_layers.layouts import PACKED, digest_of
+from strata_layers.layouts import LAYERS_MOST, PACKED, digest_of
 from strata_layers.packing import Unpacked
 from strata_layers.store import SMALL_MOST, digits_of, file_digits
-from strata_layers.store_images import StoredLayer
+from strata_layers.store_images import StoredLayer, layer_json, layer_of_json
 
 # a layer that was made by other rules is made anew
-MAKER = 2
+MAKER = 3
 # above what an image of romfs can have, with all that stands behind it
 UNPACKED_MOST = 1 << 33
+BROKEN = "%s: the layer sha256:%s is broken"
 PIECE = 1 << 20
 
 
@@ -27,10 +29,11 @@ def record_name(it):
     return "%s-%s" % (it.algorithm, it.digits)
 
 
-# what is known of a blob: a layer that was made of it, or None; the digest of what it unpacks to,
-# or None; and the paths of the folders that it implies without an entry, which have the rows of
-# the layers below, whichever these were
-Made = collections.namedtuple("Made", "layer archive implied")
+# what is known of a blob: the images that were made of it, the lowest first, or None; the digest of
+# what it unpacks to, or None; the paths of the folders that it implies without an entry, which have
+# the rows of the layers below, whichever these were; and whether something was left out
+Made = collections.namedtuple("Made", "images archive implied is_less")
+NOTHING = Made(None, None, [], False)
 
 
 class Maker:
@@ -44,24 +47,31 @@ class Maker:
 
     # --- what is there ---
 
-    def stored(self, digits, size):
-        """The layer of these digits, where it is there with this size."""
-        return StoredLayer(digits, size) if self.store.size_of(digits) == size else None
+    def stored(self, layer):
+        """Whether an image is there with its size."""
+        return self.store.size_of(layer.digits) == layer.size
 
-    def made_of(self, it):
+    def made_of(self, it, part=0):
         """What is known of a blob."""
         if PACKED_ROMFS.get(it.media) == "" and it.algorithm == "sha256":
-            return Made(self.stored(it.digits, it.size), "sha256:" + it.digits, [])
+            images = [StoredLayer(it.digits, it.size, part)]
+            is_there = self.stored(images[0])
+            return Made(images if is_there else None, "sha256:" + it.digits, [], False)
         value = self.store.small_json(self.store.records, record_name(it))
         if value is None or value.get("maker") != MAKER:
-            return Made(None, None, [])
+            return NOTHING
         where = "%s: %s" % (self.store.name, record_name(it))
-        layer = self.stored(digits_of(value.get("layer"), where), value.get("size"))
-        return Made(layer, value.get("archive"), paths_said(value.get("implied"), where))
+        images = layers_said(value.get("layers"), where)
+        if it.media in PACKED_ROMFS:
+            images = [images[0]._replace(part=part)]
+        is_less = value.get("is_less") is not False
+        is_there = all(map(self.stored, images)) and (self.lost.leaves_out or not is_less)
+        return Made(images if is_there else None, value.get("archive"),
+                    paths_said(value.get("implied"), where), is_less)
 
     def has_made(self, it):
-        """Whether a layer of a blob is there. Over other layers it may need other rows."""
-        return self.made_of(it).layer is not None
+        """Whether the layer of a blob is there. Over other layers it may need other rows."""
+        return self.made_of(it).images is not None
 
     @staticmethod
     def hold_unpacked(it, unpacked, archive):
@@ -75,8 +85,8 @@ class Maker:
         noted, and its layer made anew each time."""
         if made.implied is None:
             return
-        value = {"maker": MAKER, "layer": "sha256:" + made.layer.digits, "size": made.layer.size,
-                 "archive": made.archive,
+        value = {"maker": MAKER, "layers": [layer_json(it) for it in made.images],
+                 "archive": made.archive, "is_less": made.is_less,
                  "implied": [b"/".join(path).decode("latin-1") for path in made.implied]}
         data = json.dumps(value).encode()
         if len(data) < SMALL_MOST:
@@ -95,68 +105,84 @@ class Maker:
         value = {"digest": "sha256:" + digits, "size": size}
         name = "sha256-%s.%s" % (layer.digits, packing)
         self.store.write_small(self.store.records, name, json.dumps(value).encode())
-        self.note("sha256-" + digits, Made(layer, "sha256:" + layer.digits, []))
+        self.note("sha256-" + digits, Made([layer], "sha256:" + layer.digits, [], False))
 
     # --- what is made ---
 
     def layer(self, layout, image, number, below):
-        """A layer of an image, over those below; it is brought into the store where it isn't
-        there."""
+        """The images of a layer, over those below; they are brought into the store where they
+        aren't there."""
         it, archive = image.layers[number], image.archives[number]
-        found = self.made_of(it)
-        if found.layer is not None:
+        found = self.made_of(it, image.parts[number])
+        if found.images is not None:
             self.hold_unpacked(it, found.archive, archive)
             layout.heard(it.size)
-            return self.fitted(it, found, below) if found.implied else found.layer
-        with self.store.new_file() as new:
-            if it.media in PACKED:
-                archive, digits = archive if self.checks_archives else None, None
-                implied = write_layer(layout, number, it, new.file, self.lost, below, archive)
-            else:
-                digits, implied = unpack_layer(layout, number, it, new.file), []
-                self.hold_unpacked(it, "sha256:" + digits, archive)
-            layer = self.kept(new, digits)
-        self.note(record_name(it), Made(layer, archive, implied))
-        return layer
+            return self.fitted(it, found, below) if found.implied else found.images
+        left_out = self.lost.count("entries")
+        with contextlib.ExitStack() as opened:
+            files = []
 
-    def kept(self, new, digits=None):
-        """The layer in a new file that is whole, which is kept, and counted, where it isn't there."""
-        digits = digits or file_digits(new.file.fileno())
-        layer = StoredLayer(digits, os.fstat(new.file.fileno()).st_size)
-        if self.stored(*layer) is None:
+            def new_file():
+                files.append(opened.enter_context(self.store.new_file()))
+                return files[-1].file
+
+            if it.media in PACKED:
+                writer = LayerWriter(layout, number, it, archive, self.checks_archives)
+                implied = writer.write(new_file, self.lost, below)
+                archive = archive if self.checks_archives else None
+                digits = [file_digits(new.file.fileno()) for new in files]
+            else:
+                digits, implied = [unpack_layer(layout, number, it, new_file())], []
+                self.hold_unpacked(it, "sha256:" + digits[0], archive)
+            images = [self.kept(*both, image.parts[number] + at)
+                      for at, both in enumerate(zip(files, digits))]
+        is_less = self.lost.count("entries") > left_out
+        self.note(record_name(it), Made(images, archive, implied, is_less))
+        return images
+
+    def kept(self, new, digits, part):
+        """The image in a new file that is whole, which is kept where it isn't there. A layer is
+        counted by its lowest image."""
+        layer = StoredLayer(digits, os.fstat(new.file.fileno()).st_size, part)
+        if not self.stored(layer):
             self.store.keep_layer(new, digits)
-            self.made_count += 1
+            self.made_count += part == 0
         return layer
 
     def fitted(self, it, found, below):
-        """A blob's layer over those below: the one that is there, or, where the folders that it
-        implies have other rows in the layers below, a copy with these."""
-        number = self.opened(found.layer)
-        try:
-            image = self.read(number, found)
-            wanted = {image.found(path): below.said(path) for path in found.implied}
-            if all(image.said(place) == row for place, row in wanted.items()):
-                return found.layer
-            rows = {**image.rows.every(), **wanted}
-            with self.store.new_file() as new:
-                copy_front(number, new.file.fileno(), image.full)
-                trailer.write_trailer(new.file.fileno(), image.full,
-                                      {at: row for at, row in rows.items() if row is not None})
-                layer = self.kept(new)
-        finally:
-            os.close(number)
-        self.note(record_name(it), found._replace(layer=layer))
-        return layer
+        """The images of a blob's layer over those below: those that are there, or, where folders
+        that it implies have other rows in the layers below, copies with these."""
+        read, images = set(), []
+        for layer in found.images:
+            number = self.opened(layer)
+            try:
+                images.append(self.fitted_image(layer, number, found.implied, below, read))
+            finally:
+                os.close(number)
+        if len(read) < len(found.implied):
+            raise Refused(BROKEN % (self.store.name, found.images[0].digits))
+        if images != found.images:
+            self.note(record_name(it), found._replace(images=images))
+        return images
 
-    def read(self, number, found):
-        """The image in an open layer, which must have the folders that its blob implies."""
+    def fitted_image(self, layer, number, implied, below, read):
+        """One of them, in an open file; the paths of its folders among those that are implied are
+        noted as read."""
         try:
             image = ReadImage(number)
-            if all(image.found(path) is not None for path in found.implied):
-                return image
+            there = {path: image.found(path) for path in implied}
         except Refused:
-            pass
-        raise Refused("%s: the layer sha256:%s is broken" % (self.store.name, found.layer.digits))
+            raise Refused(BROKEN % (self.store.name, layer.digits)) from None
+        wanted = {place: below.said(path) for path, place in there.items() if place is not None}
+        read.update(path for path, place in there.items() if place is not None)
+        if all(image.said(place) == row for place, row in wanted.items()):
+            return layer
+        rows = {**image.rows.every(), **wanted}
+        with self.store.new_file() as new:
+            copy_front(number, new.file.fileno(), image.full)
+            trailer.write_trailer(new.file.fileno(), image.full,
+                                  {at: row for at, row in rows.items() if row is not None})
+            return self.kept(new, file_digits(new.file.fileno()), layer.part)
 
     def opened(self, layer):
         number = self.store.open_layer(layer.digits)
@@ -165,17 +191,27 @@ class Maker:
         return number
 
     def layers(self, layout, image):
-        """All layers of an image, the lowest first."""
+        """The images of all layers of an image, a list for each of its blobs, the lowest first."""
         below, found = Below(), []
         for at in range(len(image.layers)):
-            layer = self.layer(layout, image, at, below)
-            number = self.opened(layer)
-            try:
-                below.add(number)
-            finally:
-                os.close(number)
-            found.append(layer)
+            found.append(self.layer(layout, image, at, below))
+            for layer in found[-1]:
+                number = self.opened(layer)
+                try:
+                    below.add(number)
+                finally:
+                    os.close(number)
+        count = sum(map(len, found))
+        if count > LAYERS_MOST:
+            raise Refused("its layers take %d images, and %d can be stacked" % (count, LAYERS_MOST))
         return found
+
+
+def layers_said(value, where):
+    """The images that a record says."""
+    if not isinstance(value, list) or not value:
+        raise Refused("%s: no good images of a layer" % where)
+    return [layer_of_json(it, where) for it in value]
 
 
 def paths_said(value, where):

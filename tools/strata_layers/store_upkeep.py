@@ -6,7 +6,7 @@ import os
 from strata_format.progress import Progress
 from strata_format.refused import Refused, shown
 from strata_layers.store import DAMAGED, file_digits
-from strata_layers.store_images import image_in, names
+from strata_layers.store_images import count_of, image_in, names
 
 
 def found_images(store):
@@ -25,7 +25,7 @@ def image_lines(store):
     for name, image in found.items():
         missing = sum(store.size_of(it.digits) != it.size for it in image.layers)
         size = sum(it.size for it in image.layers)
-        yield "%s %d %d %s%s" % (name, len(image.layers), size, image.manifest,
+        yield "%s %d %d %s%s" % (name, count_of(image.layers), size, image.manifest,
                                  " (%d layers missing)" % missing if missing else "")
     yield from faults
 
@@ -112,11 +112,17 @@ def taken_away(store, name):
 
 def forget(store):
     """Takes away the records of layers that are gone."""
-    there = {*store.layers()}
+    there = {"sha256:" + it for it in store.layers()}
     for name in os.listdir(store.records):
         value = store.small_json(store.records, name)
-        # of how a layer was packed the name says the layer, of what it was made of the record does
-        packed_layer = name[len("sha256-"):].partition(".")[0]
-        digits = packed_layer if "." in name else str(value.get("layer"))[len("sha256:"):]
-        if digits not in there:
+        # of how a layer was packed the name says the layer, of what was made of a blob the record
+        digests = [name.partition(".")[0].replace("-", ":")] if "." in name else digests_in(value)
+        if not digests or not there.issuperset(digests):
             os.unlink(name, dir_fd=store.records)
+
+
+def digests_in(value):
+    """The digests of the images that a record says; none where it is of other rules."""
+    found = value.get("layers")
+    found = found if isinstance(found, list) else []
+    return [str(it.get("digest")) for it in found if isinstance(it, dict)]

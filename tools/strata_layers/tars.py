@@ -9,14 +9,18 @@ header says; here the first is refused and the second bounded.
 import re
 import struct
 
-from strata_format.refused import Refused, shown
+from strata_format.refused import BadEntry, Refused, shown
+from strata_layers import sparse_maps
+from strata_layers.entries import (BLOCK_DEVICE, CHARACTER, DIRECTORY, FIFO, FILES, HARD, SYMBOLIC,
+                                   Entry)
 
 BLOCK = 512
 PIECE = 1 << 20
 # so long may an extended header or a long name be
 SPECIAL_MOST = 1 << 20
-FILES, HARD, SYMBOLIC, CHARACTER, BLOCK_DEVICE, DIRECTORY, FIFO = (b"0", b"\0", b"7"), b"1", b"2", b"3", b"4", b"5", b"6"
 SPARSE = b"S"
+# what says in an extended header that a file is sparse
+SPARSE_WORDS = {*sparse_maps.KEYWORDS, sparse_maps.PAIRS}
 # entries behind whose header no data stand, whatever size it says
 BARE = (HARD, SYMBOLIC, CHARACTER, BLOCK_DEVICE, DIRECTORY, FIFO)
 PAX, PAX_GLOBAL, LONG_NAME, LONG_LINK = (b"x", b"X"), b"g", b"L", b"K"
@@ -26,23 +30,10 @@ ATTRIBUTES = re.compile(rb"(?:SCHILY\.xattr\.|LIBARCHIVE\.xattr\.|SCHILY\.(?=acl
 NAMES = b""
 # what is heeded of all else that an extended header says
 KEYWORDS = (b"path", b"linkpath", b"size", b"uid", b"gid", b"mtime")
-SPARSE_FRONT = b"GNU.sparse."
 # the numbers of most headers
 NUMBERS = {b"%07o\0" % value: value for value in (0, 0o400, 0o444, 0o555, 0o600, 0o644, 0o700, 0o755, 0o777, 1000)}
 DECIMAL = re.compile(rb"(-?)([0-9]{1,18})(?:\.([0-9]*))?")
 SECOND = 10 ** 9
-
-
-class Entry:
-    """An entry of an archive: its name and link as they stand there, when it was last changed, in seconds since 1970 and
-    nanoseconds, the names of its extended attributes, and of a file its data as pieces."""
-
-    __slots__ = ("kind", "name", "link", "mode", "uid", "gid", "size", "major", "minor", "time", "attributes", "data")
-
-    def __init__(self, kind, name, link):
-        self.kind, self.name, self.link = kind, name, link
-        self.mode = self.uid = self.gid = self.size = self.major = self.minor = 0
-        self.time, self.attributes, self.data = (0, 0), (), iter(())
 
 
 def text(field):
@@ -154,18 +145,25 @@ class Tar:
     def begin_data(self, size):
         self.left, self.zeros = size, -size % BLOCK
 
-    def pieces(self):
-        while self.left:
-            data = self.source.read(min(self.left, PIECE))
+    def pieces(self, size):
+        """So many of the bytes that are left."""
+        end = self.left - size
+        while self.left > end:
+            data = self.source.read(min(self.left - end, PIECE))
             if not data:
                 raise Refused("the archive is truncated")
             self.left -= len(data)
             yield data
 
+    def data_block(self):
+        """The next block of the data."""
+        if self.left < BLOCK:
+            raise BadEntry(sparse_maps.BROKEN)
+        return b"".join(self.pieces(BLOCK))
+
     def pass_over(self):
-        if self.left:
-            for _ in self.pieces():
-                pass
+        for _ in self.pieces(self.left):
+            pass
         # an archive that isn't ended, as umoci insert writes it, may lack the last zeros
         if self.zeros:
             self.taken(self.zeros)
@@ -206,9 +204,9 @@ class Tar:
             attribute = ATTRIBUTES.fullmatch(keyword)
             if attribute and value:
                 found.setdefault(NAMES, []).append(attribute[1])
-            elif keyword.startswith(SPARSE_FRONT) and value:
-                found[SPARSE_FRONT] = value
-            elif keyword in KEYWORDS:
+            elif keyword in (sparse_maps.OFFSET, sparse_maps.NUMBYTES):
+                found.setdefault(sparse_maps.PAIRS, []).append(value)
+            elif keyword in KEYWORDS or keyword in sparse_maps.KEYWORDS:
                 found[keyword] = value
         return found
 
@@ -258,8 +256,6 @@ class Tar:
             entry.kind = DIRECTORY
         elif kind in (CHARACTER, BLOCK_DEVICE):
             entry.major, entry.minor = number(block[329:337], "device"), number(block[337:345], "device")
-        if kind == SPARSE or SPARSE_FRONT in fields:
-            raise Refused("%s: a sparse file, which is not read" % shown(name))
         self.set_data(entry, block, fields)
         return entry
 
@@ -267,6 +263,40 @@ class Tar:
         size = decimal(fields[b"size"], "size") if b"size" in fields else number(block[124:136], "size")
         if size < 0:
             raise Refused("the archive is broken: a size of %d" % size)
+        found = None
+        if entry.kind == SPARSE:
+            # what follows the header is no data
+            found = self.gnu_map(entry, block)
+            entry.kind = FILES[0]
         self.begin_data(0 if entry.kind in BARE else size)
-        if entry.kind in FILES:
-            entry.size, entry.data = size, self.pieces()
+        if found is None and entry.kind in FILES and not SPARSE_WORDS.isdisjoint(fields):
+            found = self.pax_map(entry, fields)
+        if found is not None:
+            self.set_sparse(entry, found)
+        elif entry.kind in FILES:
+            entry.size, entry.data = size, self.pieces(size)
+
+    # --- sparse files ---
+
+    def gnu_map(self, entry, block):
+        try:
+            return sparse_maps.of_header(block, lambda field: number(field, "sparse map"),
+                                         lambda: self.whole(BLOCK))
+        except BadEntry as bad:
+            # where the data begin is not known then
+            raise Refused("%s: %s" % (shown(entry.name), bad)) from None
+
+    def pax_map(self, entry, fields):
+        entry.name = fields.get(sparse_maps.NAME, entry.name)
+        try:
+            return sparse_maps.of_fields(fields, self.data_block)
+        except BadEntry as bad:
+            entry.wrong = BadEntry("%s: %s" % (shown(entry.name), bad))
+            return None
+
+    def set_sparse(self, entry, found):
+        try:
+            found.check(self.left)
+            entry.size, entry.data = found.size, found.pieces(self.pieces)
+        except BadEntry as bad:
+            entry.wrong = BadEntry("%s: %s" % (shown(entry.name), bad))

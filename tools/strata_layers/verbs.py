@@ -1,4 +1,5 @@
-"""The verbs of strata-layers: convert, pull, images, verify, remove, prune, config, attributes."""
+"""The verbs of strata-layers: image, convert, pull, images, verify, remove, prune, config,
+attributes."""
 import argparse
 import os
 import shlex
@@ -6,11 +7,12 @@ import sys
 import textwrap
 
 from strata_format import ends
-from strata_format.refused import Refused, bytes_of, one_line, shown
+from strata_format.refused import Refused, bytes_of, one_line
 from strata_format.version import command
 from strata_layers.convert import convert
 from strata_layers.folder_attributes import add_attributes
 from strata_layers.image_config import RunConfig, bwrap_words, config_lines, podman_words
+from strata_layers.image_file import write_image_file
 from strata_layers.image_users import image_user
 from strata_layers.layouts import platform_said
 from strata_layers.lost import Lost
@@ -51,9 +53,17 @@ def told(lost):
         ends.write(line + "\n")
 
 
+def run_image(asked):
+    lost = Lost(asked.leave_out)
+    write_image_file(asked.folder, asked.image, lost, asked.upper)
+    told(lost)
+    print_line("%s %s DIR" % (command("mount"), shlex.quote(asked.image)))
+    return 0
+
+
 def run_convert(asked):
     layout, tag = open_layout(asked.layout)
-    lost = Lost()
+    lost = Lost(asked.leave_out)
     folder, tag = convert(Store(asked.store, make=True), layout, tag, asked.new_layout, asked, lost)
     told(lost)
     print_line("oci:%s:%s" % (folder, tag))
@@ -61,7 +71,7 @@ def run_convert(asked):
 
 
 def run_pull(asked):
-    lost = Lost()
+    lost = Lost(asked.leave_out)
     name, count, new = pull(Store(asked.store, make=True), asked.source, asked.name, asked.platform, lost)
     told(lost)
     print_line("%s: %d layers, %d of them new" % (name, count, new))
@@ -126,6 +136,9 @@ def run_attributes(asked):
 
 
 HELP = {
+    "image": "Makes a romfs image of a directory, or of a tar archive on standard input (-), with"
+             " modes, owners, times, hard links and special files, and prints the command that mounts"
+             " it. Replaces an image of that name. The same directory gives the same bytes.",
     "convert": "Writes an image layout whose layers are romfs images, made from those of LAYOUT in"
                " the same order. Layers are made in the store, each once, and copied from there."
                " Prints the name of the new layout in skopeo's form.",
@@ -147,6 +160,10 @@ HELP = {
 }
 
 
+# verbs that need no store
+STORELESS = ("image", "attributes")
+
+
 def parser():
     it = Parser(prog=command("layers"))
     verbs = it.add_subparsers(dest="verb", required=True)
@@ -155,7 +172,7 @@ def parser():
                                     formatter_class=form, help=text.split(";")[0])
              for verb, text in HELP.items()}
     for verb, part in parts.items():
-        if verb != "attributes":
+        if verb not in STORELESS:
             part.add_argument("--store", metavar="DIR", default=default_place(),
                               help="where layers are kept (default: %(default)s)")
     add_words(parts)
@@ -164,6 +181,14 @@ def parser():
 
 def add_words(parts):
     """What each verb is asked."""
+    parts["image"].add_argument("--upper", action="store_true",
+                                help="FOLDER is the upper directory of an overlayfs mount: convert"
+                                     " its whiteouts and opaque directories")
+    for verb in ("image", "convert", "pull"):
+        parts[verb].add_argument("--leave-out", action="store_true",
+                                 help="leave out entries that romfs cannot hold, and name them")
+    parts["image"].add_argument("folder", metavar="FOLDER|-")
+    parts["image"].add_argument("image", metavar="IMAGE")
     platform = "linux/ARCHITECTURE[/VARIANT]; by default this machine's"
     parts["convert"].add_argument("--platform", metavar="PLATFORM", type=platform_or_all,
                                   help=platform + "; all for every one")
@@ -191,8 +216,8 @@ def add_words(parts):
                                  help="an option of bwrap, such as --ro-bind /mnt /")
 
 
-RUNS = {"convert": run_convert, "pull": run_pull, "images": run_images, "verify": run_verify,
-        "remove": run_remove, "prune": run_prune, "config": run_config,
+RUNS = {"image": run_image, "convert": run_convert, "pull": run_pull, "images": run_images,
+        "verify": run_verify, "remove": run_remove, "prune": run_prune, "config": run_config,
         "attributes": run_attributes}
 
 

@@ -43,7 +43,7 @@ options:
   --background      return once the mount answers
   -o OPTIONS        mount options: allow_other, noexec, max_read=N, ..;
                     strata's: strict, whole, workers=N, readers=N, uid=N,
-                    gid=N, share, stack, caps
+                    gid=N, share, stack, caps, modeless
   --strict          verify the checksum of every header, too
   --replace         unmount a mount of strata at DIR first
   --share           one mount for all who ask for the same images and options,

@@ -23,7 +23,7 @@ FRONT = 36 << 10
 TAR_MOST = 10000
 # so many files strata may have open besides its images
 FILES_BESIDE = 16
-MAKE = "`genromfs -d FOLDER -f IMAGE` makes an image from a directory"
+MAKE = "`strata-layers image FOLDER IMAGE` makes an image from a directory"
 BROKEN_IMAGE = "the file is damaged or was badly made: make it again"
 # what each rule means, in the order in which rules are named
 RULES = {
@@ -51,7 +51,7 @@ RULES = {
 
 
 def romfs_again(unpack):
-    return "strata serves romfs: %s, then `genromfs -d FOLDER -f IMAGE`" % unpack
+    return "strata serves romfs: %s, then `strata-layers image FOLDER IMAGE`" % unpack
 
 
 # where the letters stand by which a file is known, and what it then is, with what to do
@@ -186,8 +186,7 @@ def gzipped(front, name):
     except zlib.error:
         held = b""
     if held[257:262] == b"ustar":
-        return "it contains a tar archive, like a container's layers, of which strata-layers makes images; otherwise %s" % (
-            unpacked(name))
+        return "it contains a tar archive: `gzip -dc %s | strata-layers image - IMAGE` makes an image of it" % name
     return "unpack it with `gzip -dc %s > IMAGE`%s" % (name, ", which is a romfs image" * held.startswith(romfs.MAGIC))
 
 
@@ -199,11 +198,7 @@ def archive(path, name):
         if member in names:
             return ("an archived container image: `skopeo copy %s:%s oci:LAYOUT:TAG`, then `strata-layers LAYOUT:TAG IMAGES` "
                     "makes an image of each layer" % (kind, name))
-    return "a tar archive: " + unpacked(name)
-
-
-def unpacked(name):
-    return "`tar xf %s -C FOLDER`, then `genromfs -d FOLDER -f IMAGE`" % name
+    return "a tar archive: `strata-layers image - IMAGE < %s` makes an image of it" % name
 
 
 def names_in(path):

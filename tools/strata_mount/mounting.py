@@ -221,6 +221,9 @@ def attempt(plan):
             plan.folder = os.path.realpath(plan.folder)
             preconditions.hold_images(plan)
         hold_descriptors()
+        if "allow_other" in plan.words:
+            from strata_mount import modes
+            modes.tell(plan)
         if plan.replace and not plan.is_printed:
             preconditions.clear(plan)
         if plan.share:

@@ -15,8 +15,8 @@ IGNORED_FRONTS = ("x-", "X-")
 OWN = ("fd", "rootmode", "user_id", "group_id", "fsname", "subtype", "auto_unmount")
 # strata's own words, each with the least and the most of the number behind it, or None where it stands alone
 SEVERAL, OWNERS = (1, 64), (0, 2 ** 32 - 1)
-STRATA = {"strict": None, "whole": None, "workers": SEVERAL, "readers": SEVERAL, "uid": OWNERS, "gid": OWNERS,
-          "share": None, "stack": None, "caps": None}
+STRATA = {"strict": None, "whole": None, "modeless": None, "workers": SEVERAL, "readers": SEVERAL,
+          "uid": OWNERS, "gid": OWNERS, "share": None, "stack": None, "caps": None}
 
 
 class Wrong(Exception):

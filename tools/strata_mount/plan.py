@@ -17,7 +17,7 @@ class Plan:
     # strata's own program, unless another is named
     program, images, folder = None, (), None
     words, owner, workers, readers = (), None, None, None
-    background = strict = whole = replace = debug = verify = False
+    background = strict = whole = modeless = replace = debug = verify = False
     may_replace, store = True, None
     # one mount for all who ask for the same, of which --print tells the folder; over a mount that
     # stands there; with all that root may do
@@ -52,6 +52,8 @@ class Plan:
         # it lasts as long as anybody's folder shows it
         self.background = self.background or self.share
         self.is_stacked, self.keeps_privileges = "stack" in options.strata, "caps" in options.strata
+        # whether it is meant that others see images that keep no modes
+        self.modeless = "modeless" in options.strata
         self.workers = options.strata.get("workers")
         self.readers = options.strata.get("readers")
         self.owner = options.owner()

@@ -1,6 +1,6 @@
 # fish completion for strata-mount(1)
 complete -c strata-mount -l background -d 'Return once the mount answers'
-complete -c strata-mount -s o -x -a 'allow_other noexec noatime max_read= suid dev rw strict whole workers= readers= uid= gid= share stack caps' -d 'Options'
+complete -c strata-mount -s o -x -a 'allow_other noexec noatime max_read= suid dev rw strict whole modeless workers= readers= uid= gid= share stack caps' -d 'Options'
 complete -c strata-mount -l strict -d 'Ask a right checksum of every header'
 complete -c strata-mount -l replace -d 'Unmount a mount of strata there first'
 complete -c strata-mount -l share -d 'One mount for all who ask for the same'
