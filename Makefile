@@ -8,6 +8,8 @@
 # make mounted [STRATA=PROGRAM]: real mounts, looked at through the kernel; with STRATA_READERS=N in the environment, each by N readers.
 # make layers: tools/layers.py on layouts made on the spot, and, where umoci stands, on images that umoci makes.
 # make registry: layers on many machines: a store, and, where the programs are, a registry on the loopback and sandboxes.
+# make snapshots: the snapshotter of containerd by a client, where python3-grpcio is. make engines: with containerd, runc and a
+# registry, as root, in namespaces of its own; it says what is missing.
 # make wrong_bodies: tries the wrong bodies of trials/gate, over what is proved. The gate tries them, too.
 # make trials [CRATES=..] [ONLY=EDIT]: tries the wrong bodies of trials/CRATE.edits, over what make kept has kept; trials/outcomes.txt tells
 # the last runs.
@@ -21,7 +23,7 @@
 # make deb, make dist [PACKAGES=build]: a Debian package, a tar of the same files. make installed: all of these in fresh roots.
 # Each of these starts a file of checks/ by `python3 checks NAME WORDS..`; `python3 checks` lists them.
 .PHONY: test build kept demo doors links crate_order logic cases layers registry mounted plant trials wrong_bodies bench growth fuzz threads soak demo_files needed pictures
-.PHONY: install uninstall deb dist installed
+.PHONY: install uninstall deb dist installed snapshots engines
 
 PYTHON = python3 -B
 CHECKS = $(PYTHON) checks
@@ -41,6 +43,7 @@ test: needed
 	$(CHECKS) layers_umoci build/strata
 	$(CHECKS) registry build/strata --quick
 	$(CHECKS) mounted build/strata
+	$(CHECKS) snapshots build/strata
 	$(CHECKS) installed build/strata
 	$(CHECKS) soak build/strata --quick memory
 	$(CHECKS) bench build/strata --quick
@@ -132,6 +135,9 @@ installed: $(STRATA)
 
 registry: build/strata
 	$(CHECKS) registry build/strata
+
+snapshots engines: $(STRATA)
+	$(CHECKS) $@ $(STRATA)
 
 needed:
 	@command -v rt > /dev/null || { echo "strata needs the command rt of the Rattle kit on the path"; exit 1; }

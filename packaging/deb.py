@@ -1,4 +1,4 @@
-"""Makes a Debian package of what is installed, by dpkg-deb: packaging/deb.py PROGRAM FOLDER
+"""Makes Debian packages of what is installed, by dpkg-deb: packaging/deb.py PROGRAM FOLDER
 
 The same commit and program give the same bytes: every file bears the commit's time, and archives are packed in order.
 """
@@ -33,6 +33,47 @@ Description: read-only file trees, stacked of romfs images, by FUSE
  is the right one is proved. strata-layers makes an image of each layer of
  a container image, and mount.strata mounts by /etc/fstab.
 """
+SNAPSHOTTER_CONTROL = """\
+Package: strata-snapshotter
+Version: {version}
+Architecture: all
+Maintainer: {maintainer}
+Installed-Size: {size}
+Depends: strata (= {version}), python3 (>= 3.9), python3-grpcio, python3-protobuf
+Recommends: containerd
+Section: admin
+Priority: optional
+Description: container layers as romfs images, for containerd
+ strata-snapshotter is a proxy snapshotter of containerd. It makes a romfs
+ image of each layer once, and all containers on the same layers share one
+ mount of strata.
+"""
+# dpkg runs these: modules are compiled for the Python of the machine, and what was compiled goes with the package
+POSTINST = """\
+#!/bin/sh
+set -e
+if [ "$1" = configure ] && command -v py3compile > /dev/null; then
+    py3compile -p strata /usr/lib/strata
+fi
+"""
+PRERM = """\
+#!/bin/sh
+set -e
+if command -v py3clean > /dev/null; then
+    py3clean -p strata
+else
+    find /usr/lib/strata -name __pycache__ -prune -exec rm -r {} +
+fi
+"""
+# py3compile's own, at an upgrade of python3
+RTUPDATE = """\
+#!/bin/sh
+set -e
+if [ "$1" = rtupdate ]; then
+    py3clean -p strata
+    py3compile -p strata /usr/lib/strata
+fi
+"""
 COPYRIGHT = """\
 Format: https://www.debian.org/doc/packaging-manuals/copyright-format/1.0/
 Upstream-Name: strata
@@ -48,7 +89,7 @@ License: Apache-2.0
  On Debian systems the whole text is in /usr/share/common-licenses/Apache-2.0.
 """
 CHANGELOG = """\
-strata ({version}) unstable; urgency=medium
+{package} ({version}) unstable; urgency=medium
 
   * The package of this version, made by its own `make deb`.
 
@@ -75,26 +116,33 @@ def stripped(program):
             return it.read()
 
 
-def entries(program, moment):
-    """What the package holds: what is installed, with its texts as Debian packs them, and what is said of a package."""
-    version = files.version()
-    found = []
-    for entry in files.entries(program, PYTHON):
+def packaged(entries):
+    """What is installed, with its texts as Debian packs them."""
+    for entry in entries:
         if entry.path.startswith("share/doc/strata/LICENSE"):
             # the file of copyright has them
             continue
-        if entry.path == "bin/strata":
-            entry = entry._replace(data=stripped(program))
         if entry.path.startswith(("share/man/", "share/doc/")):
             entry = gzipped(entry)
         if entry.path.startswith("share/zsh/"):
             entry = entry._replace(path=entry.path.replace("site-functions", "vendor-completions"))
-        found.append(entry)
-    log = CHANGELOG.format(version=version, maintainer=MAINTAINER, date=email.utils.formatdate(moment, False))
+        yield entry
+
+
+def said_of(package, moment):
+    """The entries that say of a package who made it, and when."""
+    log = CHANGELOG.format(package=package, version=files.version(), maintainer=MAINTAINER,
+                           date=email.utils.formatdate(moment, False))
     year = email.utils.formatdate(moment).split()[3]
-    found.append(files.Entry("share/doc/strata/copyright", 0o644, COPYRIGHT.format(year=year, mit=mit_text()).encode()))
-    found.append(files.Entry("share/doc/strata/changelog.gz", 0o644, packed(log.encode(), 0)))
-    return sorted(found)
+    text = COPYRIGHT.format(year=year, mit=mit_text())
+    return [files.Entry("share/doc/%s/copyright" % package, 0o644, text.encode()),
+            files.Entry("share/doc/%s/changelog.gz" % package, 0o644, packed(log.encode(), 0))]
+
+
+def main_entries(program):
+    for entry in files.entries(program, PYTHON, is_compiled=False):
+        yield entry._replace(data=stripped(program)) if entry.path == "bin/strata" else entry
+    yield files.Entry("share/python3/runtime.d/strata.rtupdate", 0o755, RTUPDATE.encode())
 
 
 def mit_text():
@@ -115,25 +163,21 @@ def architecture():
     return subprocess.run(["dpkg", "--print-architecture"], check=True, stdout=subprocess.PIPE, text=True).stdout.strip()
 
 
-def control(program, found, moment):
-    """What dpkg is told of the package, as files of its own folder."""
+def control(text, found, scripts=(), **more):
+    """What dpkg is told of the package, as files of its own folder, with the scripts that it runs."""
     size = sum(-(-len(entry.data or b"") // 1024) for entry in found) + len(files.folders(found))
-    text = CONTROL.format(version=files.version(), architecture=architecture(), maintainer=MAINTAINER, size=size,
-                          libc=libc_of(program))
+    text = text.format(version=files.version(), maintainer=MAINTAINER, size=size, **more)
     sums = "".join("%s  usr/%s\n" % (hashlib.md5(entry.data).hexdigest(), entry.path) for entry in found if entry.link is None)
-    return [files.Entry("DEBIAN/control", 0o644, text.encode()), files.Entry("DEBIAN/md5sums", 0o644, sums.encode())]
+    runs = [files.Entry("DEBIAN/" + name, 0o755, script.encode()) for name, script in scripts]
+    return [files.Entry("DEBIAN/control", 0o644, text.encode()), files.Entry("DEBIAN/md5sums", 0o644, sums.encode()), *runs]
 
 
-def build(program, folder):
-    """Makes the package; its path."""
-    files.hold_built(program)
-    moment = files.moment()
-    found = entries(program, moment)
-    path = os.path.join(folder, "strata_%s_%s.deb" % (files.version(), architecture()))
+def write(path, said, found, moment):
+    """Writes a package of what is said of it and what is installed; its path."""
     with tempfile.TemporaryDirectory(prefix="strata-deb-") as top:
         os.chmod(top, 0o755)
         usr = [entry._replace(path="usr/" + entry.path) for entry in found]
-        every = [*control(program, found, moment), *usr]
+        every = [*said, *usr]
         for below in files.folders(every):
             install.make_folder(os.path.join(top, below))
         for entry in every:
@@ -143,5 +187,19 @@ def build(program, folder):
     return path
 
 
+def build(program, folder):
+    """Makes the packages; their paths."""
+    files.hold_built(program)
+    moment, version, machine = files.moment(), files.version(), architecture()
+    found = sorted([*packaged(main_entries(program)), *said_of("strata", moment)])
+    scripts = (("postinst", POSTINST), ("prerm", PRERM))
+    said = control(CONTROL, found, scripts, architecture=machine, libc=libc_of(program))
+    yield write(os.path.join(folder, "strata_%s_%s.deb" % (version, machine)), said, found, moment)
+    found = sorted([*packaged(files.snapshotter_entries(PYTHON)), *said_of("strata-snapshotter", moment)])
+    said = control(SNAPSHOTTER_CONTROL, found)
+    yield write(os.path.join(folder, "strata-snapshotter_%s_all.deb" % version), said, found, moment)
+
+
 if __name__ == "__main__":
-    print(build(*sys.argv[1:]))
+    for made in build(*sys.argv[1:]):
+        print(made)

@@ -47,8 +47,9 @@ def main(program, folder):
     files.hold_built(program)
     name = "strata-%s-%s" % (files.version(), platform.machine())
     path = os.path.join(folder, name + ".tar.gz")
+    found = sorted([*files.entries(program, PYTHON), *files.snapshotter_entries(PYTHON)])
     with open(path, "wb") as out:
-        out.write(packed(files.entries(program, PYTHON), name + "/", files.moment()))
+        out.write(packed(found, name + "/", files.moment()))
     print(path)
 
 

@@ -4,6 +4,7 @@ import os
 import re
 import subprocess
 import sys
+import tempfile
 
 ROOT = os.path.dirname(os.path.dirname(os.path.realpath(__file__)))
 sys.path.insert(0, os.path.join(ROOT, "tools"))
@@ -17,6 +18,12 @@ PROGRAMS = (
     ("bin/strata-layers", "strata_layers.command", "sys.argv[1:]"),
     ("sbin/mount.strata", "strata_mount.helper", "sys.argv[1:]"),
 )
+# the snapshotter, which has a package of its own, since it needs packages of Python's that the others don't
+SNAPSHOTTER = ("bin/strata-snapshotter", "strata_snapshotter.command", "sys.argv[1:]")
+SNAPSHOTTER_PACKAGE, SNAPSHOTTER_PAGE = "strata_snapshotter", "strata-snapshotter.8"
+UNITS = "lib/systemd/system"
+# python looks neither into the environment nor into a user's folder; without S it finds packages of the system
+ALONE, WITH_PACKAGES = "IBS", "IB"
 # the folder of the packages that these programs are made of
 MODULES = "lib/strata"
 # what says how it is used, and its limits
@@ -37,26 +44,43 @@ def read(*names):
         return it.read()
 
 
-def modules():
-    """The packages that the programs are made of, whole, beside the version that they say."""
-    for package in PACKAGES:
+def modules(packages):
+    """Packages that programs are made of, whole."""
+    for package in packages:
         for name in os.listdir(os.path.join(ROOT, "tools", package)):
             if name.endswith(".py"):
                 yield Entry("%s/%s/%s" % (MODULES, package, name), 0o644, read("tools", package, name))
-    yield Entry(MODULES + "/version", 0o644, version().encode() + b"\n")
 
 
-def launcher(path, module, words, python):
+def compiled(python):
+    """The same modules as this Python loads them at once. Another one compiles them at each start."""
+    names = [entry.path[len(MODULES) + 1:] for entry in modules(PACKAGES) if entry.path.endswith(".py")]
+    with tempfile.TemporaryDirectory(prefix="strata-compiled-") as out:
+        script = os.path.join(ROOT, "packaging", "compiled.py")
+        subprocess.run([python, "-IBS", script, os.path.join(ROOT, "tools"), out, *sorted(names)], check=True)
+        for folder, _, found in os.walk(out):
+            for name in found:
+                place = os.path.join(folder, name)
+                with open(place, "rb") as it:
+                    yield Entry("%s/%s" % (MODULES, os.path.relpath(place, out)), 0o644, it.read())
+
+
+def launcher(path, module, words, python, flags=ALONE):
     text = read("packaging", "launcher.py").decode()
-    values = {"PYTHON": python, "NAME": os.path.basename(path), "MODULE": module, "WORDS": words}
+    values = {"PYTHON": python, "FLAGS": flags, "NAME": os.path.basename(path), "MODULE": module, "WORDS": words}
     return re.sub("@([A-Z]+)@", lambda it: values[it[1]], text).encode()
 
 
-def pages(number):
-    """The man pages, which say the version."""
+def page(name):
+    """A man page, which says the version."""
+    data = read("docs", "man", name).replace(b"@VERSION@", version().encode())
+    return Entry("share/man/man%s/%s" % (name[-1], name), 0o644, data)
+
+
+def pages():
     for name in sorted(os.listdir(os.path.join(ROOT, "docs", "man"))):
-        data = read("docs", "man", name).replace(b"@VERSION@", number.encode())
-        yield Entry("share/man/man%s/%s" % (name[-1], name), 0o644, data)
+        if name != SNAPSHOTTER_PAGE:
+            yield page(name)
     yield Entry("share/man/man8/mount.fuse.strata.8", 0o777, link="mount.strata.8")
 
 
@@ -71,14 +95,25 @@ def documents():
         yield Entry("share/doc/strata/" + names[-1], 0o644, read(*names))
 
 
-def entries(program, python):
-    """All that is installed, in the order of paths: the program from this file, and what goes by this python3."""
-    number = version()
+def entries(program, python, is_compiled=True):
+    """All that is installed, in the order of paths: the program from this file, and what goes by this python3, with its
+    modules compiled for it."""
     with open(program, "rb") as it:
         found = [Entry("bin/strata", 0o755, it.read())]
     found += [Entry(path, 0o755, launcher(path, module, words, python)) for path, module, words in PROGRAMS]
     found.append(Entry("sbin/mount.fuse.strata", 0o777, link="mount.strata"))
-    return sorted([*found, *modules(), *pages(number), *completions(), *documents()])
+    found.append(Entry(MODULES + "/version", 0o644, version().encode() + b"\n"))
+    found += compiled(python) if is_compiled else []
+    return sorted([*found, *modules(PACKAGES), *pages(), *completions(), *documents()])
+
+
+def snapshotter_entries(python):
+    """What is installed of the snapshotter beside that."""
+    found = [Entry(SNAPSHOTTER[0], 0o755, launcher(*SNAPSHOTTER, python, WITH_PACKAGES)), page(SNAPSHOTTER_PAGE)]
+    for name in os.listdir(os.path.join(ROOT, "packaging", "systemd")):
+        found.append(Entry("%s/%s" % (UNITS, name), 0o644, read("packaging", "systemd", name)))
+    found.append(Entry("share/doc/strata-snapshotter/CONTAINERD.md", 0o644, read("docs", "CONTAINERD.md")))
+    return sorted([*found, *modules([SNAPSHOTTER_PACKAGE])])
 
 
 def folders(found):

@@ -12,7 +12,7 @@ import files
 PYTHONS = ("/usr/bin/python3", os.path.realpath(sys.executable))
 LINKS = ("mount.strata", "mount.fuse.strata")
 # folders in which nothing but strata's own stands
-OURS = (files.MODULES, "share/doc/strata")
+OURS = (files.MODULES, "share/doc/strata", "share/doc/strata-snapshotter")
 
 
 def write(place, entry):
@@ -70,9 +70,9 @@ def install(found, top, links):
 
 
 def remove_modules(top, kept=()):
-    """Takes away modules, those of an earlier strata too, but for those at paths that are kept."""
+    """Takes away modules, compiled ones and those of an earlier strata too, but for those at paths that are kept."""
     for folder, _, names in os.walk(os.path.join(top, files.MODULES)):
-        for place in (os.path.join(folder, name) for name in names if name.endswith(".py")):
+        for place in (os.path.join(folder, name) for name in names if name.endswith((".py", ".pyc"))):
             if os.path.relpath(place, top) not in kept:
                 os.unlink(place)
 
@@ -99,8 +99,8 @@ def main(program, destdir, prefix, helpers, *words):
     python = next(path for path in PYTHONS if os.path.exists(path))
     prefix = os.path.abspath(prefix)
     destdir = os.path.abspath(destdir) if destdir else ""
-    found, links = files.entries(program, python), helper_links(destdir, prefix, helpers)
-    act(found, destdir + prefix, links)
+    found = [*files.entries(program, python), *files.snapshotter_entries(python)]
+    act(found, destdir + prefix, helper_links(destdir, prefix, helpers))
 
 
 if __name__ == "__main__":

@@ -163,10 +163,10 @@ def readme(root):
 
 
 def in_reference(root):
-    """USE names each option that a help names."""
+    """USE names each option that a help names, but those of the snapshotter, which its man page has."""
     text = read("docs/USE.md")
     root.install()
-    named = set().union(*pages.helps(root).values())
+    named = set().union(*(it for page, it in pages.helps(root).items() if page != pages.SNAPSHOTTER))
     missing = [it for it in named if not re.search(r"(?<![\w-])%s(?![\w-])" % it, text)]
     hold("options that USE leaves out", [], sorted(missing))
     return "%d options" % len(named)

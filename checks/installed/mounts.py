@@ -240,8 +240,8 @@ def by_user(root):
     hold("root's look", 1, root.run("cat", "/mnt/user/etc/hostname").status)
     done = root.run(*other, "strata-mount", "--background", "/srv/lower.romfs", "/mnt/user")
     hold("the status of a second mount", 1, done.status)
-    hold_in("a second mount", "strata-mount: /mnt/user: something is mounted here already: `fusermount3 -u /mnt/user` unmounts it\n",
-            done.err)
+    hold_in("a second mount", "strata-mount: /mnt/user: something is mounted here already: `fusermount3 -u /mnt/user` unmounts "
+                              "it, and so does --replace; `-o stack` mounts over it\n", done.err)
     root.good(*other, "umount", "/mnt/user")
     hold("mounts", [], places())
     os.remove(shutil.which("fusermount3"))
@@ -312,6 +312,9 @@ def units(root):
         hold("systemd-analyze verify %s: %s" % (name, done.err), (0, []), (done.status, told))
     said = dict(re.findall(r"^(What|Where|Type|Options)=(.*)$", texts["srv-tree.mount"], re.M))
     os.makedirs(said["Where"])
-    root.good("mount", "-t", said["Type"], said["What"], said["Where"], "-o", said["Options"])
+    done = root.run("mount", "-t", said["Type"], said["What"], said["Where"], "-o", said["Options"])
+    hold("the unit's mount: " + done.err, (0, 1), (done.status, done.err.count("\n")))
+    # others are let in to images that keep no modes
+    hold_in("what is told", "without modes and owners", done.err)
     hold_stack(root, said["Where"])
     return "both units of MOUNTING pass systemd-analyze verify"

@@ -18,13 +18,17 @@ PATHS = ("bin/strata", "bin/strata-mount", "bin/strata-layers", "sbin/mount.stra
          "share/doc/strata/MOUNTING.md", "share/doc/strata/LIMITS.md")
 
 
+# the package of the snapshotter, which is made beside that of strata
+SNAPSHOTTER = "strata-snapshotter_"
+
+
 def made(root, target, suffix):
     """What a target of the Makefile makes, in a folder of the root."""
     if target == "deb":
         root.needs("dpkg-deb", "strip")
     os.makedirs(root.top + "/tmp/made", exist_ok=True)
     root.make(target, "PACKAGES=%s/tmp/made" % root.top)
-    name, = [name for name in os.listdir(root.top + "/tmp/made") if name.endswith(suffix)]
+    name, = [name for name in os.listdir(root.top + "/tmp/made") if name.endswith(suffix) and not name.startswith(SNAPSHOTTER)]
     return "/tmp/made/" + name
 
 
@@ -44,6 +48,7 @@ def package(root):
     for name in PATHS:
         name = "/usr/" + name + (".gz" if name.startswith(("share/man", "share/doc")) else "")
         hold(name, True, os.path.exists(name))
+    hold("compiled modules", True, any(os.scandir("/usr/lib/strata/strata_mount/__pycache__")))
     os.mkdir("/srv/tree")
     fstab(STACK + " /srv/tree strata ro,nofail 0 0")
     root.good("mount", "-a")

@@ -6,13 +6,15 @@ from checks import ROOT
 from checks.installed.roots import Failed, LeftOut, hold, hold_in
 from strata_mount.options import CLEARS, IGNORED, IGNORED_FRONTS, KERNEL, SETS, STRATA
 
-PAGES = ("man1/strata.1", "man1/strata-mount.1", "man1/strata-layers.1", "man8/mount.strata.8")
+SNAPSHOTTER = "man8/strata-snapshotter.8"
+PAGES = ("man1/strata.1", "man1/strata-mount.1", "man1/strata-layers.1", "man8/mount.strata.8", SNAPSHOTTER)
 # pages of what is no program
 FORMATS = ("man5/strata-attributes.5",)
 MAN = "/usr/local/share/man/"
 SHARE = "/usr/local/share/"
 SUBCOMMANDS = ("check", "list", "serve", "socket")
-VERBS = ("image", "convert", "pull", "images", "verify", "remove", "prune", "config", "attributes")
+VERBS = ("image", "convert", "pull", "images", "verify", "remove", "prune", "config", "attributes",
+         "podman")
 OPTION = re.compile(r"(?<![\w-])(--[a-z][a-z-]*|-[A-Za-z])(?![\w-])")
 COMPLETED = {"bash": SHARE + "bash-completion/completions/%s", "zsh": SHARE + "zsh/site-functions/_%s",
              "fish": SHARE + "fish/vendor_completions.d/%s.fish"}
@@ -63,7 +65,8 @@ def helps(root):
     def of(name, *subcommands):
         return set().union(*(of_help(helped(root, name, *words, "--help")) for words in ((), *((it,) for it in subcommands))))
     return {"man1/strata.1": of("strata", *SUBCOMMANDS), "man1/strata-mount.1": of("strata-mount"),
-            "man1/strata-layers.1": of("strata-layers", *VERBS), "man8/mount.strata.8": of("/sbin/mount.strata")}
+            "man1/strata-layers.1": of("strata-layers", *VERBS), "man8/mount.strata.8": of("/sbin/mount.strata"),
+            SNAPSHOTTER: of("strata-snapshotter")}
 
 
 def options(root):

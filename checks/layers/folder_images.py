@@ -3,11 +3,13 @@ show is held against what the system says of the folder. A test is a function of
 import contextlib
 import errno
 import functools
+import gzip
 import io
 import os
 import resource
 import shlex
 import shutil
+import signal
 import socket
 import stat
 import subprocess
@@ -342,7 +344,8 @@ def test_image_of_an_archive(room):
     words, image = [TOOLS + "/layers.py", "image", "-"], room.name()
     cut_off = b"tools/layers.py: the archive is truncated\n"
     empty = b"tools/layers.py: standard input is empty\n"
-    for given, wanted in ((made, (0, b"")), (made[:2000], (1, cut_off)), (b"", (1, empty))):
+    for given, wanted in ((made, (0, b"")), (made[:2000], (1, cut_off)), (b"", (1, empty)),
+                          (gzip.compress(made), (0, b""))):
         done = subprocess.run([*words, image], input=given, capture_output=True, check=False)
         expect((done.returncode, done.stderr) == wanted, "ended with %r" % (done,))
         room.hold([image], [made])
@@ -390,6 +393,18 @@ def test_upper_folder(room):
                  ".wh.name: a layer takes a name that begins with .wh. as a whiteout",
                  "a: overlayfs shows another folder of the layers below there, which a layer"
                  " can't say")
+
+
+def test_full_disk(room):
+    """No room for an image is said of the image's folder, and nothing is left there."""
+    folder, before = made_folder(room), resource.getrlimit(resource.RLIMIT_FSIZE)
+    handler = signal.signal(signal.SIGXFSZ, signal.SIG_IGN)
+    resource.setrlimit(resource.RLIMIT_FSIZE, (1 << 20, before[1]))
+    try:
+        refuse_image(room, (folder, room.name()), "%s: file too large" % room.path)
+    finally:
+        resource.setrlimit(resource.RLIMIT_FSIZE, before)
+        signal.signal(signal.SIGXFSZ, handler)
 
 
 def test_memory_of_an_image(room):

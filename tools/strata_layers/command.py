@@ -19,7 +19,8 @@ from strata_format import ends
 from strata_format.refused import Refused, shown
 from strata_format.version import command, version
 
-VERBS = ("image", "convert", "pull", "images", "verify", "remove", "prune", "config", "attributes")
+VERBS = ("image", "convert", "pull", "images", "verify", "remove", "prune", "config", "attributes",
+         "podman")
 
 
 def say(line):

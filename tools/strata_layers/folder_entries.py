@@ -22,6 +22,7 @@ from strata_layers.entries import MARKER, OPAQUE, Entry
 
 DIRECTORIES = READING | os.O_DIRECTORY
 OPEN_FILES = b"/proc/self/fd"
+NO_ROOM = (errno.ENOSPC, errno.EDQUOT, errno.EFBIG)
 # faults of what was there before
 GONE = (errno.ENOENT, errno.ELOOP, errno.ENOTDIR, errno.ENXIO)
 KINDS = {stat.S_IFDIR: entries.DIRECTORY, stat.S_IFREG: entries.FILES[0],
@@ -154,9 +155,12 @@ class Folder:
     # --- what is there ---
 
     def fault(self, fault, place, name):
-        """What a fault of the system means: where something has gone, it was changed."""
+        """What a fault of the system means: where something has gone, it was changed. That there
+        is no room is a fault of the image."""
         if fault.errno in GONE:
             return changed(place.path(name))
+        if fault.errno in NO_ROOM:
+            return fault
         where = os.path.join(self.name, *place.path(name))
         return OSError(fault.errno, fault.strerror, where)
 

@@ -1,5 +1,5 @@
 """The verbs of strata-layers: image, convert, pull, images, verify, remove, prune, config,
-attributes."""
+attributes, podman."""
 import argparse
 import os
 import shlex
@@ -18,6 +18,7 @@ from strata_layers.layouts import platform_said
 from strata_layers.lost import Lost
 from strata_layers.open_layout import open_layout
 from strata_layers.packing import PACKINGS
+from strata_layers.podman_store import ImageStore
 from strata_layers.pull import pull
 from strata_layers.store import Store, default_place
 from strata_layers.store_images import full_name, image_in, remove_image
@@ -135,6 +136,16 @@ def run_attributes(asked):
     return 0
 
 
+def run_podman(asked):
+    store = Store(asked.store)
+    name = full_name(store, asked.name)
+    made = ImageStore(os.path.abspath(asked.folder), name, image_in(store, name))
+    made.write()
+    words = [command("mount"), "--background", "-o", "allow_other,suid,dev", "--store", store.place]
+    print_line(" ".join(map(shlex.quote, [*words, "image:" + name, made.mount_place()])))
+    return 0
+
+
 HELP = {
     "image": "Makes a romfs image of a directory, or of a tar archive on standard input (-), with"
              " modes, owners, times, hard links and special files, and prints the command that mounts"
@@ -157,6 +168,8 @@ HELP = {
               " with these options of bwrap; or arguments for podman run.",
     "attributes": "Adds the modes, owners and times of all files in FOLDER to the image that"
                   " genromfs made of it, or replaces those that were added before.",
+    "podman": "Makes DIR, which must be new or empty, an additional image store for podman, with one"
+              " image of the store; prints the command that mounts its files there.",
 }
 
 
@@ -202,8 +215,9 @@ def add_words(parts):
     parts["pull"].add_argument("name", metavar="NAME[:TAG]", nargs="?")
     parts["attributes"].add_argument("folder", metavar="FOLDER")
     parts["attributes"].add_argument("image", metavar="IMAGE")
-    for verb in ("remove", "config"):
+    for verb in ("remove", "config", "podman"):
         parts[verb].add_argument("name", metavar="NAME[:TAG]")
+    parts["podman"].add_argument("folder", metavar="DIR")
     form = parts["config"].add_mutually_exclusive_group()
     form.add_argument("--bwrap", dest="form", action="store_const", const="bwrap",
                       help="print a command of bwrap, with the OPTIONs after NAME")
@@ -218,7 +232,7 @@ def add_words(parts):
 
 RUNS = {"image": run_image, "convert": run_convert, "pull": run_pull, "images": run_images,
         "verify": run_verify, "remove": run_remove, "prune": run_prune, "config": run_config,
-        "attributes": run_attributes}
+        "attributes": run_attributes, "podman": run_podman}
 
 
 def run(words):

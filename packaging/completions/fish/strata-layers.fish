@@ -1,5 +1,5 @@
 # fish completion for strata-layers(1)
-set -l verbs image convert pull images verify remove prune config attributes
+set -l verbs image convert pull images verify remove prune config attributes podman
 set -l stored convert pull images verify remove prune config
 complete -c strata-layers -n "not __fish_seen_subcommand_from $verbs" -a image -d 'Make an image of a folder'
 complete -c strata-layers -n "not __fish_seen_subcommand_from $verbs" -a convert -d 'Write a layout of romfs images'
@@ -10,6 +10,7 @@ complete -c strata-layers -n "not __fish_seen_subcommand_from $verbs" -a remove 
 complete -c strata-layers -n "not __fish_seen_subcommand_from $verbs" -a prune -d 'Take unused layers away'
 complete -c strata-layers -n "not __fish_seen_subcommand_from $verbs" -a config -d 'Print how an image is run'
 complete -c strata-layers -n "not __fish_seen_subcommand_from $verbs" -a attributes -d 'Add modes, owners and times to an image'
+complete -c strata-layers -n "not __fish_seen_subcommand_from $verbs" -a podman -d 'Make an image store for podman'
 complete -c strata-layers -n "not __fish_seen_subcommand_from $verbs" -l version -d 'Print the version'
 complete -c strata-layers -n "__fish_seen_subcommand_from image" -l upper -d 'An upper folder of overlayfs'
 complete -c strata-layers -n "__fish_seen_subcommand_from image convert pull" -l leave-out -d 'Leave out what no image holds'

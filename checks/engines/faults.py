@@ -1,0 +1,266 @@
+"""Checks of what goes wrong: a snapshotter that is killed, mounts that are gone, a full disk, a
+damaged database, removals while images are made, many calls at once."""
+import os
+import random
+import signal
+import socket
+import subprocess
+import threading
+import time
+
+from checks.engines.layers import put
+from checks.engines.snapshotters import Snapshotter
+from checks.shared.mounting import SECONDS, Failed, hold, places, wait_until
+
+
+def fill(folder):
+    put(folder, "file", b"x" * 100000)
+
+
+def hold_mount(snapshotter, key):
+    """Holds that the mounts of a snapshot show the layer."""
+    mount, = snapshotter.call("Mounts", key=key).mounts
+    options = dict(it.partition("=")[::2] for it in mount.options)
+    hold("the layer", ["file"], os.listdir(options["lowerdir"]))
+
+
+def check_killed_and_restarted(snapshotter):
+    """The mounts of one that was killed are taken over; its servers go on."""
+    snapshotter.layer("one", "", fill)
+    snapshotter.call("Prepare", key="c", parent="one")
+    before = places()
+    snapshotter.stop(signal.SIGKILL)
+    hold("mounts stay", before, places())
+    snapshotter.start()
+    hold_mount(snapshotter, "c")
+    hold("the same mounts", before, places())
+    snapshotter.stop()
+    snapshotter.start()
+    hold_mount(snapshotter, "c")
+    hold("the same mounts", before, places())
+
+
+def check_mounts_that_are_gone(snapshotter):
+    """After a reboot there is state and no mount, or a server was killed: it is mounted anew."""
+    snapshotter.layer("one", "", fill)
+    snapshotter.call("Prepare", key="c", parent="one")
+    place = snapshotter.root + "/mounts/1"
+    subprocess.run(["umount", place], check=True)
+    hold_mount(snapshotter, "c")
+    wait_until("one server", lambda: len(snapshotter.servers()) == 1)
+    os.kill(snapshotter.servers()[0], signal.SIGKILL)
+    wait_until("the mount is dead", lambda: is_dead(place))
+    hold_mount(snapshotter, "c")
+    hold("mounts", 1, places().count(place))
+    snapshotter.call("Prepare", key="d", parent="one")
+    hold("mounts", 1, places().count(place))
+
+
+def is_dead(place):
+    try:
+        os.statvfs(place)
+        return False
+    except OSError:
+        return True
+
+
+def check_what_a_killed_one_left(snapshotter):
+    """Folders that no snapshot has, images that were begun, folders that were being removed."""
+    snapshotter.layer("one", "", fill)
+    snapshotter.settled("one")
+    snapshotter.stop(signal.SIGKILL)
+    root = snapshotter.root
+    for name in ("snapshots/77/fs/x", "trash/y/z", "mounts/78", "snapshots/1/fs/old"):
+        os.makedirs(os.path.join(root, name))
+    with open(root + "/new/begun", "wb"):
+        pass
+    snapshotter.start()
+    hold("what is left", ["snapshots/1"], snapshotter.left())
+    hold("the layer", ["layer.romfs"], os.listdir(root + "/snapshots/1"))
+
+
+def check_random_kills(snapshotter, count=40):
+    """Killed at random moments of a round of calls: each time all is as some call left it, and what
+    was committed stays."""
+    draw = random.Random(7)
+    snapshotter.layer("base", "", fill)
+
+    def round_of_calls(number):
+        snapshotter.tried("Prepare", key="extract-%d" % number, parent="base")
+        snapshotter.tried("Commit", name="l%d" % number, key="extract-%d" % number)
+        snapshotter.tried("View", key="v%d" % number, parent="l%d" % number)
+        snapshotter.tried("Remove", key="v%d" % number)
+        snapshotter.tried("Remove", key="l%d" % number)
+
+    for number in range(count):
+        work = threading.Thread(target=round_of_calls, args=(number,))
+        work.start()
+        time.sleep(draw.random() * 0.1)
+        snapshotter.stop(signal.SIGKILL)
+        work.join()
+        snapshotter.start()
+        hold("the base", True, "base" in snapshotter.names())
+    hold("the layer", ["file"], os.listdir(snapshotter.view("v", "base")))
+
+
+def check_refused_roots(snapshotter):
+    """A second snapshotter on a root, a root that others may look into, a damaged database: one
+    line each, and status 1."""
+    def hold_line(what, words):
+        status, text = snapshotter.refused()
+        hold(what, (1, 1, True),
+             (status, text.count("\n"), text.startswith("strata-snapshotter: ") and words in text))
+
+    hold_line("another one", "another snapshotter runs here")
+    snapshotter.layer("one", "", fill)
+    snapshotter.settled("one")
+    hold("status", 0, snapshotter.stop())
+    os.chmod(snapshotter.root, 0o755)
+    hold_line("others", "with the mode 700")
+    os.chmod(snapshotter.root, 0o700)
+    base = snapshotter.root + "/state.db"
+    with open(base, "rb") as file:
+        data = file.read()
+    for wrong in (b"no database at all" * 100, data[:4096] + os.urandom(4096) + data[8192:]):
+        with open(base, "wb") as file:
+            file.write(wrong)
+        hold_line("a damaged database", "state.db: ")
+    with open(base, "wb") as file:
+        file.write(data)
+    snapshotter.start()
+    hold("the layer", ["file"], os.listdir(snapshotter.view("v", "one")))
+
+
+def check_removed_while_it_is_made(snapshotter):
+    """Layers that are removed while their images are made leave nothing."""
+    for number in range(6):
+        name = "l%d" % number
+        snapshotter.layer(name, "", lambda folder: put(folder, "large", bytes(20 << 20)))
+        time.sleep(0.01 * number)
+        snapshotter.call("Remove", key=name)
+    wait_until("nothing is left", lambda: not snapshotter.left())
+
+
+def check_removed_while_it_is_committed(snapshotter):
+    """Commit and Remove of one snapshot at once: one of them is first."""
+    for number in range(10):
+        key, name = "extract-%d" % number, "n%d" % number
+        snapshotter.call("Prepare", key=key)
+        said = []
+        both = [threading.Thread(target=lambda it=it, words=words: said.append(
+            snapshotter.tried(it, key=key, **words)))
+                for it, words in (("Commit", {"name": name}), ("Remove", {}))]
+        for it in both:
+            it.start()
+        for it in both:
+            it.join()
+        hold("one fails", ["NOT_FOUND"],
+             [it.partition(":")[0] for it in said if isinstance(it, str)])
+
+
+def check_many_at_once(snapshotter):
+    """Fifty are prepared and removed at once on one layer: each has a folder of its own, and there
+    is one mount."""
+    snapshotter.layer("one", "", fill)
+    found = {}
+
+    def one(key):
+        mount, = snapshotter.call("Prepare", key=key, parent="one").mounts
+        found[key] = [it for it in mount.options if it.startswith("upperdir=")]
+
+    run_all(one, ["c%d" % number for number in range(50)])
+    hold("folders", 50, len({it for its in found.values() for it in its}))
+    hold("mounts", 1, len([it for it in places() if it.startswith(snapshotter.root)]))
+    run_all(lambda key: snapshotter.call("Remove", key=key), list(found))
+    hold("mounts", 0, len([it for it in places() if it.startswith(snapshotter.root)]))
+
+
+def run_all(function, keys):
+    wrong = []
+
+    def guarded(key):
+        try:
+            function(key)
+        except Failed as fault:
+            wrong.append(str(fault))
+
+    threads = [threading.Thread(target=guarded, args=(key,)) for key in keys]
+    for it in threads:
+        it.start()
+    for it in threads:
+        it.join()
+    hold("faults", [], wrong)
+
+
+def check_a_full_disk(snapshotter):
+    """On a full disk calls fail, what is committed stays, and after there is room again all goes
+    on."""
+    small = snapshotter.folder + "/small"
+    os.mkdir(small)
+    subprocess.run(["mount", "-t", "tmpfs", "-o", "size=3m,mode=700", "tmpfs", small], check=True)
+    other = Snapshotter(snapshotter.program, small).start()
+    try:
+        other.layer("one", "", fill)
+        other.settled("one")
+        # the image has no room beside the folder
+        other.layer("two", "one", lambda folder: put(folder, "large", bytes(1400 << 10)))
+        mount, = other.call("View", key="v", parent="two").mounts
+        hold("a folder", "overlay", mount.type)
+        with open(small + "/rest", "wb", 0) as out:
+            try:
+                while out.write(bytes(4096)):
+                    pass
+            except OSError:
+                pass
+        status = [other.tried("Prepare", key="c%d" % number) for number in range(3)]
+        hold("calls fail", {"UNAVAILABLE"},
+             {it.partition(":")[0] for it in status if isinstance(it, str)})
+        os.unlink(small + "/rest")
+        other.call("Prepare", key="again", parent="one")
+        hold_mount(other, "again")
+        other.remove_all()
+        hold("what is left", [], other.left())
+    finally:
+        other.stop()
+        subprocess.run(["umount", small], check=True)
+
+
+def check_the_socket_of_systemd(snapshotter):
+    """With a socket that systemd holds, a call that comes while the service is down is answered
+    once it runs again; and systemd is told when it is ready."""
+    snapshotter.stop()
+    place, told = snapshotter.folder + "/outer.sock", snapshotter.folder + "/told.sock"
+    with socket.socket(socket.AF_UNIX) as outer, \
+            socket.socket(socket.AF_UNIX, socket.SOCK_DGRAM) as ready:
+        outer.bind(place)
+        outer.listen()
+        ready.bind(told)
+        ready.settimeout(SECONDS / 2)
+
+        def start():
+            script = 'exec 3<&%d; export LISTEN_PID=$$ LISTEN_FDS=1; exec "$@"' % outer.fileno()
+            return subprocess.Popen(["sh", "-c", script, "sh", *snapshotter.words],
+                                    pass_fds=[outer.fileno()],
+                                    env={**os.environ, "NOTIFY_SOCKET": told},
+                                    stdin=subprocess.DEVNULL)
+
+        snapshotter.socket, snapshotter.process = place, start()
+        hold("told", b"READY=1", ready.recv(100))
+        snapshotter.connect()
+        snapshotter.call("Prepare", key="a")
+        hold("names", ["a"], snapshotter.names())
+        hold("status", 0, snapshotter.stop())
+        hold("told", b"STOPPING=1", ready.recv(100))
+        names = []
+        snapshotter.connect()
+        asking = threading.Thread(target=lambda: names.extend(snapshotter.names()))
+        asking.start()
+        snapshotter.process = start()
+        asking.join()
+        hold("names", ["a"], names)
+
+
+CHECKS = (check_killed_and_restarted, check_mounts_that_are_gone, check_what_a_killed_one_left,
+          check_random_kills,
+          check_refused_roots, check_removed_while_it_is_made, check_removed_while_it_is_committed,
+          check_many_at_once, check_a_full_disk, check_the_socket_of_systemd)

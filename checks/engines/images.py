@@ -1,0 +1,91 @@
+"""Images for engines: busybox, with whiteouts, opaque folders, replaced kinds, hard links,
+owners."""
+import hashlib
+import os
+import shutil
+import subprocess
+import tarfile
+
+from checks.registry import made
+
+PROGRAMS = ("sh ls cat id stat echo mkdir rm touch find sha256sum mount sleep true wc sort head ln "
+            "mv chmod grep dd").split()
+FRACTION = {"mtime": "1700000000.25"}
+RUN = {"Env": ["PATH=/bin"], "Cmd": ["/bin/sh"]}
+NAME = "io.containerd.image.name"
+
+
+def entry(name, data=b"", **more):
+    return made.entry(name, data, pax_headers={**FRACTION, **more.pop("pax", {})}, **more)
+
+
+def folder(name, mode=0o755, **more):
+    return made.folder(name, mode, pax_headers=FRACTION, **more)
+
+
+def hard(name, target):
+    # what unpacks it gives the file the time that is said here, too
+    return entry(name, kind=tarfile.LNKTYPE, linkname=target)
+
+
+def large(size):
+    return b"".join(hashlib.sha256(b"%d" % number).digest() for number in range(size // 32))
+
+
+def lowest():
+    with open(shutil.which("busybox"), "rb") as file:
+        busybox = file.read()
+    folders = [folder(it) for it in ("bin", "etc", "proc", "sys", "dev", "var", "var/cache", "home",
+                                     "usr",
+                                     "opt", "opt/o", "opt/o/deep", "run", "kind")]
+    return [
+        *folders, folder("tmp", 0o1777), folder("home/u", 0o700, uid=1000, gid=1000),
+        entry("bin/busybox", busybox, mode=0o755),
+        *(made.link("bin/" + it, "busybox") for it in PROGRAMS),
+        entry("etc/passwd", b"root:x:0:0::/:/bin/sh\nu:x:1000:1000::/home/u:/bin/sh\n"),
+        entry("etc/group", b"root:x:0:\nu:x:1000:\n"), entry("etc/motd", b"below\n"),
+        hard("etc/issue", "etc/motd"), hard("etc/third", "etc/motd"),
+        entry("etc/shadow", b"secret\n", mode=0o600), entry("var/cache/one", b"1"),
+        entry("var/cache/two", b"2"),
+        entry("usr/sudo", b"#!/bin/sh\n", mode=0o4755), entry("usr/large", large(1 << 20)),
+        entry("opt/o/below", b"1"), entry("opt/o/deep/x", b"1"), entry("kind/file", b"f"),
+        folder("kind/folder"),
+        entry("kind/folder/x", b"x"), made.link("kind/link", "file"),
+        made.entry("dev/fifo", kind=tarfile.FIFOTYPE, mode=0o640)]
+
+
+def layers(odd=False):
+    """Archives of three layers; the odd one has a capability in its second layer, which no image
+    holds."""
+    more = {"SCHILY.xattr.user.colour": "green"} if odd else {}
+    second = [
+        folder("opt/o", 0o711), entry("opt/o/.wh..wh..opq"), entry("opt/o/new", b"2"),
+        folder("etc"),
+        entry("etc/.wh.motd"), folder("var/cache", 0o750), entry("var/cache/.wh..wh..opq"),
+        entry("var/cache/three", b"3"), entry("usr/.wh.nothing"),
+        entry("etc/shadow", b"other\n", mode=0o640, gid=42),
+        entry("usr/sudo", b"#!/bin/sh\n", mode=0o4755, pax=more)]
+    third = [
+        entry("home/u/file", b"mine\n", uid=1000, gid=1000), entry("var/.wh.cache"),
+        folder("kind/file"),
+        entry("kind/file/now", b"n"), entry("kind/folder", b"a file"),
+        entry("kind/link", b"no link")]
+    return [made.archive(*it) for it in (lowest(), second, third)]
+
+
+class Image:
+    """An image as a layout, and as an archive that ctr imports."""
+
+    def __init__(self, path, name, archives):
+        self.path, self.name, self.archive = path, name, path + ".tar"
+        layout = made.Layout(path, RUN)
+        described = layout.image(archives)
+        layout.index({**described, "annotations": {made.TAG: "1", NAME: name}})
+        self.layers = [made.digest(it) for it in archives]
+        with tarfile.open(self.archive, "w") as tar:
+            for it in sorted(os.listdir(path)):
+                tar.add(os.path.join(path, it), it)
+
+    def push(self, host, name):
+        subprocess.run(["skopeo", "copy", "-q", "--dest-tls-verify=false", "oci:%s:1" % self.path,
+                        "docker://%s/%s" % (host, name)], check=True, stdin=subprocess.DEVNULL)

@@ -1,0 +1,295 @@
+"""Checks of layers: what becomes an image, what a mount of it shows, and what stays a folder."""
+import os
+import subprocess
+import sys
+
+from checks import TOOLS
+from checks.registry import made
+from checks.registry.tree import tree
+from checks.shared.mounting import hold
+
+REFERENCE, BLOB = "containerd.io/snapshot.ref", "containerd.io/snapshot/cri.layer-digest"
+# which of the facts of checks/registry/tree.py tells how many names a file has
+LINKS = 2
+TIME = 1600000000123456789
+
+
+# --- folders, as containerd unpacks layers ---
+
+def put(folder, name, data=b"", mode=0o644, owner=(0, 0)):
+    path = os.path.join(folder, name)
+    with open(path, "wb") as out:
+        out.write(data)
+    finish(path, mode, owner)
+
+
+def finish(path, mode, owner=(0, 0)):
+    os.chown(path, *owner)
+    os.chmod(path, mode)
+    os.utime(path, ns=(TIME, TIME))
+
+
+def make_folder(folder, name, mode=0o755):
+    os.mkdir(os.path.join(folder, name))
+    os.chmod(os.path.join(folder, name), mode)
+
+
+def whiteout(folder, name):
+    os.mknod(os.path.join(folder, name), 0o020000, os.makedev(0, 0))
+
+
+def lowest(folder):
+    """A layer with all kinds of files."""
+    for name in ("etc", "opt", "opt/deep", "var"):
+        make_folder(folder, name)
+    make_folder(folder, "tmp", 0o1777)
+    put(folder, "etc/passwd", b"root\n")
+    put(folder, "etc/shadow", b"secret\n", 0o600, (0, 42))
+    put(folder, "etc/sudo", b"#!/bin/sh\n", 0o4755)
+    put(folder, "opt/one", b"1")
+    put(folder, "opt/deep/two", b"2", owner=(1000, 1000))
+    put(folder, "var/large", bytes(range(256)) * 5000)
+    os.link(folder + "/etc/passwd", folder + "/etc/again")
+    os.symlink("../etc/passwd", folder + "/var/link")
+    os.mkfifo(folder + "/var/fifo")
+    os.mknod(folder + "/var/null", 0o020666, os.makedev(1, 3))
+    os.mknod(folder + "/var/disk", 0o060600, os.makedev(7, 4000))
+    for name in ("fifo", "null", "disk"):
+        finish(os.path.join(folder, "var", name), 0o640, (5, 6))
+
+
+def higher(folder):
+    """A layer over it: a removed file, an opaque folder, a file in the place of a folder."""
+    make_folder(folder, "etc", 0o750)
+    whiteout(folder, "etc/passwd")
+    put(folder, "etc/shadow", b"other\n", 0o640)
+    make_folder(folder, "opt")
+    os.setxattr(folder + "/opt", "trusted.overlay.opaque", b"y")
+    put(folder, "opt/new", b"3")
+    put(folder, "var", b"a file now")
+
+
+def without_links(facts):
+    """What is held of a path beside its links: overlayfs counts removed names, too."""
+    return facts[:LINKS] + facts[LINKS + 1:]
+
+
+def overlay(folders, place):
+    """Mounts folders by the kernel's overlayfs, the highest first."""
+    os.mkdir(place)
+    subprocess.run(["mount", "-t", "overlay", "overlay", "-o", "lowerdir=" + ":".join(folders),
+                    place],
+                   check=True, stdin=subprocess.DEVNULL)
+    return place
+
+
+def check_a_tree(snapshotter):
+    """Two layers show what the kernel's overlayfs shows of their folders: types, modes, owners,
+    times, links, sizes, bytes."""
+    kept = []
+
+    def fill(of):
+        def filled(folder):
+            of(folder)
+            kept.insert(0, os.path.join(snapshotter.folder, "kept%d" % len(kept)))
+            subprocess.run(["cp", "-a", folder, kept[0]], check=True)
+        return filled
+
+    snapshotter.layer("one", "", fill(lowest))
+    snapshotter.layer("two", "one", fill(higher))
+    shown = tree(snapshotter.view("v", "two"))
+    wanted = tree(overlay(kept, snapshotter.folder + "/wanted"))
+    hold("paths", sorted(wanted), sorted(shown))
+    for path, it in wanted.items():
+        hold(path, without_links(it), without_links(shown[path]))
+    hold("names of a file, of which one is removed", 1, shown["etc/again"][LINKS])
+    hold("a removed file", False, "etc/passwd" in shown)
+    hold("in the opaque folder", ["opt/new"], [it for it in shown if it.startswith("opt/")])
+    subprocess.run(["umount", snapshotter.folder + "/wanted"], check=True)
+    usage = snapshotter.call("Usage", key="one")
+    hold("usage", (1, True), (usage.inodes, 1280000 <= usage.size < 1400000))
+
+
+def check_whiteouts_of_all_forms(snapshotter):
+    """Whiteouts as devices and by attributes, opaque folders by both attributes."""
+    def below(folder):
+        for name in ("a", "b", "c", "d"):
+            make_folder(folder, name)
+            put(folder, name + "/old", b"old")
+
+    def above(folder):
+        for name in ("a", "b", "c", "d"):
+            make_folder(folder, name)
+        os.setxattr(folder + "/a", "trusted.overlay.opaque", b"y")
+        os.setxattr(folder + "/b", "user.overlay.opaque", b"y")
+        whiteout(folder, "c/old")
+        # the value `x` says that whiteouts by attributes may stand in the folder
+        os.setxattr(folder + "/d", "user.overlay.opaque", b"x")
+        put(folder, "d/old")
+        os.setxattr(folder + "/d/old", "user.overlay.whiteout", b"")
+
+    snapshotter.layer("one", "", below)
+    snapshotter.layer("two", "one", above)
+    shown = tree(snapshotter.view("v", "two"))
+    hold("paths", [".", "a", "b", "c", "d"], sorted(shown))
+
+
+def kind_of(snapshotter, path):
+    return os.path.relpath(path, snapshotter.root).split("/")[0]
+
+
+def stays_a_folder(snapshotter, fill):
+    """Holds that a layer, and one above it, stay folders; the mount of what is written over them
+    shows them over the image below."""
+    snapshotter.layer("base", "", lowest)
+    snapshotter.layer("middle", "base", fill)
+    snapshotter.layer("top", "middle", lambda folder: put(folder, "top", b"t"))
+    mount, = snapshotter.call("Prepare", key="c", parent="top").mounts
+    lower = dict(it.partition("=")[::2] for it in mount.options)["lowerdir"].split(":")
+    hold("folders", ["snapshots", "snapshots", "mounts"],
+         [kind_of(snapshotter, it) for it in lower])
+    hold("below", (True, True),
+         (os.path.exists(lower[0] + "/top"), os.path.exists(lower[2] + "/etc/passwd")))
+    snapshotter.settled("top")
+    hold("usage", 2, snapshotter.call("Usage", key="top").inodes)
+    snapshotter.remove_all()
+    with open(snapshotter.log, encoding="utf-8") as lines:
+        return [it for it in lines if "stays a folder" in it]
+
+
+def check_what_images_do_not_hold(snapshotter):
+    """A capability, an attribute of users, a name of whiteouts: told by name, and nothing is
+    lost."""
+    def ability(folder):
+        put(folder, "ping", b"x", 0o755)
+        os.setxattr(folder + "/ping", "security.capability",
+                    bytes.fromhex("0100000200200000" + "00" * 12))
+
+    def colour(folder):
+        os.setxattr(folder, "user.colour", b"green")
+
+    for number, (fill, said) in enumerate((
+            (ability, "ping: has the extended attribute security.capability"),
+            (colour, "/: has the extended attribute user.colour"),
+            (lambda folder: put(folder, ".wh.x"), ".wh.x: a layer takes a name that begins with .wh. as a whiteout")), 1):
+        lines = stays_a_folder(snapshotter, fill)
+        hold("lines", 2 * number, len(lines))
+        hold("the line", True, "middle stays a folder, with all above it: " + said in lines[-2])
+
+
+def check_many_layers(snapshotter):
+    """The 129th layer stays a folder, over one mount of 128."""
+    for number in range(129):
+        snapshotter.layer("l%d" % number, "l%d" % (number - 1) if number else "",
+                          lambda folder, name="f%d" % number: put(folder, name, b"x"))
+    hold("128", 128, len(os.listdir(snapshotter.view("v", "l127"))))
+    mount, = snapshotter.call("View", key="w", parent="l128").mounts
+    lower = dict(it.partition("=")[::2] for it in mount.options)["lowerdir"].split(":")
+    hold("files below", [1, 128], [len(os.listdir(it)) for it in lower])
+
+
+# --- layers that stand ready ---
+
+def archives():
+    return [made.archive(made.folder("a"), made.entry("a/one", b"1")),
+            made.archive(made.entry("a/two", b"22"), made.entry("a/.wh.one"))]
+
+
+def chain_digests(digests):
+    """The digests of chains, by the OCI image specification."""
+    found = []
+    for it in digests:
+        above = it if not found else made.digest(("%s %s" % (found[-1], it)).encode())
+        found.append(above)
+    return found
+
+
+def hold_ready(snapshotter, blobs):
+    """Holds that layers are committed by Prepare alone, and what they show."""
+    wanted = chain_digests([made.digest(it) for it in archives()])
+    parent = ""
+    for chain, blob in zip(wanted, blobs):
+        labels = {REFERENCE: chain, **({BLOB: blob} if blob else {})}
+        for key in ("extract-1", "extract-2"):
+            snapshotter.fails("ALREADY_EXISTS", "Prepare", key=key + chain, parent=parent,
+                              labels=labels)
+        filters = ['labels."%s"==%s,parent=="%s"' % (REFERENCE, chain, parent)]
+        info, = snapshotter.call("List", filters=filters)
+        hold("kind", 3, info.kind)
+        parent = info.name
+    hold("paths", [".", "a", "a/two"], sorted(tree(snapshotter.view("v", parent))))
+    snapshotter.call("Remove", key="v")
+    snapshotter.remove_all()
+
+
+def check_layers_of_a_store(snapshotter):
+    """Layers that strata-layers has pulled are neither fetched nor unpacked, also while others use
+    the store."""
+    layout = made.layout(snapshotter.folder + "/layout", archives())
+    store = snapshotter.folder + "/store"
+    subprocess.run([sys.executable, "-B", TOOLS + "/layers.py", "pull", "--store", store,
+                    "oci:" + layout.path,
+                    "app:1"], check=True, stdin=subprocess.DEVNULL, stdout=subprocess.DEVNULL)
+    hold_ready(snapshotter, [None, None])
+    # a store in which others may write is none
+    os.chmod(store, 0o777)
+    chain, = chain_digests([made.digest(archives()[0])])
+    snapshotter.call("Prepare", key="extract-3", labels={REFERENCE: chain})
+    snapshotter.call("Remove", key="extract-3")
+
+
+def put_blob(snapshotter, data, name=None):
+    folder = snapshotter.folder + "/content/blobs/sha256"
+    os.makedirs(folder, exist_ok=True)
+    digest = name or made.digest(data)
+    with open(os.path.join(folder, digest.partition(":")[2]), "wb") as out:
+        out.write(data)
+    return digest
+
+
+def check_blobs_at_hand(snapshotter):
+    """Layers whose blobs containerd has are made of these alone, packed or not."""
+    import gzip
+    first, second = archives()
+    hold_ready(snapshotter,
+               [put_blob(snapshotter, gzip.compress(first)), put_blob(snapshotter, second)])
+
+
+def check_lying_labels(snapshotter):
+    """Labels that name another blob, or a blob with other bytes: nothing is taken, and the layer is
+    unpacked."""
+    first, second = archives()
+    chain, = chain_digests([made.digest(first)])
+    broken = put_blob(snapshotter, first + b"\0", made.digest(first))
+    other = put_blob(snapshotter, second)
+    for number, blob in enumerate((broken, other, "sha256:" + "0" * 64, "sha256:../../x", "md5:0",
+                                   "")):
+        labels = {REFERENCE: chain, BLOB: blob}
+        snapshotter.call("Prepare", key="extract-%d" % number, labels=labels)
+        snapshotter.call("Remove", key="extract-%d" % number)
+    for chain in ("", "x", "sha256:/etc/passwd"):
+        snapshotter.call("Prepare", key="extract-x", labels={REFERENCE: chain, BLOB: other})
+        snapshotter.call("Remove", key="extract-x")
+
+
+def check_given_images(snapshotter):
+    """A layer of one file that is an image is checked, and taken as it is."""
+    layout = made.layout(snapshotter.folder + "/layout", archives()[:1])
+    subprocess.run([sys.executable, "-B", TOOLS + "/layers.py", layout.path,
+                    snapshotter.folder + "/images"],
+                   check=True, stdin=subprocess.DEVNULL, stdout=subprocess.DEVNULL)
+    image = snapshotter.folder + "/images/00.romfs"
+    with open(image, "rb") as file:
+        data = file.read()
+    snapshotter.layer("given", "", lambda folder: put(folder, ".strata.romfs", data))
+    hold("paths", [".", "a", "a/one"], sorted(tree(snapshotter.view("v", "given"))))
+    for wrong in (b"", b"no image", data[:100], data[:40] + b"\xff" * 8 + data[48:]):
+        mount, = snapshotter.call("Prepare", key="extract-1").mounts
+        put(mount.source, ".strata.romfs", wrong)
+        snapshotter.fails("INVALID_ARGUMENT", "Commit", name="wrong", key="extract-1")
+        snapshotter.call("Remove", key="extract-1")
+
+
+CHECKS = (check_a_tree, check_whiteouts_of_all_forms, check_what_images_do_not_hold,
+          check_many_layers,
+          check_layers_of_a_store, check_blobs_at_hand, check_lying_labels, check_given_images)

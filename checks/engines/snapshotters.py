@@ -1,0 +1,162 @@
+"""A snapshotter that runs for a check, and a client of it over gRPC."""
+import os
+import signal
+import socket
+import subprocess
+import sys
+
+from checks import TOOLS
+from checks.shared.mounting import SECONDS, Failed, hold, wait_until
+
+SCRIPT = os.path.join(TOOLS, "snapshotter.py")
+# Debian's own python3 has Debian's packages
+PYTHONS = (sys.executable, "/usr/bin/python3")
+# as containerd calls it
+SERVICE = "/containerd.services.snapshots.v1.Snapshots/"
+IMPORTED = "import grpc, google.protobuf"
+
+
+def python_with_grpc():
+    """A python3 that has grpcio and protobuf, or None."""
+    for python in PYTHONS:
+        done = subprocess.run([python, "-c", IMPORTED], stdin=subprocess.DEVNULL, check=False,
+                              stdout=subprocess.DEVNULL, stderr=subprocess.DEVNULL)
+        if done.returncode == 0:
+            return python
+    return None
+
+
+class Snapshotter:
+    """A snapshotter with a root of its own, below a folder."""
+
+    def __init__(self, program, folder, *words):
+        self.program, self.folder, self.root = program, folder, os.path.join(folder, "root")
+        self.socket, self.log = os.path.join(folder, "s.sock"), os.path.join(folder, "log")
+        self.words = [sys.executable, "-B", SCRIPT, "--root", self.root, "--socket", self.socket,
+                      "--strata", program, "--store", os.path.join(folder, "store"),
+                      "--content", os.path.join(folder, "content"), *words]
+        self.process = self.channel = None
+
+    def start(self):
+        """Starts it, and waits until it answers."""
+        with open(self.log, "ab") as log:
+            self.process = subprocess.Popen(self.words, stdin=subprocess.DEVNULL, stdout=log,
+                                            stderr=log)
+        wait_until("the snapshotter answers", self.listens)
+        # gRPC itself would wait for a second before it tries again
+        self.connect()
+        return self
+
+    def connect(self):
+        import grpc
+        self.channel = grpc.insecure_channel("unix:" + self.socket)
+
+    def listens(self):
+        if self.process.poll() is not None:
+            raise Failed("the snapshotter ended with %d" % self.process.returncode)
+        with socket.socket(socket.AF_UNIX) as it:
+            return it.connect_ex(self.socket) == 0
+
+    def stop(self, number=signal.SIGTERM):
+        """Ends it; its status."""
+        self.channel.close()
+        self.process.send_signal(number)
+        return self.process.wait()
+
+    def refused(self):
+        """The status and the lines of one that must not start."""
+        done = subprocess.run(self.words, stdin=subprocess.DEVNULL, stdout=subprocess.PIPE,
+                              stderr=subprocess.STDOUT, check=False, timeout=SECONDS)
+        return done.returncode, done.stdout.decode()
+
+    # --- calls ---
+
+    def tried(self, name, /, **words):
+        """What a call answers, or the name of the status that it fails with."""
+        import grpc
+        from strata_snapshotter.messages import API, CALLS
+        asked, answer = (getattr(API, it) for it in CALLS[name])
+        kind = self.channel.unary_stream if name == "List" else self.channel.unary_unary
+        call = kind(SERVICE + name, request_serializer=asked.SerializeToString,
+                    response_deserializer=answer.FromString)
+        try:
+            found = call(asked(**words), timeout=SECONDS)
+            return [it for part in found for it in part.info] if name == "List" else found
+        except grpc.RpcError as fault:
+            return "%s: %s" % (fault.code().name, fault.details())
+        except ValueError as fault:
+            # another thread has closed the channel
+            return "CANCELLED: %s" % fault
+
+    def call(self, name, /, **words):
+        """What a call answers, which must succeed."""
+        found = self.tried(name, **words)
+        if isinstance(found, str):
+            raise Failed("%s %s: %s" % (name, words, found))
+        return found
+
+    def fails(self, status, name, /, **words):
+        """Holds a call that must fail with a status."""
+        found = self.tried(name, **words)
+        hold("%s %s" % (name, words), status,
+             found.partition(":")[0] if isinstance(found, str) else found)
+
+    def settled(self, *names):
+        """Waits until it is settled for committed snapshots whether they are images."""
+        for name in names:
+            self.call("View", key="settled " + name, parent=name)
+            self.call("Remove", key="settled " + name)
+
+    # --- what there is ---
+
+    def names(self, *filters):
+        return sorted(it.name for it in self.call("List", filters=filters))
+
+    def files(self, mounts):
+        """The folder into which is written by mounts."""
+        mount, = mounts
+        upper = [it for it in mount.options if it.startswith("upperdir=")]
+        return upper[0].partition("=")[2] if upper else mount.source
+
+    def layer(self, name, parent, fill, key=None):
+        """Commits a layer that a function fills a folder with."""
+        key = key or "extract-" + name
+        made = self.call("Prepare", key=key, parent=parent)
+        fill(self.files(made.mounts))
+        self.call("Commit", name=name, key=key)
+
+    def view(self, name, parent):
+        """The folder that a view of a snapshot shows, which is one mount."""
+        mount, = self.call("View", key=name, parent=parent).mounts
+        hold("the view's mount", ("bind", ["ro", "rbind"]), (mount.type, list(mount.options)))
+        return mount.source
+
+    def remove_all(self):
+        """Removes all snapshots, those that others stand on behind these."""
+        names = self.names()
+        while names:
+            for name in names:
+                self.tried("Remove", key=name)
+            before, names = names, self.names()
+            hold("snapshots can be removed", True, len(names) < len(before))
+
+    def servers(self):
+        """The processes of strata that serve its mounts."""
+        found = []
+        for name in filter(str.isdigit, os.listdir("/proc")):
+            try:
+                with open("/proc/%s/cmdline" % name, "rb") as file:
+                    words = file.read().split(b"\0")
+            except OSError:
+                continue
+            if words[1:2] == [b"serve"] and words[-2].startswith(os.fsencode(self.root)):
+                found.append(int(name))
+        return found
+
+    def left(self):
+        """What is left on disk and mounted, but for the state."""
+        found = [os.path.join(name, it) for name in ("snapshots", "mounts", "new", "trash")
+                 for it in os.listdir(os.path.join(self.root, name))]
+        with open("/proc/self/mounts", encoding="utf-8", errors="surrogateescape") as lines:
+            found += [line for line in lines if line.split()[1].startswith(self.root)]
+        return sorted(found)

@@ -1,0 +1,1 @@
+"""A proxy snapshotter of containerd: strata-snapshotter. It alone needs grpcio and protobuf."""

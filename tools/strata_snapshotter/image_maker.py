@@ -1,0 +1,187 @@
+"""Makes images of committed layers, one after another, in a thread of its own.
+
+A layer becomes an image if all below it are images. One that an image doesn't hold, or that is
+above the most layers that strata stacks, stays a folder, and so does all above it; each is logged
+with the reason. A layer whose image is not made yet is found at the next start.
+
+A layer may also be given as an image: an archive of one file, `.strata.romfs`.
+"""
+import logging
+import os
+import secrets
+import sqlite3
+import stat
+import subprocess
+import threading
+
+from strata_format.refused import Refused
+from strata_snapshotter import places
+from strata_snapshotter.faults import InvalidArgument, Unavailable
+from strata_snapshotter.folder_image import write_folder_image
+from strata_snapshotter.state import Form
+
+LAYERS_MOST = 128
+GIVEN = ".strata.romfs"
+# seconds until it is looked whether who waits is still there, and until a fault is tried again
+LOOKING, AGAIN = 1, 5
+
+
+class ImageMaker:
+    """What makes images for the snapshots of a root."""
+
+    def __init__(self, snapshots, program):
+        self.snapshots, self.program = snapshots, program
+        self.state, self.places = snapshots.state, snapshots.places
+        self.changed = threading.Condition(snapshots.lock)
+        # the number of the layer of which an image is being made
+        self.making = None
+
+    def start(self):
+        threading.Thread(target=self.run, daemon=True).start()
+
+    # --- what may be an image ---
+
+    def form_over(self, snapshot):
+        """What the files of a snapshot are in once it is committed. The lock must be held."""
+        chain = self.state.chain(snapshot)
+        lower = next((it for it in chain[1:] if it.form == Form.FOLDER), None)
+        if lower is not None:
+            logging.info("%s stays a folder: %s below it is one", snapshot.name, lower.name)
+            return Form.FOLDER
+        if len(chain) > LAYERS_MOST:
+            logging.warning("%s stays a folder, with all above it: %d layers, and strata stacks %d",
+                            snapshot.name, len(chain), LAYERS_MOST)
+            return Form.FOLDER
+        return Form.PENDING
+
+    def wait(self, number, is_wanted=lambda: True):
+        """Waits until it is settled for a layer and all below it whether they are images."""
+        with self.changed:
+            while any(it.form == Form.PENDING for it in self.chain_of(number)):
+                self.changed.wait(LOOKING)
+                if not is_wanted():
+                    raise Unavailable("nobody waits for it any more")
+
+    def chain_of(self, number):
+        return self.state.chain(self.state.by_id(number))
+
+    def notice(self):
+        """Lets the thread know of a new layer."""
+        with self.changed:
+            self.changed.notify_all()
+
+    # --- making ---
+
+    def run(self):
+        while True:
+            try:
+                self.make(self.next())
+                self.snapshots.tidy()
+            except (sqlite3.Error, OSError) as fault:
+                logging.error("an image can't be kept now: %s", fault)
+                with self.changed:
+                    self.making = None
+                    self.changed.wait(AGAIN)
+
+    def next(self):
+        """Waits for a layer of which an image is to be made."""
+        with self.changed:
+            snapshot = self.state.pending()
+            while snapshot is None:
+                self.changed.wait()
+                snapshot = self.state.pending()
+            self.making = snapshot.id
+            return snapshot
+
+    def make(self, snapshot):
+        """Makes the image of a layer, and settles what its files are in."""
+        try:
+            with self.places.new_image() as (file, path):
+                self.write(snapshot, file)
+                self.settle(snapshot, lambda: self.replace(snapshot, path))
+        except (Refused, OSError, MemoryError) as fault:
+            # what was begun is gone by now, and leaves its room on a full disk
+            why, taken = str(fault), places.usage(self.places.files(snapshot.id))
+            self.settle(snapshot, lambda: self.stay(snapshot, why, taken))
+
+    def write(self, snapshot, file):
+        with self.snapshots.lock:
+            chain = self.chain_of(snapshot.id)
+        if any(it.form != Form.IMAGE for it in chain[1:]):
+            raise Refused("a layer below it is a folder")
+        write_folder_image(self.places.files(snapshot.id), file)
+        os.fsync(file.fileno())
+
+    def settle(self, snapshot, change):
+        """Makes a change to a layer if it is still there; else removes what is left of it."""
+        aside = None
+        with self.changed:
+            self.making = None
+            if self.state.by_id(snapshot.id) is None:
+                aside = self.places.set_aside(self.places.snapshot(snapshot.id))
+            else:
+                change()
+            self.changed.notify_all()
+        places.remove(aside)
+
+    def stay(self, snapshot, why, taken):
+        """Lets a layer that is no image yet stay a folder."""
+        places.remove(self.places.image(snapshot.id))
+        logging.warning("%s stays a folder, with all above it: %s", snapshot.name, why)
+        with self.state.transaction():
+            self.state.settle(snapshot.id, Form.FOLDER, taken)
+
+    def replace(self, snapshot, path):
+        """Puts an image into the place of a layer's folder, which is removed once nothing stands on
+        it."""
+        self.places.keep_image(path, snapshot.id)
+        with self.state.transaction():
+            self.state.settle(snapshot.id, Form.IMAGE,
+                              places.usage(self.places.image(snapshot.id)))
+        self.snapshots.spare.add(snapshot.id)
+
+    # --- layers that are given as images ---
+
+    def given_image(self, snapshot):
+        """The path of the image that a snapshot holds alone, or None."""
+        files = self.places.files(snapshot.id)
+        if os.listdir(files) != [GIVEN]:
+            return None
+        path = os.path.join(files, GIVEN)
+        return path if stat.S_ISREG(os.lstat(path).st_mode) else None
+
+    def take_given(self, snapshot, given, name, labels):
+        """Commits the image that a snapshot holds at a path, once it is checked."""
+        if snapshot.parent is not None:
+            self.wait(snapshot.parent)
+        path = self.places.at("new", secrets.token_hex(8))
+        os.link(given, path, follow_symlinks=False)
+        try:
+            self.hold_checked(path, name)
+            with self.changed:
+                self.commit_given(snapshot, path, name, labels)
+        finally:
+            places.remove(path)
+
+    def hold_checked(self, path, name):
+        """Sees that a file is an image that strata mounts, and puts it on the disk."""
+        done = subprocess.run([self.program, "check", "--attributes", path],
+                              stdin=subprocess.DEVNULL, stdout=subprocess.DEVNULL,
+                              stderr=subprocess.PIPE)
+        if done.returncode != 0:
+            why = done.stderr.decode(errors="replace").strip().replace(path, GIVEN)
+            raise InvalidArgument("snapshot %s: %s" % (name, why or done.returncode))
+        with open(path, "rb", 0) as file:
+            os.fsync(file.fileno())
+
+    def commit_given(self, snapshot, path, name, labels):
+        """Commits an image that is checked. The lock must be held."""
+        self.snapshots.committable(name, snapshot.name)
+        if any(it.form != Form.IMAGE for it in self.chain_of(snapshot.id)[1:]):
+            raise InvalidArgument("snapshot %s: an image can't stand on a folder" % name)
+        with self.state.transaction():
+            self.state.commit(snapshot, name, labels, Form.IMAGE)
+            self.places.keep_image(path, snapshot.id)
+            self.state.settle(snapshot.id, Form.IMAGE,
+                              places.usage(self.places.image(snapshot.id)))
+        self.snapshots.spare.add(snapshot.id)

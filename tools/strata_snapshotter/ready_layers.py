@@ -1,0 +1,73 @@
+"""Layers that stand ready when a snapshot is prepared for them: in the store of strata-layers, or
+as a blob in containerd's content store.
+
+A client that unpacks an image says which chain of layers a snapshot will end, and CRI and others
+say the digest of the layer's blob, too.
+"""
+import logging
+import os
+
+from strata_format.refused import Refused
+from strata_snapshotter.blob_image import chain_digest, is_digest, write_blob_image
+
+REFERENCE = "containerd.io/snapshot.ref"
+BLOB = "containerd.io/snapshot/cri.layer-digest"
+
+
+def chain_of(snapshot):
+    """The digest of the chain that a layer ends, as it was unpacked for it; else None. containerd
+    names such a snapshot by it."""
+    said = snapshot.labels.get(REFERENCE, snapshot.name.rpartition("/")[2])
+    return said if is_digest(said) else None
+
+
+class ReadyLayers:
+    """The layers of a store and of a content store, for a snapshotter's places."""
+
+    def __init__(self, held, store, content):
+        self.places, self.store, self.content = held, store, content
+
+    def is_there(self, labels):
+        """Whether a layer is in the store, or its blob at hand."""
+        number = self.store.opened(labels[REFERENCE])
+        if number is not None:
+            os.close(number)
+            return True
+        return self.content.find(labels.get(BLOB)) is not None
+
+    def write(self, labels, parent, images, file, path):
+        """Writes the image of the layer for which a snapshot is prepared, over a parent (or None)
+        that is made of images, the lowest first, to a new file; whether it stands ready."""
+        chain = labels[REFERENCE]
+        number = self.store.opened(chain)
+        if number is not None:
+            try:
+                self.places.take(number, file, path)
+            finally:
+                os.close(number)
+            return True
+        return self.write_blob(chain, labels.get(BLOB), parent, images, file)
+
+    def write_blob(self, chain, digest, parent, images, out):
+        """The same of a blob that is at hand, to an open file."""
+        found, below = self.content.find(digest), None
+        if found is None:
+            return False
+        if parent is not None:
+            below = chain_of(parent)
+            if below is None:
+                return False
+        files = []
+        try:
+            files += [open(path, "rb", 0) for path in images]
+            archive = write_blob_image(*found, out, [it.fileno() for it in files])
+        except (Refused, OSError) as refused:
+            logging.info("%s is unpacked: %s", digest, refused)
+            return False
+        finally:
+            for it in files:
+                it.close()
+        if chain_digest(below, archive) != chain:
+            logging.warning("%s is unpacked: it is not the layer of %s", digest, chain)
+            return False
+        return True

@@ -1,0 +1,315 @@
+"""The snapshots: what containerd asks of a snapshotter, over folders, images and mounts.
+
+A layer is committed as the folder into which containerd unpacked it, at once; its image is made
+behind that, and then takes the folder's place (image_maker.py). Who is to stand on a chain of
+layers for long waits for that, and stands on one mount of strata; overlayfs puts what is written
+over it. Only unpacking goes on over folders meanwhile.
+
+What an overlay stands on is noted with it and stays the same; folders and mounts that nothing
+stands on are removed.
+"""
+import collections
+import contextlib
+import logging
+import os
+import threading
+
+from strata_snapshotter import places
+from strata_snapshotter.chain_mounts import ChainMounts
+from strata_snapshotter.faults import (
+    AlreadyExists, FailedPrecondition, InvalidArgument, NotFound)
+from strata_snapshotter.filters import any_of
+from strata_snapshotter.image_maker import LAYERS_MOST, ImageMaker
+from strata_snapshotter.ready_layers import REFERENCE
+from strata_snapshotter.state import Form, Kind, Lower, State
+
+# a mount as containerd makes it: its type, source, and options
+Mount = collections.namedtuple("Mount", "type source options")
+# the names of snapshots into which layers are unpacked begin so, behind containerd's own front
+UNPACKED = "extract-"
+LABEL_PATH = "labels."
+OVERLAY_INDEX = "/sys/module/overlay/parameters/index"
+
+
+def is_unpacked_to(name):
+    return name.rpartition("/")[2].startswith(UNPACKED)
+
+
+def field_of(snapshot, path):
+    """The value of a field for filters, or None where it isn't present."""
+    if path[0] == "labels":
+        return snapshot.labels.get(".".join(path[1:]))
+    fields = {"name": snapshot.name, "parent": snapshot.parent_name,
+              "kind": snapshot.kind.name.lower()}
+    return fields.get(path[0])
+
+
+class Snapshots:
+    """All snapshots of a root; every call may come from any thread."""
+
+    def __init__(self, held, program, ready):
+        self.places, self.ready, self.state = held, ready, State(held.at("state.db"))
+        self.mounts_of = ChainMounts(held, program)
+        # over the state, and over folders as the state has them
+        self.lock = threading.RLock()
+        # layers that are images, and whose folders are there still
+        self.spare = set()
+        self.maker = ImageMaker(self, program)
+        held.clear()
+        self.cleanup()
+        self.maker.start()
+
+    def close(self):
+        """Ends the use of the state, so that it stands in one file."""
+        with self.lock:
+            self.state.close()
+
+    # --- what is there ---
+
+    def found(self, name):
+        snapshot = self.state.find(name)
+        if snapshot is None:
+            raise NotFound("snapshot %s: not found" % name)
+        return snapshot
+
+    def stat(self, name):
+        with self.lock:
+            return self.found(name)
+
+    def list(self, filters):
+        """The snapshots that match any of some filters."""
+        match = any_of(filters)
+        with self.lock:
+            every = self.state.every()
+        return [it for it in every if match(lambda path, it=it: field_of(it, path))]
+
+    def usage(self, name):
+        """The bytes and inodes that a snapshot takes itself."""
+        snapshot = self.stat(name)
+        if snapshot.kind == Kind.COMMITTED and snapshot.form != Form.PENDING:
+            return snapshot.size, snapshot.inodes
+        return places.usage(self.places.files(snapshot.id))
+
+    # --- Prepare and View ---
+
+    def create(self, name, parent_name, kind, labels, is_wanted=lambda: True):
+        """Makes a snapshot; its mounts. AlreadyExists where the layer for which it is made stands
+        ready. `is_wanted` says whether anybody still waits for it."""
+        with self.lock:
+            parent = self.parent_of(name, parent_name)
+        if kind == Kind.ACTIVE and REFERENCE in labels:
+            self.take_ready(name, parent, labels)
+        if parent is not None and not is_unpacked_to(name):
+            self.maker.wait(parent.id, is_wanted)
+        while True:
+            with self.lock:
+                lowers = self.lowers_on(self.parent_of(name, parent_name))
+            with self.mounts_of.holding([it.layer for it in lowers if it.is_mount]):
+                folders = [self.folder_of(it) for it in lowers]
+                with self.lock:
+                    # an image may have taken a folder's place meanwhile
+                    parent = self.parent_of(name, parent_name)
+                    if self.lowers_on(parent) == lowers:
+                        snapshot = self.insert(name, parent, kind, labels, lowers, folders)
+                        return self.mounts_over(snapshot, folders)
+
+    def parent_of(self, name, parent_name):
+        """The snapshot on which a new one of a name is to stand, or None."""
+        if not name:
+            raise InvalidArgument("a snapshot needs a key")
+        if self.state.find(name) is not None:
+            raise AlreadyExists("snapshot %s: already exists" % name)
+        if not parent_name:
+            return None
+        parent = self.found(parent_name)
+        if parent.kind != Kind.COMMITTED:
+            raise InvalidArgument("parent %s is not committed" % parent_name)
+        return parent
+
+    def lowers_on(self, parent):
+        """What a snapshot over a parent (or None) stands on: folders, and the mount of all images
+        below them."""
+        chain = self.state.chain(parent)
+        folders = [it for it in chain if it.form != Form.IMAGE]
+        images = chain[len(folders):]
+        return [Lower(it.id, False) for it in folders] + [Lower(it.id, True) for it in images[:1]]
+
+    def folder_of(self, lower):
+        """The folder of a layer, or that at which it is mounted."""
+        if not lower.is_mount:
+            return self.places.files(lower.layer)
+        with self.lock:
+            chain = self.state.chain(self.state.by_id(lower.layer))
+        if not chain:
+            raise NotFound("layer %d: not found" % lower.layer)
+        images = [self.places.image(it.id) for it in reversed(chain)]
+        return self.mounts_of.mount(lower.layer, images)
+
+    def insert(self, name, parent, kind, labels, lowers, folders):
+        """Makes the folders of a snapshot, and then the snapshot."""
+        top = os.stat(folders[0]) if folders else None
+        with contextlib.ExitStack() as undone:
+            with self.state.transaction():
+                number = self.state.insert(name, parent, kind, labels)
+                self.state.insert_lowers(number, lowers)
+                undone.callback(places.remove, self.places.snapshot(number))
+                self.places.make(number, (top.st_uid, top.st_gid) if top else None)
+            undone.pop_all()
+        return self.state.by_id(number)
+
+    def take_ready(self, name, parent, labels):
+        """Commits the layer that a snapshot is prepared for, where it stands ready: then it is
+        neither fetched nor unpacked."""
+        chain = labels[REFERENCE]
+        with self.lock:
+            is_there = self.state.ready(parent, REFERENCE, chain) is not None
+        if not is_there and not self.commit_ready(name, parent, labels):
+            return
+        raise AlreadyExists("target snapshot %s: already exists" % chain)
+
+    def commit_ready(self, name, parent, labels):
+        """Whether a layer stands ready, which is committed over its parent."""
+        if not self.ready.is_there(labels):
+            return False
+        if parent is not None:
+            self.maker.wait(parent.id)
+        with self.lock:
+            chain = [] if parent is None else self.state.chain(self.state.by_id(parent.id))
+        if len(chain) >= LAYERS_MOST or any(it.form != Form.IMAGE for it in chain):
+            return False
+        with self.places.new_image() as (file, path):
+            images = [self.places.image(it.id) for it in reversed(chain)]
+            if not self.ready.write(labels, parent, images, file, path):
+                return False
+            os.fsync(file.fileno())
+            with self.lock, self.state.transaction():
+                again = self.parent_of(name, "" if parent is None else parent.name)
+                if self.state.ready(again, REFERENCE, labels[REFERENCE]) is None:
+                    number = self.state.insert(name, again, Kind.COMMITTED, labels, Form.IMAGE,
+                                               is_ready=True)
+                    self.places.forget(number)
+                    self.places.keep_image(path, number)
+                    self.state.settle(number, Form.IMAGE, places.usage(self.places.image(number)))
+        return True
+
+    # --- Mounts ---
+
+    def mounts(self, name):
+        """The mounts of a snapshot that is not committed."""
+        with self.lock:
+            snapshot = self.found(name)
+            if snapshot.kind == Kind.COMMITTED:
+                raise FailedPrecondition("snapshot %s is committed, and has no mounts" % name)
+            lowers = self.state.lowers(snapshot)
+        return self.mounts_over(snapshot, [self.folder_of(it) for it in lowers])
+
+    def mounts_over(self, snapshot, folders):
+        """The mounts of a snapshot over folders, the highest first."""
+        files = self.places.files(snapshot.id)
+        is_view = snapshot.kind == Kind.VIEW
+        if not folders or is_view and len(folders) == 1:
+            source = folders[0] if folders else files
+            return [Mount("bind", source, ["ro" if is_view else "rw", "rbind"])]
+        options = ["index=off"] * os.path.exists(OVERLAY_INDEX)
+        if not is_view:
+            options += ["workdir=" + self.places.work(snapshot.id), "upperdir=" + files]
+        return [Mount("overlay", "overlay", [*options, "lowerdir=" + ":".join(folders)])]
+
+    # --- Commit, Update, Remove ---
+
+    def commit(self, name, key, labels):
+        """Makes a committed snapshot of an active one, under a new name."""
+        with self.lock:
+            snapshot = self.committable(name, key)
+            given = self.maker.given_image(snapshot)
+        if given is not None:
+            self.maker.take_given(snapshot, given, name, labels)
+        else:
+            self.commit_folder(key, name, labels)
+        places.remove(self.places.set_aside(self.places.work(snapshot.id)))
+        self.tidy()
+
+    def committable(self, name, key):
+        """The active snapshot of a key, which may be committed under a name. The lock must be
+        held."""
+        snapshot = self.found(key)
+        if snapshot.kind != Kind.ACTIVE:
+            raise FailedPrecondition("snapshot %s is not active" % key)
+        if not name:
+            raise InvalidArgument("a committed snapshot needs a name")
+        if self.state.find(name) is not None:
+            raise AlreadyExists("snapshot %s: already exists" % name)
+        return snapshot
+
+    def commit_folder(self, key, name, labels):
+        """Commits a snapshot as the folder that it is, of which an image may be made."""
+        with self.lock:
+            snapshot = self.committable(name, key)
+            form = self.maker.form_over(snapshot)
+            taken = (0, 0) if form == Form.PENDING else places.usage(self.places.files(snapshot.id))
+            with self.state.transaction():
+                self.state.commit(snapshot, name, labels, form)
+                self.state.settle(snapshot.id, form, taken)
+        self.maker.notice()
+
+    def update(self, name, labels, paths):
+        """Changes labels: those that paths name, or without paths all; the snapshot."""
+        with self.lock:
+            snapshot = self.found(name)
+            now = snapshot.labels
+            for path in paths or ["labels"]:
+                key = path[len(LABEL_PATH):]
+                if path == "labels":
+                    now = labels
+                elif path.startswith(LABEL_PATH) and key:
+                    now = {**now, key: labels.get(key, "")}
+                else:
+                    raise InvalidArgument("snapshot %s: %r can't be changed" % (name, path))
+            with self.state.transaction():
+                # a label that is empty is none
+                self.state.set_labels(snapshot, {key: it for key, it in now.items() if it})
+            return self.found(name)
+
+    def remove(self, name):
+        """Removes a snapshot on which nothing stands."""
+        with self.lock:
+            snapshot = self.found(name)
+            if self.state.has_children(snapshot):
+                raise FailedPrecondition("snapshot %s: others stand on it" % name)
+            with self.state.transaction():
+                self.state.delete(snapshot)
+            aside = None
+            if self.maker.making != snapshot.id:
+                aside = self.places.set_aside(self.places.snapshot(snapshot.id))
+        places.remove(aside)
+        self.tidy()
+
+    # --- what nothing stands on ---
+
+    def tidy(self):
+        """Takes away the mounts that nothing stands on, and removes the folders of images. What
+        can't be taken away now is logged, and found at the next start: what was asked for is
+        done."""
+        try:
+            with self.lock:
+                self.mounts_of.release(self.state.used(True))
+                found = (self.spare & self.state.numbers()) - self.state.used(False)
+                self.spare -= found
+                aside = [self.places.set_aside(path) for number in found
+                         for path in (self.places.files(number), self.places.work(number))]
+        except OSError as fault:
+            logging.warning("what is not needed stays for now: %s", fault)
+        else:
+            for path in aside:
+                places.remove(path)
+
+    def cleanup(self):
+        """Removes all that no snapshot needs, as a snapshotter that was killed has left it."""
+        with self.lock:
+            unknown = self.places.numbers("snapshots") - self.state.numbers()
+            aside = [self.places.set_aside(self.places.snapshot(number)) for number in unknown
+                     if self.maker.making != number]
+            self.spare |= self.state.images()
+        for path in aside:
+            places.remove(path)
+        self.tidy()

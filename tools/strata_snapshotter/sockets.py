@@ -1,0 +1,89 @@
+"""The socket at which the service is reached, which systemd may hold.
+
+gRPC listens at a socket of its own. If systemd holds the one that containerd knows, connections to
+it are passed on to that, so none is refused while the service restarts.
+"""
+import contextlib
+import os
+import socket
+import stat
+import threading
+
+from strata_format.refused import Refused, shown
+
+FIRST = 3
+PIECE = 1 << 16
+# so many bytes may the path of a socket have
+PATH_MOST = 107
+
+
+def given():
+    """The listening socket that systemd gives, or None."""
+    is_ours = os.environ.pop("LISTEN_PID", "") == str(os.getpid())
+    count = os.environ.pop("LISTEN_FDS", "0")
+    os.environ.pop("LISTEN_FDNAMES", None)
+    if not is_ours or count == "0":
+        return None
+    if count != "1":
+        raise Refused("systemd gives %s sockets, and one is wanted" % shown(count))
+    os.set_inheritable(FIRST, False)
+    return socket.socket(fileno=FIRST)
+
+
+def tell(line):
+    """Tells systemd how the service is, if it asked for that."""
+    place = os.environ.get("NOTIFY_SOCKET", "")
+    if place:
+        with contextlib.suppress(OSError), \
+                socket.socket(socket.AF_UNIX, socket.SOCK_DGRAM) as out:
+            out.connect("\0" + place[1:] if place.startswith("@") else place)
+            out.send(line.encode())
+
+
+def clear(path):
+    """Removes the socket of a service that has ended. Refused where one answers there, or where
+    something else has this name."""
+    if len(os.fsencode(path)) > PATH_MOST:
+        raise Refused("%s: a socket's path has at most %d bytes" % (shown(path), PATH_MOST))
+    with contextlib.suppress(FileNotFoundError):
+        if not stat.S_ISSOCK(os.lstat(path).st_mode):
+            raise Refused("%s: is there, and no socket" % shown(path))
+        with socket.socket(socket.AF_UNIX) as asking:
+            if asking.connect_ex(path) == 0:
+                raise Refused("%s: a service answers there" % shown(path))
+        os.unlink(path)
+
+
+# --- passing on ---
+
+def pass_on(source, target):
+    """Passes bytes on until there are no more."""
+    with contextlib.suppress(OSError):
+        while True:
+            data = source.recv(PIECE)
+            if not data:
+                break
+            target.sendall(data)
+    with contextlib.suppress(OSError):
+        target.shutdown(socket.SHUT_WR)
+
+
+def joined(outer, path):
+    """Passes bytes on between a connection and a new one to a socket, until both have ended."""
+    with outer, socket.socket(socket.AF_UNIX) as inner:
+        with contextlib.suppress(OSError):
+            inner.connect(path)
+            back = threading.Thread(target=pass_on, args=(inner, outer), daemon=True)
+            back.start()
+            pass_on(outer, inner)
+            back.join()
+
+
+def pass_all_on(listening, path):
+    """Joins each connection to a listening socket to one to the socket at a path, in threads."""
+    def accept():
+        while True:
+            connection, _ = listening.accept()
+            threading.Thread(target=joined, args=(connection, path), daemon=True).start()
+
+    threading.Thread(target=accept, daemon=True).start()

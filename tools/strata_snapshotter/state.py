@@ -1,0 +1,204 @@
+"""What is known of the snapshots, in a database of SQLite: ROOT/state.db.
+
+A change is one transaction, which comes after all that it needs on disk. So a snapshotter that is
+killed at any moment leaves folders that no row names at worst, and those are removed at startup.
+
+Whoever calls State holds the one lock over it.
+"""
+import collections
+import contextlib
+import enum
+import json
+import sqlite3
+import time
+
+from strata_format.refused import Refused, shown
+
+VERSION = 1
+SCHEMA = """
+CREATE TABLE snapshots(
+  id INTEGER PRIMARY KEY AUTOINCREMENT, name TEXT NOT NULL UNIQUE,
+  parent INTEGER REFERENCES snapshots(id), kind INTEGER NOT NULL, form TEXT NOT NULL,
+  is_ready INTEGER NOT NULL, labels TEXT NOT NULL, created INTEGER NOT NULL,
+  updated INTEGER NOT NULL, size INTEGER NOT NULL, inodes INTEGER NOT NULL);
+CREATE INDEX by_parent ON snapshots(parent);
+CREATE TABLE lowers(
+  snapshot INTEGER NOT NULL REFERENCES snapshots(id) ON DELETE CASCADE, place INTEGER NOT NULL,
+  layer INTEGER NOT NULL REFERENCES snapshots(id), is_mount INTEGER NOT NULL,
+  PRIMARY KEY(snapshot, place));
+CREATE INDEX by_layer ON lowers(layer, is_mount);
+PRAGMA user_version = 1;
+"""
+COLUMNS = "s.id, s.name, s.parent, p.name, s.kind, s.form, s.labels, s.created, s.updated, " \
+          "s.size, s.inodes"
+FOUND = "SELECT %s FROM snapshots s LEFT JOIN snapshots p ON p.id = s.parent " % COLUMNS
+
+
+class Kind(enum.IntEnum):
+    """The kinds of snapshots, by containerd's numbers."""
+
+    VIEW = 1
+    ACTIVE = 2
+    COMMITTED = 3
+
+
+class Form(enum.Enum):
+    """What the files of a snapshot are in: a folder; a folder of which an image is to be made; or a
+    romfs image."""
+
+    FOLDER = "folder"
+    PENDING = "pending"
+    IMAGE = "image"
+
+
+# parent: the number of the snapshot that this one stands on, or None; parent_name: its name, or "".
+# Times are nanoseconds since 1970; size (bytes) and inodes are those of a folder that stays or of
+# an image.
+Snapshot = collections.namedtuple("Snapshot", "id name parent parent_name kind form labels created "
+                                  "updated size inodes")
+# a folder that an overlay stands on: that of a layer, or the mount of a layer with all below it
+Lower = collections.namedtuple("Lower", "layer is_mount")
+
+
+def snapshot_of(row):
+    at, name, parent, parent_name, kind, form, labels, *rest = row
+    return Snapshot(at, name, parent, parent_name or "", Kind(kind), Form(form),
+                    json.loads(labels), *rest)
+
+
+class State:
+    """The open database. Refused where it is damaged, or of another version."""
+
+    def __init__(self, path):
+        try:
+            self.base = sqlite3.connect(path, check_same_thread=False, isolation_level=None)
+            self.prepare()
+        except sqlite3.Error as fault:
+            raise Refused("%s: %s; restore it, or remove it with the folder that it is in, and "
+                          "pull the images again" % (shown(path), fault)) from None
+
+    def prepare(self):
+        self.base.execute("PRAGMA journal_mode = WAL")
+        self.base.execute("PRAGMA synchronous = FULL")
+        self.base.execute("PRAGMA foreign_keys = ON")
+        checked = self.base.execute("PRAGMA quick_check(1)").fetchone()[0]
+        if checked != "ok":
+            raise sqlite3.DatabaseError("damaged: " + checked.splitlines()[-1])
+        version, = self.base.execute("PRAGMA user_version").fetchone()
+        if version == 0:
+            self.base.executescript("BEGIN;" + SCHEMA + "COMMIT;")
+        elif version != VERSION:
+            raise sqlite3.DatabaseError("of version %d, and %d is wanted" % (version, VERSION))
+
+    def close(self):
+        self.base.close()
+
+    @contextlib.contextmanager
+    def transaction(self):
+        """Makes all changes within it, or none."""
+        self.base.execute("BEGIN IMMEDIATE")
+        try:
+            yield
+            self.base.execute("COMMIT")
+        finally:
+            if self.base.in_transaction:
+                self.base.execute("ROLLBACK")
+
+    # --- what is there ---
+
+    def one(self, condition, *values):
+        row = self.base.execute(FOUND + condition, values).fetchone()
+        return None if row is None else snapshot_of(row)
+
+    def find(self, name):
+        """The snapshot of a name, or None."""
+        return self.one("WHERE s.name = ?", name)
+
+    def by_id(self, number):
+        return self.one("WHERE s.id = ?", number)
+
+    def pending(self):
+        """The first snapshot of which an image is to be made, or None. What it stands on was
+        committed before it, and comes first."""
+        return self.one("WHERE s.form = 'pending' AND s.kind = 3 ORDER BY s.id LIMIT 1")
+
+    def every(self):
+        return [snapshot_of(row) for row in self.base.execute(FOUND + "ORDER BY s.id")]
+
+    def chain(self, snapshot):
+        """A snapshot and all that it stands on, the highest first."""
+        found = []
+        while snapshot is not None:
+            found.append(snapshot)
+            snapshot = None if snapshot.parent is None else self.by_id(snapshot.parent)
+        return found
+
+    def has_children(self, snapshot):
+        found = self.base.execute("SELECT 1 FROM snapshots WHERE parent = ?", (snapshot.id,))
+        return found.fetchone() is not None
+
+    def ready(self, parent, key, value):
+        """The layer over a parent that was committed without being unpacked and has a label, or
+        None."""
+        found = self.base.execute(FOUND + "WHERE s.is_ready AND s.parent IS ?",
+                                  (None if parent is None else parent.id,))
+        return next((it for it in map(snapshot_of, found) if it.labels.get(key) == value), None)
+
+    def numbers(self):
+        return {number for number, in self.base.execute("SELECT id FROM snapshots")}
+
+    # --- what stands on what ---
+
+    def lowers(self, snapshot):
+        """What an overlay stands on, the highest first, as it was said when it was made."""
+        found = self.base.execute("SELECT layer, is_mount FROM lowers WHERE snapshot = ? "
+                                  "ORDER BY place", (snapshot.id,))
+        return [Lower(layer, bool(is_mount)) for layer, is_mount in found]
+
+    def used(self, is_mount):
+        """The layers whose mounts, or whose folders, something stands on."""
+        found = self.base.execute("SELECT DISTINCT layer FROM lowers WHERE is_mount = ?",
+                                  (is_mount,))
+        return {layer for layer, in found}
+
+    def images(self):
+        """The layers that are images."""
+        found = self.base.execute("SELECT id FROM snapshots WHERE form = 'image'")
+        return {number for number, in found}
+
+    # --- changes ---
+
+    def insert(self, name, parent, kind, labels, form=Form.FOLDER, is_ready=False):
+        """A new snapshot's number."""
+        now = time.time_ns()
+        return self.base.execute(
+            "INSERT INTO snapshots(name, parent, kind, form, is_ready, labels, created, updated, "
+            "size, inodes) VALUES(?, ?, ?, ?, ?, ?, ?, ?, 0, 0)",
+            (name, None if parent is None else parent.id, kind, form.value, is_ready,
+             json.dumps(labels), now, now)).lastrowid
+
+    def insert_lowers(self, number, lowers):
+        self.base.executemany(
+            "INSERT INTO lowers(snapshot, place, layer, is_mount) VALUES(?, ?, ?, ?)",
+            [(number, place, *it) for place, it in enumerate(lowers)])
+
+    def commit(self, snapshot, name, labels, form):
+        """Makes a committed snapshot of an active one."""
+        now = time.time_ns()
+        self.base.execute("DELETE FROM lowers WHERE snapshot = ?", (snapshot.id,))
+        self.base.execute(
+            "UPDATE snapshots SET name = ?, kind = ?, form = ?, labels = ?, created = ?, "
+            "updated = ? WHERE id = ?",
+            (name, Kind.COMMITTED, form.value, json.dumps(labels), now, now, snapshot.id))
+
+    def settle(self, number, form, usage):
+        """Says what the files of a committed snapshot are in from now on, and what they take."""
+        self.base.execute("UPDATE snapshots SET form = ?, size = ?, inodes = ? WHERE id = ?",
+                          (form.value, *usage, number))
+
+    def set_labels(self, snapshot, labels):
+        self.base.execute("UPDATE snapshots SET labels = ?, updated = ? WHERE id = ?",
+                          (json.dumps(labels), time.time_ns(), snapshot.id))
+
+    def delete(self, snapshot):
+        self.base.execute("DELETE FROM snapshots WHERE id = ?", (snapshot.id,))
