@@ -128,10 +128,11 @@ def convert(store, layout, tag, word, options, lost):
         with Progress("layers", size) as progress:
             layout.heard = progress.add
             layers = [maker.layers(layout, image) for image in images]
-        converter = Converter(maker, LayoutWriter(folder), options.packing)
-        made = [converter.image(*both) for both in zip(images, layers)]
-        if options.platform == "all":
-            value = {"schemaVersion": 2, "mediaType": INDEXES[0], "manifests": made}
-            made = [converter.target.document(INDEXES[0], value)]
-        converter.target.put_index(made[0], new_tag)
+        with LayoutWriter(folder) as target:
+            converter = Converter(maker, target, options.packing)
+            made = [converter.image(*both) for both in zip(images, layers)]
+            if options.platform == "all":
+                value = {"schemaVersion": 2, "mediaType": INDEXES[0], "manifests": made}
+                made = [target.document(INDEXES[0], value)]
+            target.put_index(made[0], new_tag)
     return folder, new_tag
