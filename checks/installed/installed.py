@@ -13,7 +13,7 @@ from checks.installed import commands, faults, mounts, packages, pages, programs
 from checks.installed.roots import apart
 
 CHECKS = (
-    programs.named, programs.early, pages.shown, pages.options, pages.shells, pages.words_of_fstab, pages.faults,
+    programs.named, programs.early, pages.shown, pages.options, pages.narrow, pages.shells, pages.words_of_fstab, pages.faults,
     packages.same_bytes, packages.uninstalled, packages.unbuilt, commands.in_reference)
 # those that mount
 MOUNTING = (

@@ -61,7 +61,7 @@ def word_of(names):
 
 
 def parser_of(name):
-    parser = Parser(prog=name, usage="%(prog)s LOWER[:UPPER].. DIR [-sfnv] [-o OPTIONS] [-t TYPE]",
+    parser = Parser(prog=name, usage="%(prog)s LOWER[:UPPER].. DIR [-sfnv]\n                    [-o OPTIONS] [-t TYPE]",
                     description="Mounts romfs images for mount(8).")
     parser.add_argument("-s", dest="sloppy", action="store_true", help="ignore unknown options")
     parser.add_argument("-f", dest="fake", action="store_true", help="check that the images exist, and mount nothing")
