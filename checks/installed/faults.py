@@ -49,9 +49,14 @@ def images(root):
         hold("of " + name, (status, lines), refused(root, "/srv/" + name))
         done = root.run("mount", "-t", "strata", "/srv/lower.romfs:/srv/" + name, "/mnt")
         hold("by mount, of " + name, (32, lines.replace("strata-mount", "mount.strata")), (done.status, done.err))
-    no_image = "no such file, and no such image in /var/lib/strata"
-    hold("no file and no image", (1, "image 1: cannot be read\nstrata-mount: image 1 is none:1: %s\n" % no_image),
-         refused(root, "none:1"))
+    brought = "`strata-layers pull SOURCE %s` brings it there"
+    far = "no such file; `strata-layers pull %s NAME` brings it into the store as NAME"
+    for name, why in (("none:1", "no such file, and no such image in /var/lib/strata; " + brought % "none:1"),
+                      ("docker://host/app:1", far % "docker://host/app:1"), ("oci:none:1", far % "oci:none:1")):
+        hold("no file and no image", (1, "image 1: cannot be read\nstrata-mount: image 1 is %s: %s\n" % (name, why)),
+             refused(root, name))
+    hold("no image of a name", (1, "strata-mount: none: no such image in /var/lib/strata; %s\n" % brought % "none"),
+         refused(root, "image:none"))
     done = root.run("prlimit", "--nofile=20", "strata-mount", *["/srv/lower.romfs"] * 30, "/mnt")
     hold("the status of many files", 1, done.status)
     hold_in("many files", "too many open files: strata keeps one open for each of 30 images, and a few more; `ulimit -n` "

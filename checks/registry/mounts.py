@@ -65,9 +65,11 @@ def check_mounts_by_name(room):
     hold("an image", WANTED, seen(mounted(room, "image:team/app:1")))
     at = mounted(room, "image:team/app:1", "team/app:1")
     hold("a file over an image", True, os.path.exists(os.path.join(at, "bin", "tell")))
-    for word in ("image:none", "image:team/app:2", "image:../app"):
+    for word, is_name in (("image:none", True), ("image:team/app:2", True), ("image:../app", False)):
         at, done = mount(room, word)
         hold(word, (1, 1, False), (done.returncode, done.stderr.count("\n"), os.path.ismount(at)))
+        hint = "; `strata-layers pull SOURCE %s` brings it there\n" % word.partition(":")[2]
+        hold("a hint for " + word, is_name, done.stderr.endswith(hint))
 
 
 def check_one_file(room):

@@ -21,6 +21,15 @@ StoredImage = collections.namedtuple("StoredImage", "source manifest layers conf
 StoredLayer = collections.namedtuple("StoredLayer", "digits size part", defaults=(0,))
 
 
+class NoImage(Refused):
+    """A store has no image of a name."""
+
+
+def brought(name):
+    """What is said of how an image is brought into a store."""
+    return "`strata-layers pull SOURCE %s` brings it there" % name
+
+
 def split_image(word):
     """The name and the tag of `NAME[:TAG]`; the tag is None where there is none."""
     name, colon, tag = word.partition(":")
@@ -50,7 +59,7 @@ def full_name(store, word):
     if tag is None:
         tag = there[0] if len(there) == 1 else LATEST
     if tag not in there:
-        raise Refused("%s: no such image in %s" % (word, store.name))
+        raise NoImage("%s: no such image in %s" % (word, store.name))
     return "%s:%s" % (name, tag)
 
 
@@ -157,13 +166,15 @@ def image_meant(word, store):
 
 def store_for(words, place):
     """The store at a place, where words of a mount may mean one of its images; else None."""
-    is_asked = any(word.startswith("image:") for word in words)
-    if not is_asked and (all(map(is_file, words)) or not os.path.isdir(place)):
+    asked = [word.partition(":")[2] for word in words if word.startswith("image:")]
+    if not asked and (all(map(is_file, words)) or not os.path.isdir(place)):
         return None
+    if not os.path.isdir(place):
+        raise NoImage("%s: no such image in %s" % (asked[0], shown(place)))
     try:
         return Store(place)
     except (Refused, OSError):
-        if is_asked:
+        if asked:
             raise
         return None
 
@@ -180,5 +191,6 @@ def mounted_words(words, place=None, is_verified=False):
             paths, marks = paths + found, marks + held
     except Refused as refused:
         where, _, why = str(refused).partition(": ")
-        raise OSError(0, why, where) from None
+        hint = "; " + brought(where) if isinstance(refused, NoImage) else ""
+        raise OSError(0, why + hint, where) from None
     return paths, marks
