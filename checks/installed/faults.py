@@ -3,12 +3,14 @@ import gzip
 import io
 import os
 import re
+import shutil
+import stat
 import struct
 import tarfile
 
 from checks import ROOT
 from checks.installed.mounts import OTHER, places, user
-from checks.installed.roots import Failed, hold, hold_in
+from checks.installed.roots import BIND, Failed, hold, hold_in, mount
 from strata_mount.faults import RULES
 
 RULE = os.path.join(ROOT, "crates", "romfs_format", "src", "rule.rt")
@@ -84,6 +86,24 @@ def not_permitted(root):
          (done.status, done.err))
     hold("mounts", [], places())
     return "said to a user who may not read an image"
+
+
+def device(root):
+    """A device that the user may not open, without fusermount3: a device file of mode 600 over it."""
+    root.needs("setpriv")
+    root.install()
+    other = user(root)
+    os.mkdir("/mnt/other")
+    os.chown("/mnt/other", OTHER, OTHER)
+    os.mknod("/tmp/closed", 0o600 | stat.S_IFCHR, os.stat("/dev/fuse").st_rdev)
+    mount("/tmp/closed", "/dev/fuse", None, BIND)
+    while helper := shutil.which("fusermount3"):
+        os.unlink(helper)
+    done = root.run(*other, "strata-mount", "/srv/lower.romfs", "/mnt/other")
+    hold("the device", (1, "strata-mount: /dev/fuse: Permission denied"), (done.status, done.err.splitlines()[0]))
+    hold_in("the device", "this user may not open it, and there is no fusermount3", done.err)
+    hold("lines", 2, len(done.err.splitlines()))
+    return "said to a user who may not open /dev/fuse"
 
 
 def archive(names):
