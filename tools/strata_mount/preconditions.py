@@ -45,11 +45,17 @@ def hold_folder(plan):
 
 
 def find_images(plan):
-    """Puts the layers of images of the store in the place of their names."""
-    if plan.store is None and not plan.verify and all(map(os.path.lexists, plan.images)):
-        return
-    from strata_layers import store_images
-    plan.images, plan.marks = store_images.mounted_words(plan.images, plan.store, plan.verify)
+    """Puts the layers of images of the store in the place of their names, and says where one lies
+    on another than it was made for."""
+    parents = {}
+    if plan.store is not None or plan.verify or not all(map(os.path.lexists, plan.images)):
+        from strata_layers import store_images
+        found = store_images.mounted_words(plan.images, plan.store, plan.verify)
+        plan.images, plan.marks, parents = found
+    from strata_layers.layer_order import wrong_order
+    line = wrong_order(plan.images, parents)
+    if line is not None:
+        plan.say(line)
 
 
 def hold_names(plan):
