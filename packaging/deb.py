@@ -48,6 +48,32 @@ Description: container layers as romfs images, for containerd
  image of each layer once, and all containers on the same layers share one
  mount of strata.
 """
+# dpkg runs these: modules are compiled for the Python of the machine, and what was compiled goes with the package
+POSTINST = """\
+#!/bin/sh
+set -e
+if [ "$1" = configure ] && command -v py3compile > /dev/null; then
+    py3compile -p strata /usr/lib/strata
+fi
+"""
+PRERM = """\
+#!/bin/sh
+set -e
+if command -v py3clean > /dev/null; then
+    py3clean -p strata
+else
+    find /usr/lib/strata -name __pycache__ -prune -exec rm -r {} +
+fi
+"""
+# py3compile's own, at an upgrade of python3
+RTUPDATE = """\
+#!/bin/sh
+set -e
+if [ "$1" = rtupdate ]; then
+    py3clean -p strata
+    py3compile -p strata /usr/lib/strata
+fi
+"""
 COPYRIGHT = """\
 Format: https://www.debian.org/doc/packaging-manuals/copyright-format/1.0/
 Upstream-Name: strata
@@ -114,8 +140,9 @@ def said_of(package, moment):
 
 
 def main_entries(program):
-    for entry in files.entries(program, PYTHON):
+    for entry in files.entries(program, PYTHON, is_compiled=False):
         yield entry._replace(data=stripped(program)) if entry.path == "bin/strata" else entry
+    yield files.Entry("share/python3/runtime.d/strata.rtupdate", 0o755, RTUPDATE.encode())
 
 
 def mit_text():
@@ -136,12 +163,13 @@ def architecture():
     return subprocess.run(["dpkg", "--print-architecture"], check=True, stdout=subprocess.PIPE, text=True).stdout.strip()
 
 
-def control(text, found, **more):
-    """What dpkg is told of the package, as files of its own folder."""
+def control(text, found, scripts=(), **more):
+    """What dpkg is told of the package, as files of its own folder, with the scripts that it runs."""
     size = sum(-(-len(entry.data or b"") // 1024) for entry in found) + len(files.folders(found))
     text = text.format(version=files.version(), maintainer=MAINTAINER, size=size, **more)
     sums = "".join("%s  usr/%s\n" % (hashlib.md5(entry.data).hexdigest(), entry.path) for entry in found if entry.link is None)
-    return [files.Entry("DEBIAN/control", 0o644, text.encode()), files.Entry("DEBIAN/md5sums", 0o644, sums.encode())]
+    runs = [files.Entry("DEBIAN/" + name, 0o755, script.encode()) for name, script in scripts]
+    return [files.Entry("DEBIAN/control", 0o644, text.encode()), files.Entry("DEBIAN/md5sums", 0o644, sums.encode()), *runs]
 
 
 def write(path, said, found, moment):
@@ -164,7 +192,8 @@ def build(program, folder):
     files.hold_built(program)
     moment, version, machine = files.moment(), files.version(), architecture()
     found = sorted([*packaged(main_entries(program)), *said_of("strata", moment)])
-    said = control(CONTROL, found, architecture=machine, libc=libc_of(program))
+    scripts = (("postinst", POSTINST), ("prerm", PRERM))
+    said = control(CONTROL, found, scripts, architecture=machine, libc=libc_of(program))
     yield write(os.path.join(folder, "strata_%s_%s.deb" % (version, machine)), said, found, moment)
     found = sorted([*packaged(files.snapshotter_entries(PYTHON)), *said_of("strata-snapshotter", moment)])
     said = control(SNAPSHOTTER_CONTROL, found)

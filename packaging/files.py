@@ -4,6 +4,7 @@ import os
 import re
 import subprocess
 import sys
+import tempfile
 
 ROOT = os.path.dirname(os.path.dirname(os.path.realpath(__file__)))
 sys.path.insert(0, os.path.join(ROOT, "tools"))
@@ -51,6 +52,19 @@ def modules(packages):
                 yield Entry("%s/%s/%s" % (MODULES, package, name), 0o644, read("tools", package, name))
 
 
+def compiled(python):
+    """The same modules as this Python loads them at once. Another one compiles them at each start."""
+    names = [entry.path[len(MODULES) + 1:] for entry in modules(PACKAGES) if entry.path.endswith(".py")]
+    with tempfile.TemporaryDirectory(prefix="strata-compiled-") as out:
+        script = os.path.join(ROOT, "packaging", "compiled.py")
+        subprocess.run([python, "-IBS", script, os.path.join(ROOT, "tools"), out, *sorted(names)], check=True)
+        for folder, _, found in os.walk(out):
+            for name in found:
+                place = os.path.join(folder, name)
+                with open(place, "rb") as it:
+                    yield Entry("%s/%s" % (MODULES, os.path.relpath(place, out)), 0o644, it.read())
+
+
 def launcher(path, module, words, python, flags=ALONE):
     text = read("packaging", "launcher.py").decode()
     values = {"PYTHON": python, "FLAGS": flags, "NAME": os.path.basename(path), "MODULE": module, "WORDS": words}
@@ -81,13 +95,15 @@ def documents():
         yield Entry("share/doc/strata/" + names[-1], 0o644, read(*names))
 
 
-def entries(program, python):
-    """All that is installed, in the order of paths: the program from this file, and what goes by this python3."""
+def entries(program, python, is_compiled=True):
+    """All that is installed, in the order of paths: the program from this file, and what goes by this python3, with its
+    modules compiled for it."""
     with open(program, "rb") as it:
         found = [Entry("bin/strata", 0o755, it.read())]
     found += [Entry(path, 0o755, launcher(path, module, words, python)) for path, module, words in PROGRAMS]
     found.append(Entry("sbin/mount.fuse.strata", 0o777, link="mount.strata"))
     found.append(Entry(MODULES + "/version", 0o644, version().encode() + b"\n"))
+    found += compiled(python) if is_compiled else []
     return sorted([*found, *modules(PACKAGES), *pages(), *completions(), *documents()])
 
 

@@ -70,9 +70,9 @@ def install(found, top, links):
 
 
 def remove_modules(top, kept=()):
-    """Takes away modules, those of an earlier strata too, but for those at paths that are kept."""
+    """Takes away modules, compiled ones and those of an earlier strata too, but for those at paths that are kept."""
     for folder, _, names in os.walk(os.path.join(top, files.MODULES)):
-        for place in (os.path.join(folder, name) for name in names if name.endswith(".py")):
+        for place in (os.path.join(folder, name) for name in names if name.endswith((".py", ".pyc"))):
             if os.path.relpath(place, top) not in kept:
                 os.unlink(place)
 

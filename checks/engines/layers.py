@@ -171,7 +171,7 @@ def check_what_images_do_not_hold(snapshotter):
     for number, (fill, said) in enumerate((
             (ability, "ping: has the extended attribute security.capability"),
             (colour, "/: has the extended attribute user.colour"),
-            (lambda folder: put(folder, ".wh.x"), ".wh.x: a name of whiteouts")), 1):
+            (lambda folder: put(folder, ".wh.x"), ".wh.x: a layer takes a name that begins with .wh. as a whiteout")), 1):
         lines = stays_a_folder(snapshotter, fill)
         hold("lines", 2 * number, len(lines))
         hold("the line", True, "middle stays a folder, with all above it: " + said in lines[-2])

@@ -240,8 +240,8 @@ def by_user(root):
     hold("root's look", 1, root.run("cat", "/mnt/user/etc/hostname").status)
     done = root.run(*other, "strata-mount", "--background", "/srv/lower.romfs", "/mnt/user")
     hold("the status of a second mount", 1, done.status)
-    hold_in("a second mount", "strata-mount: /mnt/user: something is mounted here already: `fusermount3 -u /mnt/user` unmounts it\n",
-            done.err)
+    hold_in("a second mount", "strata-mount: /mnt/user: something is mounted here already: `fusermount3 -u /mnt/user` unmounts "
+                              "it, and so does --replace; `-o stack` mounts over it\n", done.err)
     root.good(*other, "umount", "/mnt/user")
     hold("mounts", [], places())
     os.remove(shutil.which("fusermount3"))

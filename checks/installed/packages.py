@@ -48,6 +48,7 @@ def package(root):
     for name in PATHS:
         name = "/usr/" + name + (".gz" if name.startswith(("share/man", "share/doc")) else "")
         hold(name, True, os.path.exists(name))
+    hold("compiled modules", True, any(os.scandir("/usr/lib/strata/strata_mount/__pycache__")))
     os.mkdir("/srv/tree")
     fstab(STACK + " /srv/tree strata ro,nofail 0 0")
     root.good("mount", "-a")

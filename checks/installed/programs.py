@@ -1,6 +1,7 @@
 """The installed programs run by their names, whatever stands around them."""
 import os
 import re
+import shutil
 import signal
 
 from checks import ROOT
@@ -9,6 +10,9 @@ from checks.installed.roots import LeftOut, hold, hold_in
 
 SOURCE = os.path.join(ROOT, "crates", "command_line", "src", "version.rt")
 LOGIC = "dac8208d650f15bf"
+# what takes longer to load than to mount
+HEAVY = ("argparse", "contextlib", "ctypes", "enum", "hashlib", "json", "re", "shutil", "signal", "socket", "subprocess",
+         "tempfile", "threading")
 EVIL = "raise SystemExit('a stranger was imported')\n"
 
 
@@ -87,6 +91,27 @@ def other_alone(root, words, env):
 
 def version_of(path):
     return os.path.basename(path) + " "
+
+
+def lean(root):
+    """A mount, by files or by a name of the store, loads no module that takes longer than it, and no module is compiled."""
+    shutil.copytree(os.path.join(ROOT, "demo", "layout"), root.top + "/srv/layout")
+    root.install()
+    hold("pull", 0, root.run("strata-layers", "pull", "oci:/srv/layout", "lantern").status)
+    os.mkdir("/mnt/lean")
+    with open("/usr/local/bin/strata-mount", encoding="utf-8") as it:
+        python = it.readline().split()[0][2:]
+    for words in (("bin/strata-mount", "--background", "/srv/lower.romfs"), ("bin/strata-mount", "--share", "image:lantern"),
+                  ("sbin/mount.strata", "/srv/lower.romfs"), ("sbin/mount.strata", "image:lantern")):
+        told = root.run(python, "-IBS", "-v", "/usr/local/" + words[0], *words[1:], "/mnt/lean")
+        hold("the status of %s" % (words,), 0, told.status)
+        root.good("umount", "/mnt/lean")
+        loaded = set(re.findall(r"^import '([\w.]+)'", told.err, re.M))
+        hold("modules of %s" % (words,), set(), loaded & set(HEAVY))
+        ours = re.findall(r"^# code object from /usr/local/lib/strata/.*", told.err, re.M)
+        hold("modules that are compiled anew", [], ours)
+        hold("compiled modules", True, "strata_mount/__pycache__/" in told.err)
+    return "%d modules are not loaded, and none is compiled" % len(HEAVY)
 
 
 def links(root):

@@ -1,6 +1,6 @@
 """What a program finds when it begins, whoever started it, and what it writes to whoever is there to read it."""
+import _signal as signal  # without enum, which takes longer to load than all of this
 import os
-import signal
 import sys
 
 
@@ -35,6 +35,17 @@ def put(data):
     except OSError as fault:
         lose(sys.stdout)
         raise OSError(fault.errno, fault.strerror, "/dev/stdout") from None
+
+
+def leave(status):
+    """Ends this process with a status at once: to take itself down Python takes as long as some
+    modules to load. The status is given back if an end does not take what was written."""
+    try:
+        sys.stdout.flush()
+        sys.stderr.flush()
+    except OSError:
+        return status
+    os._exit(status)
 
 
 def lose(end):

@@ -5,10 +5,8 @@ is whole.
         write_all(new.file, data)
         new.keep(folder, "name")                      without this nothing stays
 """
-import contextlib
 import errno
 import os
-import secrets
 
 from strata_format.refused import faults_below
 
@@ -28,22 +26,34 @@ def open_folder(name, above=None):
 
 def make_folder(name, above=None):
     """The same, which is made where it isn't there."""
-    with contextlib.suppress(FileExistsError):
+    try:
         os.mkdir(name, dir_fd=above)
+    except FileExistsError:
+        pass
     return open_folder(name, above)
 
 
 # --- new files ---
 
-class NewFile:
-    """A file, open for writing and reading without a buffer, in an open folder, where it stays only
-    under a name that it is given."""
+class new_file:
+    """A new file of a mode, open for writing and reading without a buffer, in an open folder, where
+    it stays only under a name that it is given. Its passing name begins with `front`; faults name
+    the folder's place."""
 
-    def __init__(self, folder, mode, front, is_lasting):
-        self.folder, self.is_lasting = folder, is_lasting
-        self.passing = front + secrets.token_hex(8)
+    def __init__(self, folder, place, mode, front="", is_lasting=False):
+        self.folder, self.is_lasting, self.faults = folder, is_lasting, faults_below(place)
+        self.passing = front + os.urandom(8).hex()
         flags = os.O_RDWR | os.O_CREAT | os.O_EXCL | os.O_NOFOLLOW | os.O_CLOEXEC
-        self.file = os.fdopen(os.open(self.passing, flags, mode, dir_fd=folder), "w+b", 0)
+        with self.faults:
+            self.file = os.fdopen(os.open(self.passing, flags, mode, dir_fd=folder), "w+b", 0)
+
+    def __enter__(self):
+        return self
+
+    def __exit__(self, *fault):
+        with self.faults:
+            self.close()
+        return self.faults.__exit__(*fault)
 
     def keep(self, folder, name):
         """Gives the file, which is whole, its name in an open folder of the same file system, in
@@ -58,20 +68,10 @@ class NewFile:
     def close(self):
         """Closes the file, and takes it away where it got no name."""
         self.file.close()
-        with contextlib.suppress(FileNotFoundError):
-            os.unlink(self.passing, dir_fd=self.folder)
-
-
-@contextlib.contextmanager
-def new_file(folder, place, mode, front="", is_lasting=False):
-    """A new file of a mode in an open folder, whose passing name begins with `front`; faults name
-    the folder's place."""
-    with faults_below(place):
-        new = NewFile(folder, mode, front, is_lasting)
         try:
-            yield new
-        finally:
-            new.close()
+            os.unlink(self.passing, dir_fd=self.folder)
+        except FileNotFoundError:
+            pass
 
 
 # --- bytes ---

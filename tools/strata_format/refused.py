@@ -1,5 +1,4 @@
 """Why something is refused, as one line, and how what strangers wrote is shown in one."""
-import contextlib
 import os
 
 SHOWN, LINE_MOST = 200, 4200
@@ -53,15 +52,21 @@ class Faults:
             raise Refused(self.found[0], self.found[1:] + more)
 
 
-@contextlib.contextmanager
-def faults_below(place):
-    """Lets the faults of files that no whole path names, since they are opened below a folder, name that folder."""
-    try:
-        yield
-    except OSError as fault:
-        if isinstance(fault.filename, (str, bytes)) and os.path.isabs(fault.filename):
-            raise
-        raise OSError(fault.errno, fault.strerror, place) from None
+class faults_below:
+    """Lets the faults of files that no whole path names, since they are opened below a folder, name
+    that folder."""
+
+    def __init__(self, place):
+        self.place = place
+
+    def __enter__(self):
+        return self
+
+    def __exit__(self, kind, fault, trace):
+        if not isinstance(fault, OSError):
+            return
+        if not isinstance(fault.filename, (str, bytes)) or not os.path.isabs(fault.filename):
+            raise OSError(fault.errno, fault.strerror, self.place) from None
 
 
 def bytes_of(text):
@@ -73,14 +78,15 @@ def bytes_of(text):
 
 
 def shown(words):
-    """Bytes or text of strangers: all but visible characters of ASCII, and the backslash, as a backslash and two digits,
-    as `list` prints them. Where that is long, its beginning."""
+    """Bytes or text of strangers: all but visible characters of ASCII, and the backslash, as a
+    backslash and two digits, as `list` prints them. Where that is long, its beginning."""
     data = bytes_of(words) if isinstance(words, str) else words
     text = "".join(chr(b) if 0x21 <= b <= 0x7e and b != 0x5c else "\\%02x" % b for b in data[:SHOWN])
     return text + ".." * (len(data) > SHOWN)
 
 
 def one_line(text):
-    """Text in one line: what can't be seen stands there as `shown` has it. Where it is very long, its beginning."""
+    """Text in one line: what can't be seen stands there as `shown` has it. Where it is very long,
+    its beginning."""
     found = "".join(it if it.isprintable() else shown(it) for it in text[:LINE_MOST])
     return found + ".." * (len(text) > LINE_MOST)

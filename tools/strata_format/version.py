@@ -1,14 +1,13 @@
 """Where this strata stands, installed or in a checkout, and its version, as the program says it
 too: `strata-layers 1.0.0`."""
 import os
-import re
 
 # the folder of these packages: lib/strata where they are installed, and else tools/
 TOP = os.path.dirname(os.path.dirname(os.path.realpath(__file__)))
 PACKAGES = ("strata_format", "strata_layers", "strata_mount")
 INSTALLED = os.path.join(TOP, "version")
 SOURCE = os.path.join(os.path.dirname(TOP), "crates", "command_line", "src", "version.rt")
-CONSTANT = re.compile(r'pub const VERSION: &str = "([^"]*)";')
+CONSTANT = 'pub const VERSION: &str = "'
 
 
 def is_installed():
@@ -23,7 +22,7 @@ def version():
         with open(INSTALLED, encoding="ascii") as file:
             return file.read().strip()
     with open(SOURCE, encoding="utf-8") as file:
-        return CONSTANT.search(file.read())[1]
+        return file.read().partition(CONSTANT)[2].partition('"')[0]
 
 
 def command(name):

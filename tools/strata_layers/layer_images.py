@@ -7,7 +7,7 @@ from strata_format.image import Image
 from strata_format.refused import Refused, shown
 from strata_layers.below import implied
 from strata_layers.image_maker import Maker, is_about_layers_below
-from strata_layers.layouts import PACKED
+from strata_layers.layouts import PACKED, digest_of
 from strata_layers.packing import Unpacked
 
 # a volume's name is the digest of the layer's archive, as far as Linux's romfs reads names
@@ -71,20 +71,24 @@ class LayerWriter:
                          lambda blob: self.write_blob(blob, new_file, lost, below))
 
     def write_blob(self, blob, new_file, lost, below):
-        is_named = self.archive is not None and GOOD_DIGEST.fullmatch(self.archive)
-        name = volume_name(self.archive if is_named else NO_DIGEST)
-        is_hashed = self.is_checked or not is_named
-        source = Unpacked(blob, PACKED[self.descriptor.media], is_hashed)
-        image = Image(new_file, name, IMAGE_MOST, is_about_layers_below)
+        packing, it = PACKED[self.descriptor.media], self.descriptor
+        # what is not packed is hashed as the blob
+        known = digest_of(it) if packing == "" and it.algorithm == "sha256" else None
+        is_good = self.archive is not None and GOOD_DIGEST.fullmatch(self.archive)
+        said = known or (self.archive if is_good else None)
+        is_hashed = known is None and (self.is_checked or said is None)
+        source = Unpacked(blob, packing, is_hashed)
+        image = Image(new_file, volume_name(said or NO_DIGEST), IMAGE_MOST, is_about_layers_below)
         try:
             Maker(image, lost, "layer %d: " % self.number).put_archive(source)
         finally:
             source.close()
-        if self.is_checked and source.digest() != self.archive:
+        digest = source.digest() if is_hashed else known
+        if self.is_checked and digest != self.archive:
             raise Refused("its archive's digest is %s, and the image's configuration says %s"
-                          % (source.digest(), shown(self.archive)))
-        if not is_named:
-            image.name_volume(volume_name(source.digest()))
+                          % (digest, shown(self.archive)))
+        if said is None:
+            image.name_volume(volume_name(digest))
         found = filled(implied(image.root), below)
         image.finish()
         return found

@@ -10,23 +10,19 @@
 Files are written in STORE/new, and renamed when they are whole and on the disk. So whoever reads
 sees whole files alone, and needs no lock.
 """
-import contextlib
 import errno
 import fcntl
-import hashlib
-import json
 import os
-import re
-import shutil
 import stat
 
 from strata_format import ends
 from strata_format.files import READING, data_parts, make_folder, new_file, open_folder, write_all
+from strata_format.json_text import value_of
 from strata_format.progress import unheard
 from strata_format.refused import Refused, faults_below, shown
 
 MARK, MARK_TEXT = "strata-store", b"1\n"
-DIGEST = re.compile(r"sha256:[0-9a-f]{64}")
+DIGEST, DIGITS, DIGITS_COUNT = "sha256:", frozenset("0123456789abcdef"), 64
 # the end of the name of a layer that is set aside
 DAMAGED = ".damaged"
 PIECE = 1 << 18
@@ -44,9 +40,14 @@ def default_place():
     return os.path.join(home, "strata")
 
 
+def are_digits(text):
+    """Whether text is the digits of a digest."""
+    return len(text) == DIGITS_COUNT and DIGITS.issuperset(text)
+
+
 def digits_of(digest, where):
     """The digits of a digest that a file of the store says."""
-    if not isinstance(digest, str) or not DIGEST.fullmatch(digest):
+    if not isinstance(digest, str) or not digest.startswith(DIGEST) or not are_digits(digest[len(DIGEST):]):
         raise Refused("%s: no good digest of a layer" % where)
     return digest.partition(":")[2]
 
@@ -75,6 +76,7 @@ def zeros(size):
 
 def file_digits(number, heard=unheard):
     """The digits of the digest of an open file."""
+    import hashlib  # here, as shutil below: a mount by name needs neither, and they load longer
     found = hashlib.sha256()
     for data in pieces_of(number):
         found.update(data)
@@ -89,6 +91,29 @@ def is_locked_at_once(number):
         return True
     except BlockingIOError:
         return False
+
+
+class Locked:
+    """A store in which no other run writes: it is waited for, and what an interrupted one has left is taken away."""
+
+    def __init__(self, store):
+        flags = os.O_RDWR | os.O_CREAT | os.O_NOFOLLOW | os.O_CLOEXEC
+        with faults_below(store.place):
+            self.number = os.open("lock", flags, 0o600, dir_fd=store.root)
+        try:
+            if not is_locked_at_once(self.number):
+                ends.write("%s: waiting for another run\n" % store.name)
+                fcntl.flock(self.number, fcntl.LOCK_EX)
+            store.clear()
+        except BaseException:
+            os.close(self.number)
+            raise
+
+    def __enter__(self):
+        return self
+
+    def __exit__(self, *_):
+        os.close(self.number)
 
 
 class Store:
@@ -146,22 +171,12 @@ class Store:
         if found not in (MARK_TEXT, b""):
             raise Refused("%s: no store of layers" % self.name)
 
-    @contextlib.contextmanager
     def locked(self):
         """Waits until no other run writes; then takes away what an interrupted one has left."""
-        flags = os.O_RDWR | os.O_CREAT | os.O_NOFOLLOW | os.O_CLOEXEC
-        with faults_below(self.place):
-            number = os.open("lock", flags, 0o600, dir_fd=self.root)
-        try:
-            if not is_locked_at_once(number):
-                ends.write("%s: waiting for another run\n" % self.name)
-                fcntl.flock(number, fcntl.LOCK_EX)
-            self.clear()
-            yield
-        finally:
-            os.close(number)
+        return Locked(self)
 
     def clear(self):
+        import shutil
         for name in os.listdir(self.new):
             if stat.S_ISDIR(os.stat(name, dir_fd=self.new, follow_symlinks=False).st_mode):
                 shutil.rmtree("/proc/self/fd/%d/%s" % (self.new, name), ignore_errors=True)
@@ -200,7 +215,7 @@ class Store:
         if data is None:
             return None
         try:
-            value = json.loads(data)
+            value = value_of(data)
         except (ValueError, RecursionError):
             value = None
         if not isinstance(value, dict):
@@ -255,4 +270,4 @@ class Store:
     def layers(self, ending=""):
         """The digits of all layers, in order; with the ending DAMAGED, of those set aside."""
         names = (it[:len(it) - len(ending)] for it in os.listdir(self.blobs) if it.endswith(ending))
-        return sorted(it for it in names if DIGEST.fullmatch("sha256:" + it))
+        return sorted(filter(are_digits, names))

@@ -1,16 +1,15 @@
 """The images of a store by their names, and the layers of an image for a mount."""
 import collections
 import fcntl
-import json
 import os
-import re
 
 from strata_format.progress import Progress
 from strata_format.refused import Refused, shown
 from strata_layers.store import Store, default_place, digits_of, file_digits
 
-NAME = re.compile(r"[A-Za-z0-9][A-Za-z0-9._-]*(/[A-Za-z0-9][A-Za-z0-9._-]*)*")
-TAG = re.compile(r"[A-Za-z0-9_][A-Za-z0-9._-]*")
+# the letters of names and tags, and which of them don't begin one
+ALPHABET = frozenset("ABCDEFGHIJKLMNOPQRSTUVWXYZabcdefghijklmnopqrstuvwxyz0123456789._-")
+NOT_FIRST_OF_NAME, NOT_FIRST_OF_TAG = "._-", ".-"
 NAME_MOST, TAG_MOST = 120, 128
 LATEST = "latest"
 
@@ -31,11 +30,17 @@ def brought(name):
     return "`strata-layers pull SOURCE %s` brings it there" % name
 
 
+def is_word(text, not_first):
+    """Whether text has letters of names alone, and none of some as its first."""
+    return text != "" and ALPHABET.issuperset(text) and text[0] not in not_first
+
+
 def split_image(word):
     """The name and the tag of `NAME[:TAG]`; the tag is None where there is none."""
     name, colon, tag = word.partition(":")
-    is_name = NAME.fullmatch(name) and ".." not in name and len(name) <= NAME_MOST
-    if not is_name or colon and not (TAG.fullmatch(tag) and len(tag) <= TAG_MOST):
+    is_name = all(is_word(part, NOT_FIRST_OF_NAME) for part in name.split("/"))
+    is_tag = is_word(tag, NOT_FIRST_OF_TAG) and len(tag) <= TAG_MOST
+    if not is_name or ".." in name or len(name) > NAME_MOST or colon and not is_tag:
         raise Refused("%s: no name of an image; NAME[:TAG] is wanted, of letters, digits, `.`, `_`"
                       " and `-`, and `/` within NAME" % shown(word))
     return name, tag if colon else None
@@ -107,6 +112,7 @@ def count_of(layers):
 def put_image(store, word, image):
     """Gives an image its name in the store; one of this name that was there is replaced."""
     name, tag = split_image(word)
+    import json
     value = {**image._asdict(), "layers": [layer_json(it) for it in image.layers]}
     data = json.dumps(value, indent=1).encode()
     store.write_small(store.images, file_name(name, tag or LATEST), data)

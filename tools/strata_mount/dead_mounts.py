@@ -1,37 +1,25 @@
 """What is mounted at a folder; mounts whose server has ended, and how they are taken away."""
 import errno
 import os
-import re
-import shlex
 
-from strata_format.refused import one_line
+from strata_mount.mount_table import KIND, mount_at, mounts
 
-KIND = "fuse.strata"
 # what a folder answers whose mount has lost its server
 GONE = (errno.ENOTCONN, errno.ECONNABORTED)
-
-
-def mounts():
-    """What is mounted, as pairs of place and type, in the order of mounting."""
-    with open("/proc/self/mountinfo", "rb") as lines:
-        for line in lines:
-            front, _, back = line.partition(b" - ")
-            place = re.sub(rb"\\([0-7]{3})", lambda it: bytes([int(it[1], 8)]), front.split(b" ")[4])
-            yield os.fsdecode(place), os.fsdecode(back.split(b" ")[0])
 
 
 def mount_over(folder):
     """The place and the type of the mount that a folder lies in."""
     found = "/", "?"
-    for place, kind in mounts():
-        if len(place) >= len(found[0]) and (folder + "/").startswith(place.rstrip("/") + "/"):
-            found = place, kind
+    for it in mounts():
+        if len(it.place) >= len(found[0]) and (folder + "/").startswith(it.place.rstrip("/") + "/"):
+            found = it.place, it.kind
     return found
 
 
 def is_dead(folder):
-    """Whether the mount that a folder lies in has lost its server. The kernel keeps attributes, but asks for STATFS each
-    time."""
+    """Whether the mount that a folder lies in has lost its server. The kernel keeps attributes, but
+    asks for STATFS each time."""
     try:
         os.statvfs(folder)
         return False
@@ -41,14 +29,24 @@ def is_dead(folder):
 
 def away(place):
     """What is said of how a mount is taken away."""
+    import shlex
     command = ["umount"] if os.geteuid() == 0 else ["fusermount3", "-u"]
     return "`%s` unmounts it" % " ".join([*command, shlex.quote(place)])
 
 
-def standing(folder):
-    """The lines that say of a mount of strata at a folder that it stands there: one or none."""
-    if mount_over(folder) == (folder, KIND):
-        yield "%s: something is mounted here already: %s" % (one_line(folder), away(folder))
+def is_mount(folder):
+    """Whether something is mounted at a folder that is there."""
+    return os.lstat(folder).st_dev != os.lstat(os.path.dirname(folder)).st_dev
+
+
+def standing(folder, may_replace):
+    """What is said of a mount of strata at a folder, where it could be replaced or only covered;
+    None where none is there."""
+    if not is_mount(folder) or mount_at(folder) is None:
+        return None
+    replaced = ", and so does --replace" * may_replace
+    told = "something is mounted here already: %s%s; `-o stack` mounts over it"
+    return told % (away(folder), replaced)
 
 
 def told(folder, may_replace):
@@ -62,7 +60,7 @@ def told(folder, may_replace):
 
 def replace(folder, take_away):
     """Takes away the dead mounts of strata at a folder; whether none is left."""
-    for _ in range(sum(place == folder for place, _ in mounts())):
+    for _ in range(sum(it.place == folder for it in mounts())):
         if not is_dead(folder):
             return True
         if mount_over(folder) != (folder, KIND):

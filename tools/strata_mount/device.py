@@ -1,19 +1,17 @@
 """The kernel's device of FUSE: opened and mounted on a folder, and taken away."""
-import contextlib
-import ctypes
 import errno
 import os
-import shutil
-import socket
-import subprocess
 import sys
 
-from strata_format.system import called, libc
-from strata_mount import dead_mounts
+from strata_format.system import c_ulong, called, get_errno, libc
+from strata_mount.mount_table import KIND
 from strata_mount.options import CLEARS, SETS
+from strata_mount.processes import found_program, start
 
 DEVICE = "/dev/fuse"
 MNT_DETACH, UMOUNT_NOFOLLOW = 2, 8
+# of a descriptor that comes through a socket
+INT_SIZE = 4
 
 
 def mounted(plan):
@@ -27,25 +25,34 @@ def mounted_by_kernel(plan):
     """The same by mount(2); None where that may not be."""
     try:
         device = os.open(DEVICE, os.O_RDWR)
-        with contextlib.ExitStack() as undone:
-            undone.callback(os.close, device)
-            mount(plan, device)
-            undone.pop_all()
-        return device
     except PermissionError:
         return None
+    try:
+        mount(plan, device)
+        return device
+    except BaseException as fault:
+        os.close(device)
+        if isinstance(fault, PermissionError):
+            return None
+        raise
 
 
 def mount(plan, device):
     """Mounts an open device on a folder."""
     owner = (os.geteuid(), os.getegid())
-    flags, text = 0, ["fd=%d,rootmode=40000,user_id=%d,group_id=%d" % (device, *owner)]
-    for word in plan.words:
-        flags = (flags | SETS.get(word, 0)) & ~CLEARS.get(word, 0)
-        text += [word] * (word not in SETS and word not in CLEARS)
-    status = libc.mount(os.fsencode(plan.source), os.fsencode(plan.folder), b"fuse.strata",
-                        ctypes.c_ulong(flags), ",".join(text).encode())
+    text = ["fd=%d,rootmode=40000,user_id=%d,group_id=%d" % (device, *owner)]
+    text += [word for word in plan.words if word not in SETS and word not in CLEARS]
+    status = libc.mount(os.fsencode(plan.source), os.fsencode(plan.folder), os.fsencode(KIND),
+                        c_ulong(flags_of(plan.words)), ",".join(text).encode())
     called(status, plan.folder + ": mount")
+
+
+def flags_of(words):
+    """The flags of mount(2) that words say, the last one of them where they disagree."""
+    flags = 0
+    for word in words:
+        flags = (flags | SETS.get(word, 0)) & ~CLEARS.get(word, 0)
+    return flags
 
 
 def hold_device():
@@ -55,7 +62,8 @@ def hold_device():
 
 def mounted_by_helper(plan):
     """The same by fusermount3, which sends the open device through a socket."""
-    helper = shutil.which("fusermount3")
+    import _socket as socket  # all of socket that is needed, without enum and selectors
+    helper = found_program("fusermount3")
     if not helper:
         hold_device()
         why = "only root may mount, and there is no fusermount3: install fuse3"
@@ -63,26 +71,36 @@ def mounted_by_helper(plan):
     source = plan.source.replace("\\", "\\\\").replace(",", "\\,")
     words = ",".join([*plan.words, "fsname=" + source, "subtype=strata"])
     ours, theirs = socket.socketpair()
-    with ours, theirs:
-        number = theirs.fileno()
-        done = subprocess.run([helper, "-o", words, "--", plan.folder], stdin=subprocess.DEVNULL,
-                              pass_fds=[number], env={**os.environ, "_FUSE_COMMFD": str(number)})
-        if done.returncode != 0:
-            # it has said why, but not of a mount that stands there
-            for line in dead_mounts.standing(plan.folder):
-                plan.say(line)
-            sys.exit(1)
-        found = socket.recv_fds(ours, 1, 1)[1]
-        if not found:
-            raise OSError(0, "fusermount3 has sent no open device", plan.folder)
-        return found[0]
+    number = theirs.fileno()
+    environment = {**os.environ, "_FUSE_COMMFD": str(number)}
+    status = started_helper([helper, "-o", words, "--", plan.folder], [number], environment)
+    theirs.close()
+    if status != 0:
+        # it has said why
+        sys.exit(1)
+    _, found, _, _ = ours.recvmsg(1, socket.CMSG_SPACE(INT_SIZE), socket.MSG_CMSG_CLOEXEC)
+    ours.close()
+    if not found:
+        raise OSError(0, "fusermount3 has sent no open device", plan.folder)
+    return int.from_bytes(found[0][2][:INT_SIZE], sys.byteorder)
+
+
+def started_helper(words, passed=(), environment=None):
+    """The status of fusermount3, which reads no standard input."""
+    nothing = os.open(os.devnull, os.O_RDONLY | os.O_CLOEXEC)
+    try:
+        return start(words, [nothing], passed, environment=environment).wait()
+    finally:
+        os.close(nothing)
 
 
 def take_away(folder):
     """Takes a mount away at once, even if it is in use."""
     status = libc.umount2(os.fsencode(folder), MNT_DETACH | UMOUNT_NOFOLLOW)
-    if status != 0 and ctypes.get_errno() in (errno.EPERM, errno.EACCES):
-        subprocess.run(["fusermount3", "-u", "-q", "-z", "--", folder], stdin=subprocess.DEVNULL)
+    if status != 0 and get_errno() in (errno.EPERM, errno.EACCES):
+        helper = found_program("fusermount3")
+        if helper:
+            started_helper([helper, "-u", "-q", "-z", "--", folder])
 
 
 def answers(folder):

@@ -1,17 +1,17 @@
 """Mounts as mount(8) asks for it: mount.strata LOWER[:UPPER].. DIR [-sfnv] [-o OPTIONS] [-t TYPE]
 
-`mount -t strata`, `mount -t fuse.strata` and lines of /etc/fstab come by here. The images stand in one word, the lowest
-first, with a colon between them; `\\:` is a colon in a name, and `\\\\` a backslash. `image:NAME:TAG` is a container image of
-the store of strata-layers. The mount is as strata-mount makes it in the background, always read-only, and its source is that
-word, so that mount(8) sees that it is mounted already.
+`mount -t strata`, `mount -t fuse.strata` and lines of /etc/fstab come by here. The images stand in
+one word, the lowest first, with a colon between them; `\\:` is a colon in a name, and `\\\\` a
+backslash. `image:NAME:TAG` is a container image of the store of strata-layers. The mount is as
+strata-mount makes it in the background, always read-only, and its source is that word, so that
+mount(8) sees that it is mounted already.
 
-It runs as root: what it starts are the program beside which it is installed, and fusermount3 in the system's own folders.
-Nothing of the environment is left for them. Status, as mount(8) has it: 0, 1 for the words, 8 for an interrupt, 32 where
-nothing was mounted.
+It runs as root: what it starts are the program beside which it is installed, and fusermount3 in the
+system's own folders. Nothing of the environment is left for them. Status, as mount(8) has it: 0, 1
+for the words, 8 for an interrupt, 32 where nothing was mounted.
 """
-import argparse
+import _signal as signal
 import os
-import signal
 import sys
 
 from strata_format import ends
@@ -21,18 +21,36 @@ from strata_mount import mounting
 from strata_mount.options import Options, Wrong
 from strata_mount.plan import Plan
 from strata_mount.preconditions import find_images, hold_folder, hold_here, hold_images, hold_names
+from strata_mount.words import Reader, WrongWords
 
 PATH = "/usr/sbin:/usr/bin:/sbin:/bin"
 SOURCE_MOST = 4095
 WRONG_WORDS, INTERRUPTED, NOT_MOUNTED = 1, 8, 32
 
 
-class Parser(argparse.ArgumentParser):
-    """Says what is wrong with the words, with mount(8)'s status."""
+FLAGS = {"-h": "help", "--help": "help", "-s": "sloppy", "-f": "fake", "-n": "n", "-v": "verbose",
+         "--version": "version"}
+VALUED = {"-o": "o", "-t": "t"}
+HELP = """\
+usage: %s LOWER[:UPPER].. DIR [-sfnv]
+                    [-o OPTIONS] [-t TYPE]
 
-    def error(self, message):
-        ends.write("%s: %s\n" % (self.prog, one_line(message)))
-        sys.exit(WRONG_WORDS)
+Mounts romfs images for mount(8).
+
+positional arguments:
+  LOWER[:UPPER].. DIR  images and directory
+
+options:
+  -h, --help           show this help message and exit
+  -s                   ignore unknown options
+  -f                   only check that the images exist
+  -n                   no effect
+  -v                   print what is mounted
+  -o OPTIONS           strict, whole, workers=N, .., and
+                       options of fstab
+  -t TYPE              strata or fuse.strata
+  --version            print the version
+"""
 
 
 def names_of(word):
@@ -60,28 +78,16 @@ def word_of(names):
     return ":".join(os.path.abspath(name).replace("\\", "\\\\").replace(":", "\\:") for name in names)
 
 
-def parser_of(name):
-    parser = Parser(prog=name, usage="%(prog)s LOWER[:UPPER].. DIR [-sfnv]\n                    [-o OPTIONS] [-t TYPE]",
-                    description="Mounts romfs images for mount(8).")
-    parser.add_argument("-s", dest="sloppy", action="store_true", help="ignore unknown options")
-    parser.add_argument("-f", dest="fake", action="store_true", help="check that the images exist, and mount nothing")
-    parser.add_argument("-n", action="store_true", help="no effect")
-    parser.add_argument("-v", dest="verbose", action="store_true", help="print what is mounted")
-    parser.add_argument("-o", metavar="OPTIONS", action="append", default=[], help="strict, whole, workers=N, .., and options of fstab")
-    parser.add_argument("-t", metavar="TYPE", help="strata or fuse.strata")
-    parser.add_argument("--version", action="store_true", help="print the version")
-    parser.add_argument("names", metavar="LOWER[:UPPER].. DIR", nargs="*", help="images and directory")
-    return parser
-
-
-def plan_of(asked, name):
+def plan_of(read, name):
     """The plan that mount(8)'s words say."""
-    options = Options(",".join(asked.o))
-    if options.unknown and not asked.sloppy:
+    options = Options(",".join(read.said.get("o", [])))
+    if options.unknown and "sloppy" not in read.said:
         raise Wrong("-o: unknown: %s" % ", ".join(options.unknown))
     # mount(8) says rw wherever no ro was said; the tree is never written
     options.mount = [word for word in options.mount if word != "rw" and word not in options.unknown]
-    spec, folder = asked.names
+    if len(read.names) != 2:
+        raise WrongWords("LOWER[:UPPER].. and DIR are required")
+    spec, folder = read.names
     is_stored = spec.startswith("image:")
     names = [spec] if is_stored else names_of(spec)
     source = spec if is_stored or all(map(os.path.isabs, names)) else word_of(names)
@@ -127,23 +133,24 @@ def main(words, name="mount.strata"):
     ends.begin()
     os.environ.clear()
     os.environ["PATH"] = PATH
-    parser = parser_of(name)
-    asked = parser.parse_intermixed_args(words)
-    if asked.version:
-        print(name, version())
-        return 0
-    if len(asked.names) != 2:
-        parser.error("LOWER[:UPPER].. and DIR are required")
     try:
-        plan = plan_of(asked, name)
-    except Wrong as wrong:
-        parser.error(str(wrong))
+        read = Reader(FLAGS, VALUED).read(words)
+        if "help" in read.said:
+            sys.stdout.write(HELP % name)
+            return 0
+        if "version" in read.said:
+            print(name, version())
+            return 0
+        plan = plan_of(read, name)
+    except (Wrong, WrongWords) as wrong:
+        ends.write("%s: %s\n" % (name, one_line(str(wrong))))
+        return WRONG_WORDS
     except OSError as fault:
         Plan(name=name).say_fault(fault)
         return NOT_MOUNTED
-    if asked.fake:
+    if "fake" in read.said:
         return looked_at(plan)
     status = mounted(plan)
-    if status == 0 and asked.verbose:
+    if status == 0 and "verbose" in read.said:
         ends.write("%s: %s on %s\n" % (name, one_line(plan.source), one_line(plan.folder)), sys.stdout)
-    return status
+    return ends.leave(status)

@@ -14,12 +14,13 @@ def read_by(process):
         return 0
 
 
-def watch(asking, server, images):
-    """Tells how far a server is until a thread has ended, which asks whether the mount answers. Of images that are read whole
-    it is known how many bytes there are; else, with None, how many were read is all that is told."""
+def watch(told, bell, server, images):
+    """Tells how far a server is until it is told whether the mount answers, and the bell rings. Of
+    images that are read whole it is known how many bytes there are; else, with None, how many were
+    read is all that is told."""
     total = sum(map(size_of, images)) if images else None
     with Progress("images", total) as progress:
-        while asking.is_alive():
+        while not told:
             count = read_by(server)
             progress.add((count if total is None else min(count, total)) - progress.count)
-            asking.join(STEP)
+            bell.wait(STEP)

@@ -1,17 +1,16 @@
 """Mounts by a plan: strata is started on an open device that is mounted, and waited for."""
+import _signal as signal
+import _thread
 import errno
 import os
-import shutil
-import signal
-import subprocess
 import sys
-import threading
 
 from strata_format import ends
 from strata_format.refused import one_line
-from strata_mount import modes, preconditions
+from strata_mount import preconditions, privileges
 from strata_mount.device import DEVICE, answers, mounted, take_away
 from strata_mount.options import Options
+from strata_mount.processes import Bell, found_program, hold_descriptors, start
 
 RELAY = os.path.join(os.path.dirname(os.path.realpath(__file__)), "relay.py")
 INTERRUPTED = 130
@@ -19,14 +18,24 @@ INTERRUPTED = 130
 
 # --- the server ---
 
-def serve_words(plan):
-    """How strata is called."""
-    words = [plan.program, "serve", "--device", "--attributes"]
-    words += ["--strict"] * plan.strict + ["--whole"] * plan.whole
+def option_words(plan):
+    """The options that strata is called with."""
+    words = ["--strict"] * plan.strict + ["--whole"] * plan.whole
     words += ["--workers", str(plan.workers)] * (plan.workers is not None)
     words += ["--readers", str(plan.readers)] * (plan.readers is not None)
     words += ["--owner", plan.owner] * (plan.owner is not None)
-    return words + list(map(os.path.abspath, plan.images))
+    return words
+
+
+def serve_words(plan):
+    """How strata is called."""
+    words = [plan.program, "serve", "--device", "--attributes", *option_words(plan)]
+    return [*words, *map(os.path.abspath, plan.images)]
+
+
+def shown_name(plan):
+    """The name of the server in the list of processes, which says where it was mounted."""
+    return "%s@%s" % (os.path.basename(plan.program), plan.folder)
 
 
 def relay_words(plan, errors, counts):
@@ -40,37 +49,63 @@ def relay_words(plan, errors, counts):
     return [*words, "--"], numbers
 
 
-def served(plan, device, errors, counts):
+def served(plan, device, errors, counts, confinement):
     """Starts strata on an open device, away from the signals of the terminal and from this folder.
     The device is open there alone from then on."""
     words, numbers = [], plan.marks
     if plan.is_relayed():
         words, numbers = relay_words(plan, errors, counts)
     try:
-        return subprocess.Popen([*words, *serve_words(plan)], stdin=device, stdout=device,
-                                stderr=None if plan.debug else errors, pass_fds=numbers,
-                                start_new_session=True, cwd="/", preexec_fn=unblock)
+        ends = [device, device, 2 if plan.debug else errors.fileno()]
+        shown = None if plan.is_relayed() else shown_name(plan)
+        words += serve_words(plan)
+        return start(words, ends, numbers, lambda: prepare(confinement), shown)
     finally:
         os.close(device)
 
 
-def answers_first(plan, server):
+def confinement_of(plan):
+    """What the server will be held to; None where it keeps all privileges."""
+    if plan.keeps_privileges:
+        return None
+    images = list(map(os.path.abspath, plan.images))
+    return privileges.Confinement(plan.program, images, is_direct=not plan.is_relayed())
+
+
+def prepare(confinement):
+    """Makes the process that becomes the server one of its own, without privileges that it has no
+    use for."""
+    os.setsid()
+    os.chdir("/")
+    unblock()
+    if confinement is not None:
+        confinement.enter()
+
+
+def answers_first(plan, server, bell):
     """Whether a mount answers before its server ends. A thread asks, so that signals are heard
     here."""
     told = []
-    asking = threading.Thread(target=lambda: told.append(answers(plan.folder)), daemon=True)
-    asking.start()
+
+    def ask():
+        told.append(answers(plan.folder))
+        bell.ring()
+
+    _thread.start_new_thread(ask, ())
     if sys.stderr.isatty() and not plan.is_relayed():
         from strata_mount import image_progress
-        image_progress.watch(asking, server.pid, plan.images if plan.whole else None)
-    asking.join()
+        image_progress.watch(told, bell, server.pid, plan.images if plan.whole else None)
+    while not told:
+        bell.wait()
     return told[0]
 
 
-def status_of(server, errors, plan):
+def status_of(server, errors, plan, bell):
     """The status with which strata ends, which is waited for; its line is passed on, with what
     stands behind it."""
-    status = server.wait()
+    while not server.has_ended():
+        bell.wait()
+    status = server.status
     errors.seek(0)
     text = errors.read().decode(errors="replace")
     ends.write(text)
@@ -83,9 +118,9 @@ def status_of(server, errors, plan):
     return status if status >= 0 else 128 - status
 
 
-def status_of_none(server, errors, plan):
+def status_of_none(server, errors, plan, bell):
     """The status where a server has ended before the mount answered: none of success."""
-    status = status_of(server, errors, plan)
+    status = status_of(server, errors, plan, bell)
     if status == 0:
         plan.say("%s ended before the mount answered" % one_line(plan.program))
     return status or 1
@@ -116,18 +151,22 @@ def unblock():
 
 # --- from the mount to its end ---
 
-def run(plan, counts):
+def run(plan, counts=None, heard=None):
     """Mounts and serves; the status to end with. Requests are counted in the open file `counts`,
-    unless that is None."""
+    unless that is None. `heard` is called with the server once a mount in the background
+    answers."""
     # strata must not hold this script's standard error open in the background, and no folder is
     # needed for what it says
     errors = os.fdopen(os.memfd_create("errors"), "w+b")
     signal.pthread_sigmask(signal.SIG_BLOCK, stopping())
     hear(interrupt)
+    bell, confinement = Bell(), confinement_of(plan)
     device = mounted(plan)
     try:
-        server = served(plan, device, errors, counts)
-        status = waited(plan, server, errors)
+        server = served(plan, device, errors, counts, confinement)
+        status = waited(plan, server, errors, bell)
+        if status == 0 and plan.background and heard is not None:
+            heard(server)
         return interrupted(plan, server) if status is None else status
     finally:
         # what stands there by now may be another mount, which answers
@@ -135,17 +174,17 @@ def run(plan, counts):
             take_away(plan.folder)
 
 
-def waited(plan, server, errors):
+def waited(plan, server, errors, bell):
     """Waits until a server has ended, or, in the background, until the mount answers; the status to
     end with, or None where that is interrupted."""
     try:
         unblock()
         if plan.stats is not None:
-            signal.signal(signal.SIGUSR1, lambda *_: server.send_signal(signal.SIGUSR1))
-        is_there = (plan.background or sys.stderr.isatty()) and answers_first(plan, server)
+            signal.signal(signal.SIGUSR1, lambda *_: server.send(signal.SIGUSR1))
+        is_there = (plan.background or sys.stderr.isatty()) and answers_first(plan, server, bell)
         if not plan.background:
-            return status_of(server, errors, plan)
-        return 0 if is_there else status_of_none(server, errors, plan)
+            return status_of(server, errors, plan, bell)
+        return 0 if is_there else status_of_none(server, errors, plan, bell)
     except KeyboardInterrupt:
         return None
 
@@ -153,7 +192,7 @@ def waited(plan, server, errors):
 def interrupted(plan, server):
     """Takes the mount away; the status to end with."""
     take_away(plan.folder)
-    server.terminate()
+    server.send(signal.SIGTERM)
     server.wait()
     # who asked for a mount in the background has none
     return INTERRUPTED if plan.background else 0
@@ -169,16 +208,27 @@ def counts_of(plan):
 def attempt(plan):
     """Mounts by a plan, or says why nothing can be mounted; the status to end with."""
     try:
-        preconditions.hold_here([*plan.images, plan.folder])
-        preconditions.hold_folder(plan)
+        preconditions.hold_here([*plan.images, *([] if plan.is_printed else [plan.folder])])
+        if not plan.is_printed:
+            preconditions.hold_folder(plan)
         preconditions.find_images(plan)
         preconditions.hold_names(plan)
-        program = shutil.which(plan.program)
+        program = found_program(plan.program)
         if not program:
             raise OSError(0, "no such program", plan.program)
-        plan.folder, plan.program = os.path.realpath(plan.folder), os.path.abspath(program)
-        preconditions.hold_images(plan)
-        modes.tell(plan)
+        plan.program = os.path.abspath(program)
+        if not plan.is_printed:
+            plan.folder = os.path.realpath(plan.folder)
+            preconditions.hold_images(plan)
+        hold_descriptors()
+        if "allow_other" in plan.words:
+            from strata_mount import modes
+            modes.tell(plan)
+        if plan.replace and not plan.is_printed:
+            preconditions.clear(plan)
+        if plan.share:
+            from strata_mount import sharing
+            return sharing.attempt(plan)
         return run(plan, counts_of(plan))
     except OSError as fault:
         plan.say_fault(fault)

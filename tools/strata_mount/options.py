@@ -1,6 +1,4 @@
 """The words of `-o`: those of fstab and mount(8), which say nothing of a mount, those of the kernel, and those of strata."""
-import re
-
 # what is set and cleared among the flags of mount(2); the kernel takes its other words as text
 SETS = {"ro": 1, "nosuid": 2, "nodev": 4, "noexec": 8, "noatime": 1024}
 CLEARS = {"rw": 1, "suid": 2, "dev": 4, "exec": 8, "atime": 1024}
@@ -18,10 +16,7 @@ OWN = ("fd", "rootmode", "user_id", "group_id", "fsname", "subtype", "auto_unmou
 # strata's own words, each with the least and the most of the number behind it, or None where it stands alone
 SEVERAL, OWNERS = (1, 64), (0, 2 ** 32 - 1)
 STRATA = {"strict": None, "whole": None, "modeless": None, "workers": SEVERAL, "readers": SEVERAL,
-          "uid": OWNERS, "gid": OWNERS}
-
-# words stand between commas, but for those in quotation marks
-WORD = re.compile(r'(?:[^,"]|"[^"]*"?)+')
+          "uid": OWNERS, "gid": OWNERS, "share": None, "stack": None, "caps": None}
 
 
 class Wrong(Exception):
@@ -33,7 +28,7 @@ class Options:
 
     def __init__(self, text):
         self.mount, self.strata, self.unknown = [], {}, []
-        for word in WORD.findall(text):
+        for word in words_in(text):
             self.add(word)
 
     def add(self, word):
@@ -54,6 +49,21 @@ class Options:
         if not {"uid", "gid"} & set(self.strata):
             return None
         return "%d:%d" % (self.strata.get("uid", 0), self.strata.get("gid", 0))
+
+
+def words_in(text):
+    """The words that stand between commas, but for those in quotation marks."""
+    front, *parts = text.split('"')
+    found = front.split(",")
+    for at, part in enumerate(parts):
+        if at % 2 == 0:
+            # within quotation marks, of which the last may be missing
+            found[-1] += '"' + part + '"' * (at + 1 < len(parts))
+        else:
+            first, *others = part.split(",")
+            found[-1] += first
+            found += others
+    return [word for word in found if word]
 
 
 def bare(name, equals):

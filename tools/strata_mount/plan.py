@@ -1,5 +1,4 @@
 """What is mounted where, and how."""
-import argparse
 import os
 
 from strata_format import ends, version
@@ -10,7 +9,7 @@ WORDS = ("ro", "nosuid", "nodev", "default_permissions")
 RELAYED_READ = "max_read=131072"
 
 
-class Plan(argparse.Namespace):
+class Plan:
     """What the words of strata-mount say, or those of the mount helper."""
 
     # who is called, in messages; what `findmnt` shows as the source
@@ -20,10 +19,16 @@ class Plan(argparse.Namespace):
     words, owner, workers, readers = (), None, None, None
     background = strict = whole = modeless = replace = debug = verify = False
     may_replace, store = True, None
+    # one mount for all who ask for the same, of which --print tells the folder; over a mount that
+    # stands there; with all that root may do
+    share = is_printed = is_stacked = keeps_privileges = False
     # the name of the file in which requests are counted
     stats = None
     # open files that mark layers of the store as in use while strata runs
     marks = ()
+
+    def __init__(self, **said):
+        self.__dict__.update(said)
 
     def say(self, line):
         ends.write("%s: %s\n" % (self.name, line))
@@ -43,6 +48,10 @@ class Plan(argparse.Namespace):
         self.words = [*WORDS, *relayed, *options.mount]
         self.strict = self.strict or "strict" in options.strata
         self.whole = "whole" in options.strata
+        self.share = self.share or "share" in options.strata
+        # it lasts as long as anybody's folder shows it
+        self.background = self.background or self.share
+        self.is_stacked, self.keeps_privileges = "stack" in options.strata, "caps" in options.strata
         # whether it is meant that others see images that keep no modes
         self.modeless = "modeless" in options.strata
         self.workers = options.strata.get("workers")

@@ -5,6 +5,7 @@ import os
 from strata_format.version import PACKAGES, TOP
 from strata_mount import dead_mounts
 from strata_mount.device import take_away
+from strata_mount.mount_table import mount_at
 
 # what strata opens when it begins, besides its program and its libraries: the loader and its lists,
 # the standard ends, and what tells how many processors there are; python looks for open files in
@@ -37,11 +38,28 @@ def has_lost_server(folder):
 
 
 def hold_folder(plan):
-    """Looks whether a folder is there, and whether a mount stands there whose server has ended."""
-    if has_lost_server(plan.folder):
-        folder = os.path.realpath(plan.folder)
+    """Looks whether a folder is there, and whether a mount of strata stands there. With --replace a
+    dead one is taken away, and one that lives later, when all else is known to be right."""
+    is_dead, folder = has_lost_server(plan.folder), os.path.realpath(plan.folder)
+    if is_dead:
         if not plan.replace or not dead_mounts.replace(folder, take_away):
             raise OSError(0, dead_mounts.told(folder, plan.may_replace), plan.folder)
+    elif not plan.replace and not plan.is_stacked:
+        told = dead_mounts.standing(folder, plan.may_replace)
+        if told is not None:
+            raise OSError(0, told, plan.folder)
+
+
+def clear(plan):
+    """Takes the mounts of strata away that stand at a folder, if the images are there."""
+    for image in plan.images:
+        os.stat(image)
+    while dead_mounts.is_mount(plan.folder) and mount_at(plan.folder) is not None:
+        before = mount_at(plan.folder).number
+        take_away(plan.folder)
+        found = mount_at(plan.folder)
+        if found is not None and found.number == before:
+            raise OSError(0, "the mount that stands here could not be taken away", plan.folder)
 
 
 def find_images(plan):
@@ -69,7 +87,8 @@ def hold_names(plan):
 
 
 def way_to(path):
-    """What the kernel looks at on the way to a file, links among it, each without links above it."""
+    """What the kernel looks at on the way to a file, links among it, each without links above
+    it."""
     place, names, links = "/", os.path.abspath(path).split("/"), 0
     while names:
         name = names.pop(0)
@@ -108,13 +127,32 @@ def packages():
     return [os.path.join(TOP, package, "__init__.py") for package in PACKAGES]
 
 
+def is_empty(folder):
+    """Whether nothing can lie below a folder."""
+    try:
+        with os.scandir(folder) as found:
+            return next(found, None) is None
+    except OSError:
+        return False
+
+
+def missing(paths):
+    """Those of some paths where nothing is."""
+    return [path for path in paths if not os.path.exists(path)]
+
+
 def hold_images(plan):
     """Looks that no image lies below the folder, nor strata itself: it would wait for itself to
     open it."""
-    for image in plan.images:
+    if is_empty(plan.folder):
+        # what is there does not lie in it
+        images, needed = missing(plan.images), missing(OPENED)
+    else:
+        images, needed = plan.images, [plan.program, *packages(), *sorted(libraries()), *OPENED]
+    for image in images:
         if lies_in(image, plan.folder):
             raise OSError(0, "this image lies in the folder that it would be mounted on", image)
-    for path in (plan.program, *packages(), *sorted(libraries()), *OPENED):
+    for path in needed:
         if lies_in(path, plan.folder):
             why = "strata needs this file, which lies in the folder that it would mount on"
             raise OSError(0, why, path)

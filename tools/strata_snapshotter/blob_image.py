@@ -8,12 +8,13 @@ import hashlib
 import os
 import re
 
-from strata_format.refused import Refused
-from strata_layers.below import Below
-from strata_layers.layer_images import VOLUME_NAME_MOST, write_image
+from strata_format.image import Image
+from strata_layers.below import Below, implied
+from strata_layers.image_maker import Maker
+from strata_layers.layer_images import filled, volume_name
 from strata_layers.layouts import Blob, Descriptor, digest_of
-from strata_layers.lost import Lost
 from strata_layers.packing import Unpacked
+from strata_snapshotter.whole import Nothing
 
 DIGEST = re.compile(r"sha256:([0-9a-f]{64})")
 GZIP, ZSTD = b"\x1f\x8b", b"\x28\xb5\x2f\xfd"
@@ -56,30 +57,23 @@ def packing_of(number):
     return "gzip" if first.startswith(GZIP) else "zstd" if first == ZSTD else ""
 
 
-def hold_kept(entry):
-    """Refuses an entry of which an image doesn't hold all."""
-    lost = Lost()
-    lost.note_all(0, entry)
-    if lost.found:
-        raise Refused(": ".join(it.strip() for it in lost.lines()))
-
-
 def write_blob_image(path, descriptor, out, lowers):
     """Writes the image of a blob to an open file, as the layer over those in open files `lowers`,
     the lowest first; the digest of its archive. Refused where the blob is damaged, or an image does
-    not hold the layer."""
+    not hold all of the layer."""
     below = Below()
     for number in lowers:
         below.add(number)
-    blob = Blob(path, descriptor)
+    blob, image = Blob(path, descriptor), Image(lambda: out, volume_name(digest_of(descriptor)))
     try:
         source = Unpacked(blob, packing_of(blob.file.fileno()), True)
         try:
-            name = digest_of(descriptor).encode()[:VOLUME_NAME_MOST]
-            write_image(out, source, name, hold_kept, below)
+            Maker(image, Nothing()).put_archive(source)
         finally:
             source.close()
         blob.settle()
-        return source.digest()
     finally:
         blob.close()
+    filled(implied(image.root), below)
+    image.finish()
+    return source.digest()

@@ -22,7 +22,6 @@ from strata_snapshotter.state import Form
 
 LAYERS_MOST = 128
 GIVEN = ".strata.romfs"
-VOLUME = b"strata"
 # seconds until it is looked whether who waits is still there, and until a fault is tried again
 LOOKING, AGAIN = 1, 5
 
@@ -110,7 +109,7 @@ class ImageMaker:
             chain = self.chain_of(snapshot.id)
         if any(it.form != Form.IMAGE for it in chain[1:]):
             raise Refused("a layer below it is a folder")
-        write_folder_image(self.places.files(snapshot.id), file, VOLUME)
+        write_folder_image(self.places.files(snapshot.id), file)
         os.fsync(file.fileno())
 
     def settle(self, snapshot, change):

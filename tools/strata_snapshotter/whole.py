@@ -1,0 +1,19 @@
+"""Images that hold all of a layer, or none: a layer of which an image would lose something is
+refused, and can stay a folder."""
+from strata_format.refused import Refused, shown
+from strata_layers.lost import LOST, Lost
+
+# a security module labels files anew, as a mount says
+LABELS = (b"security.selinux",)
+
+
+class Nothing(Lost):
+    """What may be lost of a layer: nothing but labels. Anything else is Refused by name."""
+
+    def note(self, kind, where, names=()):
+        names = [it for it in names if it not in LABELS]
+        if kind == "attributes" and names:
+            raise Refused("%s: has the extended attribute %s, which an image does not hold"
+                          % (where, shown(names[0])))
+        if kind != "attributes":
+            raise Refused("%s: %s" % (where, LOST[kind]))
