@@ -149,8 +149,8 @@ def held_layer(store, layer, word, heard):
 
 
 def layers_of(store, word, is_verified=False):
-    """An image's layers, the lowest first, and open files of them: prune leaves a
-    layer as long as any process has such a file, which the server of a mount is given."""
+    """An image's layers, the lowest first, and open files of them: prune leaves a layer as long as
+    any process has such a file, which the server of a mount is given."""
     image, marks = image_in(store, word), []
     with Progress("verified", sum(it.size for it in image.layers)) as progress:
         for layer in image.layers:

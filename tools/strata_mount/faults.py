@@ -10,7 +10,7 @@ import struct
 import zlib
 
 from strata_format import image_files, romfs
-from strata_format.refused import Refused, shown
+from strata_format.refused import Refused, one_line, shown
 from strata_layers import tars
 from strata_layers.store import default_place
 from strata_layers.store_images import brought, split_image
@@ -119,7 +119,8 @@ def not_there(path, store):
     """What is said of a word that names no file: it may mean an image of the store, or one to
     bring there."""
     if path.startswith(SOURCES):
-        return "no such file; `strata-layers pull %s NAME` brings it into the store as NAME" % shlex.quote(path)
+        return "no such file; `strata-layers pull %s NAME` brings it into the store as NAME" % (
+            one_line(shlex.quote(path)))
     if may_be_stored(path):
         return "no such file, and no such image in %s; %s" % (shown(store or default_place()), brought(path))
     return "no such file or directory"
