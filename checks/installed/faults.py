@@ -3,12 +3,14 @@ import gzip
 import io
 import os
 import re
+import shutil
+import stat
 import struct
 import tarfile
 
 from checks import ROOT
 from checks.installed.mounts import OTHER, places, user
-from checks.installed.roots import Failed, hold, hold_in
+from checks.installed.roots import BIND, Failed, hold, hold_in, mount
 from strata_mount.faults import RULES
 
 RULE = os.path.join(ROOT, "crates", "romfs_format", "src", "rule.rt")
@@ -49,9 +51,14 @@ def images(root):
         hold("of " + name, (status, lines), refused(root, "/srv/" + name))
         done = root.run("mount", "-t", "strata", "/srv/lower.romfs:/srv/" + name, "/mnt")
         hold("by mount, of " + name, (32, lines.replace("strata-mount", "mount.strata")), (done.status, done.err))
-    no_image = "no such file, and no such image in /var/lib/strata"
-    hold("no file and no image", (1, "image 1: cannot be read\nstrata-mount: image 1 is none:1: %s\n" % no_image),
-         refused(root, "none:1"))
+    brought = "`strata-layers pull SOURCE %s` brings it there"
+    far = "no such file; `strata-layers pull %s NAME` brings it into the store as NAME"
+    for name, why in (("none:1", "no such file, and no such image in /var/lib/strata; " + brought % "none:1"),
+                      ("docker://host/app:1", far % "docker://host/app:1"), ("oci:none:1", far % "oci:none:1")):
+        hold("no file and no image", (1, "image 1: cannot be read\nstrata-mount: image 1 is %s: %s\n" % (name, why)),
+             refused(root, name))
+    hold("no image of a name", (1, "strata-mount: none: no such image in /var/lib/strata; %s\n" % brought % "none"),
+         refused(root, "image:none"))
     done = root.run("prlimit", "--nofile=20", "strata-mount", *["/srv/lower.romfs"] * 30, "/mnt")
     hold("the status of many files", 1, done.status)
     hold_in("many files", "too many open files: strata keeps one open for each of 30 images, and a few more; `ulimit -n` "
@@ -79,6 +86,24 @@ def not_permitted(root):
          (done.status, done.err))
     hold("mounts", [], places())
     return "said to a user who may not read an image"
+
+
+def device(root):
+    """A device that the user may not open, without fusermount3: a device file of mode 600 over it."""
+    root.needs("setpriv")
+    root.install()
+    other = user(root)
+    os.mkdir("/mnt/other")
+    os.chown("/mnt/other", OTHER, OTHER)
+    os.mknod("/tmp/closed", 0o600 | stat.S_IFCHR, os.stat("/dev/fuse").st_rdev)
+    mount("/tmp/closed", "/dev/fuse", None, BIND)
+    while helper := shutil.which("fusermount3"):
+        os.unlink(helper)
+    done = root.run(*other, "strata-mount", "/srv/lower.romfs", "/mnt/other")
+    hold("the device", (1, "strata-mount: /dev/fuse: Permission denied"), (done.status, done.err.splitlines()[0]))
+    hold_in("the device", "this user may not open it, and there is no fusermount3", done.err)
+    hold("lines", 2, len(done.err.splitlines()))
+    return "said to a user who may not open /dev/fuse"
 
 
 def archive(names):

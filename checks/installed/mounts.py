@@ -225,6 +225,27 @@ def user(root):
     return other
 
 
+def for_others(root):
+    """allow_other by a user who is not root, as fuse.conf(5) has it: only with user_allow_other."""
+    root.needs("fusermount3", "setpriv")
+    root.install()
+    other, third = user(root), ("setpriv", "--reuid=%d" % (OTHER + 1), "--regid=%d" % (OTHER + 1), "--clear-groups")
+    os.mkdir("/mnt/other")
+    os.chown("/mnt/other", OTHER, OTHER)
+    words = (*other, "strata-mount", "--background", "-o", "allow_other,modeless", "/srv/lower.romfs", "/mnt/other")
+    for line in ("", "user_allow_other\n"):
+        with open("/etc/fuse.conf", "w", encoding="ascii") as out:
+            out.write(line)
+        done = root.run(*words)
+        hold("status with %r" % line, int(not line), done.status)
+        hold("the word that is missing", not line, "user_allow_other" in done.err)
+    for who in (third, ()):
+        hold("a file", "lantern\n", root.good(*who, "cat", "/mnt/other/etc/hostname"))
+    root.good(*other, "fusermount3", "-u", "/mnt/other")
+    hold("mounts", [], places())
+    return "allow_other by a user, with user_allow_other in fuse.conf alone"
+
+
 def by_user(root):
     """A line with `user`: who is not root mounts and takes away, by fusermount3."""
     root.needs("fusermount3", "setpriv")

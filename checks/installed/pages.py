@@ -1,6 +1,12 @@
 """Man pages and completions: that they can be read, and that they name the options that the programs' helps name."""
+import contextlib
+import fcntl
 import os
+import pty
 import re
+import struct
+import subprocess
+import termios
 
 from checks import ROOT
 from checks.installed.roots import Failed, LeftOut, hold, hold_in
@@ -15,6 +21,7 @@ SHARE = "/usr/local/share/"
 SUBCOMMANDS = ("check", "list", "serve", "socket")
 VERBS = ("image", "convert", "pull", "images", "verify", "remove", "prune", "config", "attributes",
          "podman")
+NARROW = 60
 OPTION = re.compile(r"(?<![\w-])(--[a-z][a-z-]*|-[A-Za-z])(?![\w-])")
 COMPLETED = {"bash": SHARE + "bash-completion/completions/%s", "zsh": SHARE + "zsh/site-functions/_%s",
              "fish": SHARE + "fish/vendor_completions.d/%s.fish"}
@@ -87,6 +94,32 @@ def options(root):
                 found = set(re.findall(r"(?<![\w-])--[a-z][a-z-]*", text))
             hold("options of %s in %s" % (name, shell), longs, sorted(found))
     return "helps, pages and completions of three shells name the same %d options" % sum(map(len, wanted.values()))
+
+
+def on_terminal(words, columns):
+    """What a program prints on a terminal of so many columns."""
+    ours, theirs = pty.openpty()
+    fcntl.ioctl(theirs, termios.TIOCSWINSZ, struct.pack("4H", 24, columns, 0, 0))
+    process, text = subprocess.Popen(words, stdin=subprocess.DEVNULL, stdout=theirs), b""
+    os.close(theirs)
+    # a terminal whose other end is closed fails to be read
+    with contextlib.suppress(OSError):
+        while data := os.read(ours, 4096):
+            text += data
+    os.close(ours)
+    hold("status of %s" % " ".join(words), 0, process.wait())
+    return text.decode().splitlines()
+
+
+def narrow(root):
+    """Each help fits a terminal of 60 columns."""
+    root.install()
+    programs = (["strata-mount"], ["/sbin/mount.strata"], ["strata-layers"], *(["strata-layers", it] for it in VERBS))
+    for words in programs:
+        lines = on_terminal([*words, "--help"], NARROW)
+        hold("an empty help", True, len(lines) > 3)
+        hold("wide lines of %s" % " ".join(words), [], [it for it in lines if len(it) > NARROW])
+    return "%d helps in %d columns" % (len(programs), NARROW)
 
 
 def words_of_fstab(root):

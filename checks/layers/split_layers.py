@@ -14,7 +14,7 @@ from checks.shared.layer_files import (archive, character, directory, fifo, file
 from strata_format import image
 from strata_layers import layer_images
 from strata_layers.store import Store
-from strata_layers.store_images import image_in, layers_of
+from strata_layers.store_images import layers_of
 
 
 @contextlib.contextmanager
@@ -132,11 +132,12 @@ def hold_pulled(place, layout, name, new):
 
 def hold_stored(room, place, name, archives, owners):
     store = Store(place)
-    paths, marks = layers_of(store, name)
+    layers, marks = layers_of(store, name)
     for number in marks:
         os.close(number)
-    stack_of(room, paths, archives, owners)
-    return image_in(store, name).layers
+    stack_of(room, [store.path_of(it.digits) for it in layers], archives, owners)
+    expect([it.parent for it in layers] == [None, *(it.digits for it in layers[:-1])], "made for others: %r" % layers)
+    return layers
 
 
 def test_stores_of_many_images(room):

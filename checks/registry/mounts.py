@@ -65,9 +65,11 @@ def check_mounts_by_name(room):
     hold("an image", WANTED, seen(mounted(room, "image:team/app:1")))
     at = mounted(room, "image:team/app:1", "team/app:1")
     hold("a file over an image", True, os.path.exists(os.path.join(at, "bin", "tell")))
-    for word in ("image:none", "image:team/app:2", "image:../app"):
+    for word, is_name in (("image:none", True), ("image:team/app:2", True), ("image:../app", False)):
         at, done = mount(room, word)
         hold(word, (1, 1, False), (done.returncode, done.stderr.count("\n"), os.path.ismount(at)))
+        hint = "; `strata-layers pull SOURCE %s` brings it there\n" % word.partition(":")[2]
+        hold("a hint for " + word, is_name, done.stderr.endswith(hint))
 
 
 def check_one_file(room):
@@ -109,6 +111,50 @@ def check_verified_mounts(room):
     hold("missing", (1, True, False), (done.returncode, os.path.basename(layer) in done.stderr, os.path.ismount(at)))
 
 
+def moved_layout(room, read, manifest, order, **notes):
+    """A layout of an image's layers in another order, with what is said of them."""
+    it, layers = made.Layout(room.name()), []
+    for at in order:
+        was = manifest["layers"][at]
+        layers.append(it.blob(was["mediaType"], read.blob(was), annotations={**was["annotations"], **notes}))
+    diff_ids = [read.json(manifest["config"])["rootfs"]["diff_ids"][at] for at in order]
+    it.index(made.tagged(it.image_of(layers, diff_ids), "1"))
+    return it.path
+
+
+def check_order(room):
+    """A mount says in one line which image lies on another than it was made for: of a layout's files, and of an image of the
+    store. What is in order, or not known, is not told."""
+    out = room.name()
+    room.layers("convert", made.layout(room.name()).path, out)
+    read = made.Read(out, "1")
+    manifest = read.json(read.top)
+    digests = [it["digest"] for it in manifest["layers"]]
+    blobs = [os.path.join(out, "blobs", *it.split(":")) for it in digests]
+    hold("files in order", WANTED, seen(mounted(room, *blobs)))
+    line = "layer 0 is %%s: made to lie on %.19s.., and is the lowest; 1 more lie on others" % digests[0]
+    told_of(room, line % blobs[1], blobs[1], blobs[0], *blobs[2:])
+    told_of(room, "layer 1 is %s: made to lie on %.19s.., and lies on %.19s.." % (blobs[2], digests[1], digests[0]),
+            blobs[0], blobs[2], blobs[3])
+    order = 1, 0, 2, 3, 4
+    room.layers("pull", "oci:" + moved_layout(room, read, manifest, order), "moved:1")
+    told_of(room, line % mounted_layers(room, "moved:1")[0], "moved:1")
+    for number, word in enumerate(("sha256:no", 7, None)):
+        name = "other%d" % number
+        room.layers("pull", "oci:" + moved_layout(room, read, manifest, order, **{"vnd.strata.layer.parent": word}), name)
+        mounted(room, name)
+    with open(os.path.join(out, "index.json"), "w", encoding="utf-8") as index:
+        index.write("[")
+    mounted(room, blobs[1], blobs[0])
+
+
+def told_of(room, line, *words):
+    """A mount must be made, and say this alone."""
+    _, done = mount(room, *words)
+    hold("status, and lines", (0, 1), (done.returncode, done.stderr.count("\n")))
+    hold("told", line, done.stderr.partition(": ")[2].rstrip("\n"))
+
+
 HELPER = """
 mount -t tmpfs tmpfs /var/lib && mount -t tmpfs tmpfs /mnt || exit 99
 "$1" -B "$2" pull "oci:$4" team/app:1 >&2 && "$1" -B "$3" image:team/app:1 /mnt -o ro >&2 || exit 98
@@ -131,4 +177,4 @@ def check_mount_helper(room):
     hold("paths", sorted(made.SHOWN), sorted(("/" + it).replace("/.", "/") for it in json.loads(done.stdout)))
 
 
-CHECKS = [check_mounts_by_name, check_one_file, check_used_layers, check_verified_mounts, check_mount_helper]
+CHECKS = [check_mounts_by_name, check_one_file, check_used_layers, check_verified_mounts, check_order, check_mount_helper]

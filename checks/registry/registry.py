@@ -6,7 +6,7 @@ sandboxes.
 import os
 import sys
 
-from checks.registry import bombs, hostile, lying, mounts, stores
+from checks.registry import bombs, full_disks, hostile, lying, mounts, stores
 from checks.registry.rooms import run_checks
 
 
@@ -16,6 +16,7 @@ def main(words):
     is_right &= run_checks(hostile.quick_checks() if is_quick else hostile.checks(), strata, "hostile")
     is_right &= run_checks(bombs.CHECKS, strata, "bombs")
     is_right &= run_checks(lying.CHECKS, strata, "lying")
+    is_right &= run_checks(full_disks.CHECKS, strata, "full disks")
     is_right &= run_checks(mounts.CHECKS, strata, "mounts")
     if not is_quick:
         from checks.registry import outside, printed, sandboxes

@@ -27,10 +27,12 @@ def hold_converted(room, path, tag, source, packed):
     new, old = made.Read(path, tag), made.Read(source.path, "1")
     manifest, was = new.json(new.top), old.json(old.top)
     hold("media types", [made.ROMFS + packed] * len(was["layers"]), [it["mediaType"] for it in manifest["layers"]])
-    hold("what layers were made of", [{"vnd.strata.layer.source": it["digest"]} for it in was["layers"]],
-         [it["annotations"] for it in manifest["layers"]])
     config, config_was = new.json(manifest["config"]), old.json(was["config"])
     images = [unpacked(new.blob(it), packed) for it in manifest["layers"]]
+    notes = [{"vnd.strata.layer.source": it["digest"]} for it in was["layers"]]
+    for it, below in zip(notes[1:], images):
+        it["vnd.strata.layer.parent"] = made.digest(below)
+    hold("what layers were made of, and for", notes, [it["annotations"] for it in manifest["layers"]])
     hold("digests of layers", [made.digest(it) for it in images], config["rootfs"].pop("diff_ids"))
     config_was["rootfs"].pop("diff_ids")
     hold("the configuration", config_was, config)

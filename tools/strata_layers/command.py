@@ -12,8 +12,10 @@ Modes, owners and times follow each image, as in strata-attributes(5).
 import os
 import re
 import shlex
+import shutil
 import signal
 import sys
+import textwrap
 
 from strata_format import ends
 from strata_format.refused import Refused, shown
@@ -21,6 +23,7 @@ from strata_format.version import command, version
 
 VERBS = ("image", "convert", "pull", "images", "verify", "remove", "prune", "config", "attributes",
          "podman")
+HELP_WIDTH = 100
 
 
 def say(line):
@@ -33,10 +36,14 @@ def say_fault(line):
 
 def help_text():
     name = command("layers")
-    lines = ["usage: %s LAYOUT[:TAG] FOLDER" % name]
-    lines += ["       %s %s .. (each has a --help)" % (name, "|".join(VERBS)),
-              "       %s -h|--help|-V|--version" % name]
-    return "\n".join(lines) + "\n\n" + __doc__.split("\n\n", 1)[1].rstrip() + "\n"
+    lines = ["usage: %s LAYOUT[:TAG] FOLDER" % name, "       %s VERB .." % name,
+             "       %s -h|--help|-V|--version" % name]
+    # as wide as the terminal, as the help of a verb is
+    width = min(HELP_WIDTH, shutil.get_terminal_size().columns)
+    verbs = "Each VERB has a --help: %s." % ", ".join(VERBS)
+    parts = [verbs, *__doc__.split("\n\n")[1:]]
+    text = (textwrap.fill(it, width, break_on_hyphens=False) for it in parts)
+    return "\n".join(lines) + "\n\n" + "\n\n".join(text) + "\n"
 
 
 def wrong_words(words):

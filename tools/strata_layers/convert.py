@@ -4,7 +4,7 @@ import os
 
 from strata_format.progress import Progress
 from strata_format.refused import Refused, shown
-from strata_layers.layout_images import PACKED_ROMFS, PART, ROMFS, all_images, image_of
+from strata_layers.layout_images import PACKED_ROMFS, PARENT, PART, ROMFS, all_images, image_of
 from strata_layers.layout_writer import LayoutWriter, check_tag, split_new_name
 from strata_layers.layouts import INDEXES, MANIFESTS, digest_of
 from strata_layers.packing import packed_pieces
@@ -51,7 +51,11 @@ class Converter:
         """Writes a layer; its descriptor."""
         digits, size = self.blob(layer)
         media = ROMFS + ("+" + self.packing if self.packing else "")
-        notes = {SOURCE: source, **({PART: str(layer.part + 1)} if layer.part else {})}
+        notes = {SOURCE: source}
+        if layer.part:
+            notes[PART] = str(layer.part + 1)
+        if layer.parent:
+            notes[PARENT] = "sha256:" + layer.parent
         return {"mediaType": media, "digest": "sha256:" + digits, "size": size,
                 "annotations": notes}
 
@@ -128,10 +132,11 @@ def convert(store, layout, tag, word, options, lost):
         with Progress("layers", size) as progress:
             layout.heard = progress.add
             layers = [maker.layers(layout, image) for image in images]
-        converter = Converter(maker, LayoutWriter(folder), options.packing)
-        made = [converter.image(*both) for both in zip(images, layers)]
-        if options.platform == "all":
-            value = {"schemaVersion": 2, "mediaType": INDEXES[0], "manifests": made}
-            made = [converter.target.document(INDEXES[0], value)]
-        converter.target.put_index(made[0], new_tag)
+        with LayoutWriter(folder) as target:
+            converter = Converter(maker, target, options.packing)
+            made = [converter.image(*both) for both in zip(images, layers)]
+            if options.platform == "all":
+                value = {"schemaVersion": 2, "mediaType": INDEXES[0], "manifests": made}
+                made = [target.document(INDEXES[0], value)]
+            target.put_index(made[0], new_tag)
     return folder, new_tag

@@ -18,8 +18,11 @@ PACKED_ROMFS = {ROMFS: "", ROMFS + "+gzip": "gzip", ROMFS + "+zstd": "zstd"}
 # where a layer takes several images, the higher ones say their place among them, from 2 on
 PART = "vnd.strata.layer.part"
 PARTS = re.compile("[2-9]|[1-9][0-9]{1,2}")
+# the digest of the image that an image of romfs was made to lie on, both before they were packed
+PARENT = "vnd.strata.layer.parent"
+PARENTS = re.compile("sha256:[0-9a-f]{64}")
 
-Image = collections.namedtuple("Image", "descriptor manifest config media layers archives parts")
+Image = collections.namedtuple("Image", "descriptor manifest config media layers archives parts parents")
 
 
 def layers_in(manifest, where):
@@ -45,11 +48,22 @@ def archives_in(config, count, where):
 def parts_in(manifest):
     """Of each layer of a manifest which part of a layer it is, from 0 on; what is no image of romfs
     has no parts."""
-    found = []
-    for it in manifest["layers"]:
-        said = it.get("annotations", {}).get(PART) if it["mediaType"] in PACKED_ROMFS else None
-        found.append(int(said) - 1 if isinstance(said, str) and PARTS.fullmatch(said) else 0)
-    return found
+    found = notes_in(manifest, PART)
+    return [int(it) - 1 if isinstance(it, str) and PARTS.fullmatch(it) else 0 for it in found]
+
+
+def parents_in(manifest):
+    """Of each layer of a manifest the digits of the image that it was made to lie on; None where
+    that isn't said."""
+    found = notes_in(manifest, PARENT)
+    return [it.partition(":")[2] if isinstance(it, str) and PARENTS.fullmatch(it) else None for it in found]
+
+
+def notes_in(manifest, key):
+    """What the annotations of each layer of a manifest say under a key; None of what is no image of
+    romfs."""
+    return [it.get("annotations", {}).get(key) if it["mediaType"] in PACKED_ROMFS else None
+            for it in manifest["layers"]]
 
 
 def image_of(layout, descriptor, asked=None):
@@ -61,8 +75,8 @@ def image_of(layout, descriptor, asked=None):
     if asked and config.get("architecture", asked[0]) != asked[0]:
         raise Refused("%s: is for %s" % (where, shown(str(config["architecture"]))))
     archives = archives_in(config, len(layers), where)
-    parts = parts_in(manifest)
-    return Image(descriptor, manifest, config, described.media, layers, archives, parts)
+    parts, parents = parts_in(manifest), parents_in(manifest)
+    return Image(descriptor, manifest, config, described.media, layers, archives, parts, parents)
 
 
 def all_images(layout, tag):

@@ -1,8 +1,9 @@
 """Writes images into an OCI image layout, which is made where it isn't there.
 
-Blobs are written beside their place and renamed; the index, which names them, comes last. Two runs
-over one layout wait for one another. Nothing is waited for until it is on the disk, as in a store:
-whoever copies a layout looks at the digests, and it can be written again.
+Blobs are written beside their place and renamed; the index, which names them, comes last. What a
+run that fails has brought is taken away, so that no half layout stays. Two runs over one layout
+wait for one another. Nothing is waited for until it is on the disk, as in a store: whoever copies a
+layout looks at the digests, and it can be written again.
 """
 import contextlib
 import fcntl
@@ -12,7 +13,7 @@ import os
 import re
 import stat
 
-from strata_format.files import copy_front, make_folder, new_file, write_all
+from strata_format.files import copy_front, new_file, open_folder, write_all
 from strata_format.refused import Refused, shown
 from strata_layers.layouts import REFERENCE, Layout, has_type, parsed, split_at_folder
 
@@ -46,15 +47,39 @@ def copy_file(source, out):
     copy_front(source, out, os.fstat(source).st_size)
 
 
+def take_away(remove, name, above):
+    """Removes a file or folder that a run has brought; a folder in which others are stays."""
+    with contextlib.suppress(OSError):
+        remove(name, dir_fd=above)
+
+
 class LayoutWriter:
-    """A layout that is written to, by one run at a time."""
+    """A layout that is written to, by one run at a time: from the beginning of a `with` to its end.
+    `brought` takes away what this run has brought; once the index names it, nothing is."""
 
     def __init__(self, folder):
         self.folder, self.name = folder, shown(os.fsencode(folder))
-        self.root = make_folder(folder)
-        fcntl.flock(self.root, fcntl.LOCK_EX)
-        self.begin()
-        self.blobs = make_folder("sha256", make_folder("blobs", self.root))
+
+    def __enter__(self):
+        with contextlib.ExitStack() as self.brought:
+            self.root = self.locked_root()
+            self.begin()
+            self.blobs = self.made_folder("sha256", self.made_folder("blobs", self.root))
+            self.brought = self.brought.pop_all()
+        return self
+
+    def __exit__(self, *_):
+        self.brought.close()
+
+    def locked_root(self):
+        """The layout's own folder, for this run alone. The run that held it may have taken it
+        away."""
+        while True:
+            root = self.made_folder(self.folder)
+            fcntl.flock(root, fcntl.LOCK_EX)
+            if os.fstat(root).st_nlink > 0:
+                return root
+            os.close(root)
 
     def begin(self):
         """Takes away what an interrupted run has left, and sees that the folder is a layout or
@@ -69,6 +94,20 @@ class LayoutWriter:
 
     # --- files ---
 
+    def made_folder(self, name, above=None):
+        """An open folder, which is made where it isn't there."""
+        with contextlib.suppress(FileExistsError):
+            os.mkdir(name, dir_fd=above)
+            self.brought.callback(take_away, os.rmdir, name, above)
+        return open_folder(name, above)
+
+    def keep(self, new, folder, name):
+        """Gives a file, which is whole, its name."""
+        is_new = not os.access(name, os.F_OK, dir_fd=folder, follow_symlinks=False)
+        new.keep(folder, name)
+        if is_new:
+            self.brought.callback(take_away, os.unlink, name, folder)
+
     def new_file(self):
         """A new file beside the layout's own, where it doesn't stay."""
         return new_file(self.root, os.path.abspath(self.folder), 0o666, NEW)
@@ -76,7 +115,7 @@ class LayoutWriter:
     def write(self, folder, name, data):
         with self.new_file() as new:
             write_all(new.file, data)
-            new.keep(folder, name)
+            self.keep(new, folder, name)
 
     def has(self, digits, size):
         """Whether there is a blob of this size."""
@@ -101,7 +140,7 @@ class LayoutWriter:
         if not self.has(digits, size):
             with self.new_file() as new:
                 copy_file(number, new.file.fileno())
-                new.keep(self.blobs, digits)
+                self.keep(new, self.blobs, digits)
 
     def blob(self, pieces):
         """Writes a blob; its digits and its size."""
@@ -111,7 +150,7 @@ class LayoutWriter:
                 found.update(data)
                 size += len(data)
                 write_all(new.file, data)
-            new.keep(self.blobs, found.hexdigest())
+            self.keep(new, self.blobs, found.hexdigest())
         return found.hexdigest(), size
 
     # --- the index ---
@@ -131,7 +170,11 @@ class LayoutWriter:
             raise Refused("%s: no good 'manifests'" % name)
         others = [it for it, its_notes in zip(there, notes) if its_notes.get(REFERENCE) != tag]
         named = {**descriptor, "annotations": {REFERENCE: tag}}
-        self.write(self.root, "index.json", json_bytes({**value, "manifests": [*others, named]}))
+        with self.new_file() as new:
+            write_all(new.file, json_bytes({**value, "manifests": [*others, named]}))
+            # an index never names what is taken away
+            self.brought.pop_all()
+            new.keep(self.root, "index.json")
 
 
 def json_bytes(value):

@@ -264,20 +264,22 @@ class Layout:
     def manifests(self, value, where):
         return [descriptor_of(it, where) for it in field(value, "manifests", list, where)]
 
+    def descriptors(self):
+        """The descriptors of the index."""
+        where = self.name + "/index.json"
+        return self.manifests(parsed(self.small_file("index.json"), where), where)
+
     def found(self, tag):
         """The manifests and indexes that a tag names, and where they stand."""
         where = self.name + "/index.json"
-        found = self.manifests(parsed(self.small_file("index.json"), where), where)
-        return tagged(found, tag, where), where
+        return tagged(self.descriptors(), tag, where), where
 
     def reference(self, tag):
         """The tag of the image that is meant, where it has one."""
         return tag if tag is not None else self.found(None)[0][0].reference
 
     def has_tag(self, tag):
-        where = self.name + "/index.json"
-        found = self.manifests(parsed(self.small_file("index.json"), where), where)
-        return any(it.reference == tag for it in found)
+        return any(it.reference == tag for it in self.descriptors())
 
     def descriptor(self, tag, asked=None):
         """The descriptor of the manifest that is meant, through nested indexes."""

@@ -16,8 +16,18 @@ LATEST = "latest"
 # what is known of an image: where it came from, its manifest's digest there, its layers from the
 # lowest up, and its configuration
 StoredImage = collections.namedtuple("StoredImage", "source manifest layers config")
-# an image of a layer; where a layer takes several, the higher ones are its parts from 1 on
-StoredLayer = collections.namedtuple("StoredLayer", "digits size part", defaults=(0,))
+# an image of a layer; where a layer takes several, the higher ones are its parts from 1 on. `parent`
+# has the digits of the image that it was made to lie on; None where it is the lowest, or not known
+StoredLayer = collections.namedtuple("StoredLayer", "digits size part parent", defaults=(0, None))
+
+
+class NoImage(Refused):
+    """A store has no image of a name."""
+
+
+def brought(name):
+    """What is said of how an image is brought into a store."""
+    return "`strata-layers pull SOURCE %s` brings it there" % name
 
 
 def is_word(text, not_first):
@@ -55,7 +65,7 @@ def full_name(store, word):
     if tag is None:
         tag = there[0] if len(there) == 1 else LATEST
     if tag not in there:
-        raise Refused("%s: no such image in %s" % (word, store.name))
+        raise NoImage("%s: no such image in %s" % (word, store.name))
     return "%s:%s" % (name, tag)
 
 
@@ -81,12 +91,17 @@ def layer_of_json(value, where):
     size, part = said.get("size"), said.get("part", 0)
     if not isinstance(size, int) or not isinstance(part, int):
         raise Refused("%s: no good description of a layer" % where)
-    return StoredLayer(digits_of(said.get("digest"), where), size, part)
+    parent = digits_of(said["parent"], where) if "parent" in said else None
+    return StoredLayer(digits_of(said.get("digest"), where), size, part, parent)
 
 
 def layer_json(layer):
     value = {"digest": "sha256:" + layer.digits, "size": layer.size}
-    return {**value, "part": layer.part} if layer.part else value
+    if layer.part:
+        value["part"] = layer.part
+    if layer.parent:
+        value["parent"] = "sha256:" + layer.parent
+    return value
 
 
 def count_of(layers):
@@ -134,13 +149,13 @@ def held_layer(store, layer, word, heard):
 
 
 def layers_of(store, word, is_verified=False):
-    """The paths of an image's layers, the lowest first, and open files of them: prune leaves a
-    layer as long as any process has such a file, which the server of a mount is given."""
+    """An image's layers, the lowest first, and open files of them: prune leaves a layer as long as
+    any process has such a file, which the server of a mount is given."""
     image, marks = image_in(store, word), []
     with Progress("verified", sum(it.size for it in image.layers)) as progress:
         for layer in image.layers:
             marks.append(held_layer(store, layer, word, progress.add if is_verified else None))
-    return [store.path_of(it.digits) for it in image.layers], marks
+    return image.layers, marks
 
 
 def is_file(word):
@@ -163,28 +178,38 @@ def image_meant(word, store):
 
 def store_for(words, place):
     """The store at a place, where words of a mount may mean one of its images; else None."""
-    is_asked = any(word.startswith("image:") for word in words)
-    if not is_asked and (all(map(is_file, words)) or not os.path.isdir(place)):
+    asked = [word.partition(":")[2] for word in words if word.startswith("image:")]
+    if not asked and (all(map(is_file, words)) or not os.path.isdir(place)):
         return None
+    if not os.path.isdir(place):
+        raise NoImage("%s: no such image in %s" % (asked[0], shown(place)))
     try:
         return Store(place)
     except (Refused, OSError):
-        if is_asked:
+        if asked:
             raise
         return None
 
 
 def mounted_words(words, place=None, is_verified=False):
-    """The paths that the words of a mount mean, files and images of the store at a place, and the
-    open files that mark layers of the store as in use. OSError where an image can't be had."""
-    paths, marks = [], []
+    """The paths that the words of a mount mean, files and images of the store at a place; the open
+    files that mark layers of the store as in use; and by the path of a layer the digits of the
+    images that it was made to lie on. OSError where an image can't be had."""
+    paths, marks, parents = [], [], {}
     try:
         store = store_for(words, place or default_place())
         for word in words:
             image = image_meant(word, store)
-            found, held = ([word], []) if image is None else layers_of(store, image, is_verified)
-            paths, marks = paths + found, marks + held
+            if image is None:
+                paths.append(word)
+                continue
+            layers, held = layers_of(store, image, is_verified)
+            marks += held
+            for it in layers:
+                paths.append(store.path_of(it.digits))
+                parents.setdefault(paths[-1], set()).add(it.parent)
     except Refused as refused:
         where, _, why = str(refused).partition(": ")
-        raise OSError(0, why, where) from None
-    return paths, marks
+        hint = "; " + brought(where) if isinstance(refused, NoImage) else ""
+        raise OSError(0, why + hint, where) from None
+    return paths, marks, parents

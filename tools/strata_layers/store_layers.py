@@ -85,7 +85,9 @@ class Maker:
         noted, and its layer made anew each time."""
         if made.implied is None:
             return
-        value = {"maker": MAKER, "layers": [layer_json(it) for it in made.images],
+        # what a blob's layer lies on is an image's affair
+        layers = [layer_json(it._replace(parent=None)) for it in made.images]
+        value = {"maker": MAKER, "layers": layers,
                  "archive": made.archive, "is_less": made.is_less,
                  "implied": [b"/".join(path).decode("latin-1") for path in made.implied]}
         data = json.dumps(value).encode()
@@ -204,7 +206,19 @@ class Maker:
         count = sum(map(len, found))
         if count > LAYERS_MOST:
             raise Refused("its layers take %d images, and %d can be stacked" % (count, LAYERS_MOST))
-        return found
+        return with_parents(found, image.parents)
+
+
+def with_parents(layers, said):
+    """The images of layers, a list for each, with those that they were made to lie on: what a
+    layout says of an image of romfs, and else the one below."""
+    below, found = None, []
+    for images, parent in zip(layers, said):
+        found.append([])
+        for it in images:
+            found[-1].append(it._replace(parent=parent or below))
+            parent, below = None, it.digits
+    return found
 
 
 def layers_said(value, where):

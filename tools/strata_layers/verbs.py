@@ -4,7 +4,6 @@ import argparse
 import os
 import shlex
 import sys
-import textwrap
 
 from strata_format import ends
 from strata_format.refused import Refused, bytes_of, one_line
@@ -180,10 +179,7 @@ STORELESS = ("image", "attributes")
 def parser():
     it = Parser(prog=command("layers"))
     verbs = it.add_subparsers(dest="verb", required=True)
-    form = argparse.RawDescriptionHelpFormatter
-    parts = {verb: verbs.add_parser(verb, description=textwrap.fill(text, 100),
-                                    formatter_class=form, help=text.split(";")[0])
-             for verb, text in HELP.items()}
+    parts = {verb: verbs.add_parser(verb, description=text) for verb, text in HELP.items()}
     for verb, part in parts.items():
         if verb not in STORELESS:
             part.add_argument("--store", metavar="DIR", default=default_place(),

@@ -35,31 +35,40 @@ HELP = """
 Mounts stacked romfs images, lowest first.
 
 positional arguments:
-  IMAGE.. DIR       images, lowest first, or image:NAME:TAG, and a directory;
-                    after -- names may begin with -
+  IMAGE.. DIR       images, lowest first, or image:NAME:TAG,
+                    and a directory; after -- names may
+                    begin with -
 
 options:
   -h, --help        show this help message and exit
   --background      return once the mount answers
-  -o OPTIONS        mount options: allow_other, noexec, max_read=N, ..;
-                    strata's: strict, whole, workers=N, readers=N, uid=N,
-                    gid=N, share, stack, caps, modeless
+  -o OPTIONS        mount options: allow_other, noexec,
+                    max_read=N, ..; strata's: strict, whole,
+                    workers=N, readers=N, uid=N, gid=N,
+                    share, stack, caps, modeless
   --strict          verify the checksum of every header, too
   --replace         unmount a mount of strata at DIR first
-  --share           one mount for all who ask for the same images and options,
-                    in the background; DIR shows it
-  --print           with --share and without DIR: print a directory that shows it
-  --list            print all mounts with images, process, memory and age
+  --share           one mount for all who ask for the same
+                    images and options, in the background;
+                    DIR shows it
+  --print           with --share and without DIR: print a
+                    directory that shows it
+  --list            print all mounts with images, process,
+                    memory and age
   --json            with --list: print JSON
   --store DIR       look for container images in this store
-  --verify          verify the digests of the store's layers first
-  -d, --debug       print each request and reply on standard error
-  --stats FILE      count requests; FILE is written on SIGUSR1 and at the end
-  --strata PROGRAM  start PROGRAM instead of the installed strata
+  --verify          first verify the digests of the store's
+                    layers
+  -d, --debug       print each request and reply on standard
+                    error
+  --stats FILE      count requests; FILE is written on
+                    SIGUSR1 and at the end
+  --strata PROGRAM  start PROGRAM instead of the installed
+                    strata
   --version         print the version
 
-DIR shows the stacked tree until `umount DIR`, or `fusermount3 -u DIR` for
-users who are not root.
+DIR shows the stacked tree until `umount DIR`, or
+`fusermount3 -u DIR` for users who are not root.
 """
 WRONG_WORDS = 2
 # so many characters of a name stand in the table of mounts

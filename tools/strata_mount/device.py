@@ -55,11 +55,17 @@ def flags_of(words):
     return flags
 
 
+def hold_device():
+    """Looks that this user may open the device."""
+    os.close(os.open(DEVICE, os.O_RDWR))
+
+
 def mounted_by_helper(plan):
     """The same by fusermount3, which sends the open device through a socket."""
     import _socket as socket  # all of socket that is needed, without enum and selectors
     helper = found_program("fusermount3")
     if not helper:
+        hold_device()
         why = "only root may mount, and there is no fusermount3: install fuse3"
         raise OSError(0, why, plan.folder)
     source = plan.source.replace("\\", "\\\\").replace(",", "\\,")

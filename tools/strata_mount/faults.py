@@ -10,10 +10,10 @@ import struct
 import zlib
 
 from strata_format import image_files, romfs
-from strata_format.refused import Refused, shown
+from strata_format.refused import Refused, one_line, shown
 from strata_layers import tars
 from strata_layers.store import default_place
-from strata_layers.store_images import split_image
+from strata_layers.store_images import brought, split_image
 from strata_mount import dead_mounts
 
 UNREADABLE = re.compile(r"image (\d+): cannot be read")
@@ -21,6 +21,8 @@ BROKEN = re.compile(r"layer (\d+) at [0-9a-f]{8,}: (.*)")
 TOO_MANY = re.compile(r"layers: (\d+), allowed 1 to 128")
 FRONT = 36 << 10
 TAR_MOST = 10000
+# what images are pulled from
+SOURCES = ("docker://", "oci:")
 # so many files strata may have open besides its images
 FILES_BESIDE = 16
 MAKE = "`strata-layers image FOLDER IMAGE` makes an image from a directory"
@@ -105,13 +107,23 @@ def unreadable(path, count, store):
 def fault_told(path, fault, store):
     """What a fault of reading a file says."""
     if isinstance(fault, FileNotFoundError):
-        sought = ", and no such image in " + shown(store or default_place())
-        return "no such file" + (sought if may_be_stored(path) else " or directory")
+        return not_there(path, store)
     if isinstance(fault, IsADirectoryError):
         return "it is a directory; " + MAKE
     if fault.errno in dead_mounts.GONE:
         return dead_mounts.told(os.path.realpath(path), False)
     return fault.strerror.lower()
+
+
+def not_there(path, store):
+    """What is said of a word that names no file: it may mean an image of the store, or one to
+    bring there."""
+    if path.startswith(SOURCES):
+        return "no such file; `strata-layers pull %s NAME` brings it into the store as NAME" % (
+            one_line(shlex.quote(path)))
+    if may_be_stored(path):
+        return "no such file, and no such image in %s; %s" % (shown(store or default_place()), brought(path))
+    return "no such file or directory"
 
 
 def not_open(count):

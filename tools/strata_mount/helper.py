@@ -32,7 +32,8 @@ FLAGS = {"-h": "help", "--help": "help", "-s": "sloppy", "-f": "fake", "-n": "n"
          "--version": "version"}
 VALUED = {"-o": "o", "-t": "t"}
 HELP = """\
-usage: %s LOWER[:UPPER].. DIR [-sfnv] [-o OPTIONS] [-t TYPE]
+usage: %s LOWER[:UPPER].. DIR [-sfnv]
+                    [-o OPTIONS] [-t TYPE]
 
 Mounts romfs images for mount(8).
 
@@ -42,10 +43,11 @@ positional arguments:
 options:
   -h, --help           show this help message and exit
   -s                   ignore unknown options
-  -f                   check that the images exist, and mount nothing
+  -f                   only check that the images exist
   -n                   no effect
   -v                   print what is mounted
-  -o OPTIONS           strict, whole, workers=N, .., and options of fstab
+  -o OPTIONS           strict, whole, workers=N, .., and
+                       options of fstab
   -t TYPE              strata or fuse.strata
   --version            print the version
 """

@@ -12,6 +12,8 @@ from strata_mount.mount_table import mount_at
 # the last folder
 OPENED = ("/lib64/ld-linux-x86-64.so.2", "/etc/ld.so.preload", "/etc/ld.so.cache", "/dev/null",
           "/sys/devices/system/cpu/online", "/sys/fs/cgroup/cpu.max", "/proc/self/fd")
+# of a digest, by which a layer's file is named
+DIGITS = 64
 # as many links as the kernel follows on the way to a file
 LINKS_MOST = 40
 
@@ -63,11 +65,19 @@ def clear(plan):
 
 
 def find_images(plan):
-    """Puts the layers of images of the store in the place of their names."""
-    if plan.store is None and not plan.verify and all(map(os.path.lexists, plan.images)):
-        return
-    from strata_layers import store_images
-    plan.images, plan.marks = store_images.mounted_words(plan.images, plan.store, plan.verify)
+    """Puts the layers of images of the store in the place of their names, and says where one lies
+    on another than it was made for."""
+    parents = {}
+    if plan.store is not None or plan.verify or not all(map(os.path.lexists, plan.images)):
+        from strata_layers import store_images
+        found = store_images.mounted_words(plan.images, plan.store, plan.verify)
+        plan.images, plan.marks, parents = found
+    # of others than blobs, which are named by their digests, nothing is known
+    if any(len(os.path.basename(it)) == DIGITS for it in plan.images):
+        from strata_layers.layer_order import wrong_order
+        line = wrong_order(plan.images, parents)
+        if line is not None:
+            plan.say(line)
 
 
 def hold_names(plan):

@@ -1,0 +1,108 @@
+"""Checks of what a full disk leaves: a file system in memory that is too small for what is made."""
+import os
+import random
+import sys
+
+from checks.registry import made
+from checks.registry.rooms import LAYERS, LeftOut, hold, needs
+
+PIECE = 200 << 10
+# of four layers of such a piece two fit
+SMALL, LARGE = 600 << 10, 8 << 20
+NO_SPACE = "no space left on device"
+# a disk, its size and another, and a command: what it leaves on the disk, and then on a larger one
+SCRIPT = """
+mount -t tmpfs -o size="$2" tmpfs "$1" || exit 99
+disk=$1 larger=$3 prepared=$4
+shift 4
+tree() { (cd "$disk" && find . -type f -exec sha256sum {} + -o -type d -print | sort); }
+sh -c "$prepared" >&2 || exit 98
+tree && echo == && "$@" >&2
+echo "== $?" && tree
+mount -o remount,size="$larger" "$disk" && "$@" >&2
+echo "== $?" && tree
+"""
+
+
+def noise(seed):
+    return random.Random(seed).randbytes(PIECE)
+
+
+def layout(room, count):
+    """A layout of so many layers, which nothing packs."""
+    layers = [made.archive(made.entry("%d" % at, noise(at))) for at in range(count)]
+    return made.layout(room.name(), layers).path
+
+
+def on_disk(room, words, prepared="true"):
+    """What stands on a small disk before a command is run, and after it, which must fail there and
+    say so; and what stands there once the disk is larger, where it must end well."""
+    needs("unshare", "mount", "find", "sha256sum")
+    disk = os.path.join(room.path, "disk")
+    os.makedirs(disk, exist_ok=True)
+    apart = ["unshare", "-m"] if os.geteuid() == 0 else ["unshare", "-rm"]
+    done = room.run(*apart, "sh", "-c", SCRIPT, "sh", disk, str(SMALL), str(LARGE), prepared, sys.executable, "-B",
+                    LAYERS, *words)
+    if done.returncode == 99:
+        raise LeftOut("no file system in memory here: %s" % done.stderr.strip())
+    hold("it could be prepared", (True, done.stderr), (done.returncode != 98, done.stderr))
+    told = [it for it in done.stderr.splitlines() if "tools/layers.py: " in it]
+    hold("told on the full disk", (1, True), (len(told), told[0].endswith(NO_SPACE)))
+    before, status, after, larger, at_last = (it.strip("\n") for it in split_at_status(done.stdout))
+    hold("status, and that on a larger disk", ("1", "0"), (status, larger))
+    return before, after, at_last
+
+
+def split_at_status(text):
+    before, _, rest = text.partition("==\n")
+    _, _, rest = rest.partition("== ")
+    status, _, rest = rest.partition("\n")
+    after, _, rest = rest.partition("== ")
+    larger, _, at_last = rest.partition("\n")
+    return before, status, after, larger, at_last
+
+
+def check_convert_on_a_full_disk(room):
+    """A new layout is not begun, and one that is there stays as it was."""
+    disk, source = os.path.join(room.path, "disk"), layout(room, 4)
+    words = ["convert", "--store", room.store, source]
+    for packing in ([], ["--compress", "gzip"]):
+        before, after, at_last = on_disk(room, [*words, *packing, disk + "/out:1"])
+        hold("a new layout", (before, True), (after, "./out/index.json" in at_last))
+    earlier = "%s -B %s convert --store %s %s %s/out:0" % (sys.executable, LAYERS, room.store, layout(room, 1), disk)
+    before, after, _ = on_disk(room, [*words, disk + "/out:1"], earlier)
+    hold("a layout that is there", (True, before), ("./out/index.json" in before, after))
+
+
+def check_images_on_a_full_disk(room):
+    """Images of a layout: all or none."""
+    folder = os.path.join(room.path, "disk", "images")
+    before, after, at_last = on_disk(room, [layout(room, 4), folder])
+    hold("images", (before, 4), (after, at_last.count(".romfs")))
+
+
+def check_image_on_a_full_disk(room):
+    """An image of a folder: none, and an earlier one of its name stays."""
+    folder, path = room.name(), os.path.join(room.path, "disk", "it.romfs")
+    os.mkdir(folder)
+    for at in range(4):
+        with open(os.path.join(folder, str(at)), "wb") as out:
+            out.write(noise(at))
+    for prepared in ("true", "echo earlier > '%s'" % path):
+        before, after, at_last = on_disk(room, ["image", folder, path], prepared)
+        hold("an image", (before, True), (after, at_last != before))
+
+
+def check_pull_on_a_full_disk(room):
+    """A store gets no image, and keeps layers only that are whole."""
+    store = os.path.join(room.path, "disk", "store")
+    before, after, at_last = on_disk(room, ["pull", "--store", store, "oci:" + layout(room, 4), "a:1"])
+    files = [it.split("  ./store/") for it in after.splitlines() if "  ./store/" in it]
+    layers = {name.rpartition("/")[2]: digits for digits, name in files if name.startswith("blobs/")}
+    hold("whole layers", {it: it for it in layers}, layers)
+    hold("an image, or what was begun", [], [it for _, it in files if it.startswith(("images/", "new/"))])
+    hold("the image at last", (".", 4), (before, at_last.count("./store/blobs/sha256/")))
+
+
+CHECKS = [check_convert_on_a_full_disk, check_images_on_a_full_disk, check_image_on_a_full_disk,
+          check_pull_on_a_full_disk]
