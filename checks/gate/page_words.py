@@ -16,7 +16,7 @@ MOST = {
     "docs/ENGINES.md": 700,
     "docs/GATE.md": 1050,
     "docs/LIMITS.md": 1200,
-    "docs/MOUNTING.md": 2200,
+    "docs/MOUNTING.md": 2300,
     "docs/NOTEBOOK.md": 4000,
     "docs/PROMISES.md": 2500,
     "docs/SNAPSHOTTER.md": 1000,
