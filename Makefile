@@ -2,8 +2,8 @@
 # make build: the proved program, as build/strata. make demo: shows it at work.
 # make kept: the same, proved so that `rt check` in a crate's folder and make trials then prove what has changed alone.
 # make doors: the public calls against their table. make links: all that README.md and docs/ name is there, and no paragraph is too long.
-# make crate_order: crates.txt stands in the order of layers. make logic: the program names the logic of this prover. None of these wants
-# a proof.
+# make crate_order: crates.txt stands in the order of layers. make logic: the program names the logic of this prover. make pictures:
+# draws docs/crates.svg and docs/mounts.svg anew. None of these wants a proof.
 # make cases: the cases alone, on build/strata. make plant: sees that the cases notice wrong lines.
 # make mounted [STRATA=PROGRAM]: real mounts, looked at through the kernel; with STRATA_READERS=N in the environment, each by N readers.
 # make layers: tools/layers.py on layouts made on the spot, and, where umoci stands, on images that umoci makes.
@@ -20,7 +20,7 @@
 # make install [PREFIX=/usr/local] [DESTDIR=], make uninstall: what make build has made, with man pages and the mount helper.
 # make deb, make dist [PACKAGES=build]: a Debian package, a tar of the same files. make installed: all of these in fresh roots.
 # Each of these starts a file of checks/ by `python3 checks NAME WORDS..`; `python3 checks` lists them.
-.PHONY: test build kept demo doors links crate_order logic cases layers registry mounted plant trials wrong_bodies bench growth fuzz threads soak demo_files needed
+.PHONY: test build kept demo doors links crate_order logic cases layers registry mounted plant trials wrong_bodies bench growth fuzz threads soak demo_files needed pictures
 .PHONY: install uninstall deb dist installed
 
 PYTHON = python3 -B
@@ -30,6 +30,7 @@ test: needed
 	$(CHECKS) doors
 	$(CHECKS) links
 	$(CHECKS) crate_order
+	$(CHECKS) pictures
 	$(CHECKS) logic
 	$(CHECKS) ci
 	$(CHECKS) wrong_bodies
@@ -63,6 +64,9 @@ demo: build/strata
 
 doors links crate_order logic: needed
 	$(CHECKS) $@
+
+pictures:
+	$(CHECKS) pictures --drawn
 
 cases: build/strata
 	$(CHECKS) cases build/strata

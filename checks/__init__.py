@@ -4,7 +4,7 @@ import sys
 
 ROOT = os.path.dirname(os.path.dirname(os.path.abspath(__file__)))
 TOOLS = ROOT + "/tools"
-# modules of tools/ are named here as they name one another: `import layers`
+# packages of tools/ are named here as they name one another: `from strata_layers import layouts`
 sys.path.insert(1, TOOLS)
 
 # each file that is started, by the last part of its path
@@ -13,4 +13,4 @@ STARTED = (
     "layers/layers_umoci", "registry/registry", "speed/bench", "speed/growth",
     "soak/soak", "threads/threads", "gate/ci", "gate/prove", "gate/costs", "gate/trials", "gate/wrong_bodies", "gate/leave_out",
     "gate/plant", "gate/doors", "gate/links", "gate/crate_order",
-    "gate/logic", "demo/demo_files", "demo/demo_layout", "demo/record")
+    "gate/logic", "gate/pictures", "demo/demo_files", "demo/demo_layout", "demo/record")

@@ -39,8 +39,13 @@ Upstream-Name: strata
 
 Files: *
 Copyright: {year} the maintainers of strata
-License: none-stated
- The sources of strata state no license.
+License: MIT or Apache-2.0
+
+License: MIT
+{mit}
+
+License: Apache-2.0
+ On Debian systems the whole text is in /usr/share/common-licenses/Apache-2.0.
 """
 CHANGELOG = """\
 strata ({version}) unstable; urgency=medium
@@ -75,6 +80,9 @@ def entries(program, moment):
     version = files.version()
     found = []
     for entry in files.entries(program, PYTHON):
+        if entry.path.startswith("share/doc/strata/LICENSE"):
+            # the file of copyright has them
+            continue
         if entry.path == "bin/strata":
             entry = entry._replace(data=stripped(program))
         if entry.path.startswith(("share/man/", "share/doc/")):
@@ -84,9 +92,16 @@ def entries(program, moment):
         found.append(entry)
     log = CHANGELOG.format(version=version, maintainer=MAINTAINER, date=email.utils.formatdate(moment, False))
     year = email.utils.formatdate(moment).split()[3]
-    found.append(files.Entry("share/doc/strata/copyright", 0o644, COPYRIGHT.format(year=year).encode()))
+    found.append(files.Entry("share/doc/strata/copyright", 0o644, COPYRIGHT.format(year=year, mit=mit_text()).encode()))
     found.append(files.Entry("share/doc/strata/changelog.gz", 0o644, packed(log.encode(), 0)))
     return sorted(found)
+
+
+def mit_text():
+    """The licence of that name, as a field of the copyright file has it."""
+    with open(os.path.join(files.ROOT, "LICENSE-MIT"), encoding="ascii") as file:
+        lines = file.read().split("\n\n", 2)[2].splitlines()
+    return "\n".join(" " + (line or ".") for line in lines)
 
 
 def libc_of(program):

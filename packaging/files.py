@@ -1,5 +1,4 @@
 """What is installed: which files, where, and what they hold. packaging/install.py, deb.py and dist.py go by it."""
-import ast
 import collections
 import os
 import re
@@ -7,20 +6,22 @@ import subprocess
 import sys
 
 ROOT = os.path.dirname(os.path.dirname(os.path.realpath(__file__)))
-TOOLS = os.path.join(ROOT, "tools")
-sys.path.insert(0, TOOLS)
-from version import version
+sys.path.insert(0, os.path.join(ROOT, "tools"))
+from strata_format.version import PACKAGES, version
 
 # a path below the prefix, with its mode and what it holds, or the name that a link leads to
 Entry = collections.namedtuple("Entry", "path mode data link", defaults=(None, None))
 # what users call, the module of it, and what that is called with
 PROGRAMS = (
-    ("bin/strata-mount", "mount", "sys.argv[1:], \"strata-mount\""),
-    ("bin/strata-layers", "layers", "sys.argv[1:]"),
-    ("sbin/mount.strata", "mount_helper", "sys.argv[1:]"),
+    ("bin/strata-mount", "strata_mount.command", "sys.argv[1:], \"strata-mount\""),
+    ("bin/strata-layers", "strata_layers.command", "sys.argv[1:]"),
+    ("sbin/mount.strata", "strata_mount.helper", "sys.argv[1:]"),
 )
+# the folder of the packages that these programs are made of
+MODULES = "lib/strata"
 # what says how it is used, and its limits
-DOCUMENTS = (("README.md",), ("docs", "USE.md"), ("docs", "MOUNTING.md"))
+DOCUMENTS = (("README.md",), ("LICENSE-MIT",), ("LICENSE-APACHE",), ("docs", "USE.md"), ("docs", "MOUNTING.md"),
+             ("docs", "LIMITS.md"))
 COMPLETIONS = {
     "bash": "share/bash-completion/completions", "zsh": "share/zsh/site-functions", "fish": "share/fish/vendor_completions.d"}
 
@@ -36,28 +37,13 @@ def read(*names):
         return it.read()
 
 
-def named_in(module):
-    """The modules of tools/ that a module imports, or starts by their file's name."""
-    found = set()
-    for node in ast.walk(ast.parse(read("tools", module + ".py"))):
-        if isinstance(node, ast.Import):
-            found |= {alias.name for alias in node.names}
-        elif isinstance(node, ast.ImportFrom):
-            found.add(node.module)
-        elif isinstance(node, ast.Constant) and isinstance(node.value, str) and re.fullmatch(r"\w+\.py", node.value):
-            found.add(node.value[:-3])
-    return {name for name in found if os.path.exists(os.path.join(TOOLS, name + ".py"))}
-
-
 def modules():
-    """The modules that the programs need, by following what they name."""
-    found, todo = set(), [module for _, module, _ in PROGRAMS]
-    while todo:
-        module = todo.pop()
-        if module not in found:
-            found.add(module)
-            todo += named_in(module)
-    return sorted(found)
+    """The packages that the programs are made of, whole, beside the version that they say."""
+    for package in PACKAGES:
+        for name in os.listdir(os.path.join(ROOT, "tools", package)):
+            if name.endswith(".py"):
+                yield Entry("%s/%s/%s" % (MODULES, package, name), 0o644, read("tools", package, name))
+    yield Entry(MODULES + "/version", 0o644, version().encode() + b"\n")
 
 
 def launcher(path, module, words, python):
@@ -92,9 +78,7 @@ def entries(program, python):
         found = [Entry("bin/strata", 0o755, it.read())]
     found += [Entry(path, 0o755, launcher(path, module, words, python)) for path, module, words in PROGRAMS]
     found.append(Entry("sbin/mount.fuse.strata", 0o777, link="mount.strata"))
-    found += [Entry("lib/strata/%s.py" % module, 0o644, read("tools", module + ".py")) for module in modules()]
-    found.append(Entry("lib/strata/version", 0o644, number.encode() + b"\n"))
-    return sorted([*found, *pages(number), *completions(), *documents()])
+    return sorted([*found, *modules(), *pages(number), *completions(), *documents()])
 
 
 def folders(found):

@@ -12,8 +12,7 @@ import files
 PYTHONS = ("/usr/bin/python3", os.path.realpath(sys.executable))
 LINKS = ("mount.strata", "mount.fuse.strata")
 # folders in which nothing but strata's own stands
-MODULES = "lib/strata"
-OURS = (MODULES, "share/doc/strata")
+OURS = (files.MODULES, "share/doc/strata")
 
 
 def write(place, entry):
@@ -61,11 +60,7 @@ def install(found, top, links):
         make_folder(os.path.join(top, folder))
     for entry in found:
         write(os.path.join(top, entry.path), entry)
-    # modules of an earlier strata
-    kept = {os.path.basename(entry.path) for entry in found if os.path.dirname(entry.path) == MODULES}
-    for name in os.listdir(os.path.join(top, MODULES)):
-        if name.endswith(".py") and name not in kept:
-            os.unlink(os.path.join(top, MODULES, name))
+    remove_modules(top, {entry.path for entry in found})
     for place, target in held_links(links):
         try:
             make_folder(os.path.dirname(place))
@@ -74,15 +69,25 @@ def install(found, top, links):
             print("%s: %s; `mount -t strata` finds its helper only there" % (place, fault.strerror))
 
 
+def remove_modules(top, kept=()):
+    """Takes away modules, those of an earlier strata too, but for those at paths that are kept."""
+    for folder, _, names in os.walk(os.path.join(top, files.MODULES)):
+        for place in (os.path.join(folder, name) for name in names if name.endswith(".py")):
+            if os.path.relpath(place, top) not in kept:
+                os.unlink(place)
+
+
 def remove(found, top, links):
     places = [os.path.join(top, entry.path) for entry in found]
     places += [place for place, _ in held_links(links)]
     for place in places:
         if os.path.lexists(place):
             os.unlink(place)
-    for ours in (os.path.join(top, name) for name in OURS):
-        if os.path.isdir(ours) and not os.listdir(ours):
-            os.rmdir(ours)
+    remove_modules(top)
+    for name in OURS:
+        for folder, _, _ in os.walk(os.path.join(top, name), topdown=False):
+            if not os.listdir(folder):
+                os.rmdir(folder)
 
 
 def main(program, destdir, prefix, helpers, *words):

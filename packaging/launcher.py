@@ -12,10 +12,10 @@ import sys
 
 HERE = os.path.dirname(os.path.dirname(os.path.realpath(__file__)))
 sys.path.insert(0, os.path.join(HERE, "lib", "strata"))
-import @MODULE@
+from @MODULE@ import main
 
 try:
     signal.signal(signal.SIGINT, interrupted)
-    sys.exit(@MODULE@.main(@WORDS@))
+    sys.exit(main(@WORDS@))
 except KeyboardInterrupt:
     sys.exit(130)

@@ -72,7 +72,7 @@ from checks.shared import replies, runs
 from checks.shared.clients import Party, converse, exchange, leave_socket, widen
 from checks.shared.mounting import enter
 from checks.shared.text import Words, Wrong, plain_bytes, words_of
-from mount import called, libc
+from strata_format.system import called, libc
 
 
 FED = {"fed", "waits", "device"}

@@ -15,7 +15,8 @@ import threading
 
 from checks.shared.clients import widen
 from checks.shared.mounting import enter
-from mount import WORDS, mounted, take_away
+from strata_mount.device import mounted, take_away
+from strata_mount.plan import WORDS, Plan
 
 MOST = 1 << 21
 
@@ -44,7 +45,7 @@ def record(program, images, command):
     ours, theirs = socket.socketpair(socket.AF_UNIX, socket.SOCK_SEQPACKET)
     widen(ours, theirs)
     with tempfile.TemporaryDirectory(prefix="record-") as folder, ours:
-        device = mounted(folder, WORDS.split(","))
+        device = mounted(Plan(folder=folder, words=WORDS))
         with theirs:
             server = subprocess.Popen([program, "serve", "--device", *images], stdin=theirs, stdout=theirs)
         passing = [threading.Thread(target=pass_requests, args=(device, ours, messages)),

@@ -14,7 +14,7 @@ from checks import ROOT
 from checks.plain.plain_replies import split
 from checks.shared.build import request, seal
 from checks.shared.random_inputs import EDGES, LAYER_NAMES, MARKERS, broken_off
-from fuse_text import OPCODES
+from strata_format.fuse_text import OPCODES
 
 DEMO = ROOT + "/demo"
 FOLDERS = 24

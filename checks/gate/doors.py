@@ -1,9 +1,11 @@
-"""Holds what callers may call against the table of public calls: python3 checks doors
+"""Holds what callers may call against its lists: python3 checks doors [--list]
 
-A public call is a function that the front door of a layer (its lib.rt) gives, or a method of a type that
-crates/front_doors names. Each has its row under "Every public call returns" of docs/PROMISES.md, or stands among those
-for other layers alone, below that table. Each call of a row is named in crates/front_doors, and each row names a test
-that is there and calls it; where the row says `CALL` by `OTHER`, or by `OTHER` of all its calls, the test calls that.
+A public call is a function that the front door of a layer (its lib.rt) gives, or a method of one of the types that
+checks/gate/doors.txt names for callers. That file has each call that the specification names, below the layer that gives it, with
+its signature; --list writes it anew from the sources. So a call that moves, or takes or gives something else, is seen there.
+Each of these calls has its row under "Every public call returns" of docs/PROMISES.md, and each row names a test that is there and
+calls it; where the row says `CALL` by `OTHER`, or by `OTHER` of all its calls, the test calls that. Each other public call stands
+among those for other layers alone, below that table.
 
 It reads sources alone, and builds nothing. What is wrong is a line each; the status is 0 where nothing is.
 """
@@ -11,14 +13,14 @@ import glob
 import os
 import re
 import sys
+import textwrap
 
 from checks import ROOT
 
 PROMISES = "docs/PROMISES.md"
-LAYERS = ("romfs_image", "layer_tree", "stack_core", "node_table", "fuse_wire", "fuse_answer", "draw_board", "reply_pool",
-          "stack_prepare", "serve_core", "strata")
+DOORS = "checks/gate/doors.txt"
 # A module of a layer whose functions callers name, too.
-MODULES = ("romfs_image/src/sample.rt",)
+MODULES = {"romfs_image": "romfs_image/src/sample.rt"}
 # What tests share.
 KITS = ("test_kit", "serve_test_kit")
 
@@ -50,35 +52,87 @@ def given(text):
     return set(names)
 
 
-def methods(doors):
-    """The public methods by type, and those of these traits by the types that have them."""
+def signatures(text, start):
+    """The functions that begin so in some source, by name, each as it is declared: what it takes and gives."""
+    found = {}
+    for part in re.split("^(?=%s)" % start, text, flags=re.M)[1:]:
+        part = re.split(r"\s(?:ghost|requires|ensures)\b|\s\{|;", part, maxsplit=1)[0]
+        line = re.sub(r"(?<=[(<]) | (?=[)>](?!=))", "", " ".join(part.split()))
+        line = re.sub(r"^(?:pub )?fn |,(?=[)>])|,$", "", line)
+        found[re.match(r"\w+", line).group()] = line
+    return found
+
+
+def blocks(text):
+    """The blocks of a source that have methods: the trait, or none, the type, or none, and what stands in it."""
+    for head, block in re.findall(r"^((?:impl|pub trait)\b[^{;]*)\{\n(.*?)^\}", text, re.M | re.S):
+        bare = head
+        while "<" in bare:
+            bare, before = re.sub(r"<[^<>]*>", "", bare), bare
+            if bare == before:
+                break
+        words = re.findall(r"\w+", bare)
+        if words[0] == "pub":
+            yield words[2], None, block
+        elif "for" in words:
+            yield words[1], words[words.index("for") + 1], block
+        else:
+            yield None, words[1], block
+
+
+def methods(kinds):
+    """The public methods of these types by name, as they are declared, and those of the traits among them by the types that have
+    them."""
     found, traits, impls = {}, {}, []
     for path in files_of("*"):
-        text = read(path)
-        for head, name, block in re.findall(r"^(impl(?:<[^{]*?>)?|pub trait) (\w+)[^{;]*\{\n(.*?)^\}", text, re.M | re.S):
-            if head == "pub trait":
-                traits[name] = set(re.findall(r"^    fn (\w+)", block, re.M))
+        for trait, kind, block in blocks(read(path)):
+            if kind is None:
+                traits[trait] = signatures(block, "    fn ")
+            elif trait is None:
+                found.setdefault(kind, {}).update(signatures(block, "    pub fn "))
             else:
-                found.setdefault(name, set()).update(re.findall(r"^    pub fn (\w+)", block, re.M))
-        impls += re.findall(r"^impl(?:<[^{]*?>)? (\w+)(?:<[^{]*?>)? for (\w+)", text, re.M)
+                impls.append((trait, kind))
     for trait, kind in impls:
-        if trait in doors:
-            found.setdefault(kind, set()).update(traits.get(trait, ()))
-    return {kind: names for kind, names in found.items() if kind not in traits}
+        if trait in kinds:
+            found.setdefault(kind, {}).update(traits.get(trait, {}))
+    return {kind: them for kind, them in found.items() if kind in kinds and kind not in traits}
 
 
-def public_calls():
-    """The calls of all layers, as `function` or `Type::method`."""
-    calls = set()
-    for layer in LAYERS:
-        calls |= given(read("crates/%s/src/lib.rt" % layer))
-    for module in MODULES:
-        calls |= given(read("crates/" + module)) | set(re.findall(r"^pub fn (\w+)", read("crates/" + module), re.M))
-    calls = {name for name in calls if name[0].islower()}
-    doors = given(source("front_doors"))
-    for kind, names in methods(doors).items():
-        if kind in doors:
-            calls |= {"%s::%s" % (kind, name) for name in names}
+def functions(crate):
+    """The functions that the lib.rt of a crate gives, as they are declared where they stand."""
+    found = {}
+    for inner in re.findall(r"^pub use ([^;]+);", read("crates/%s/src/lib.rt" % crate), re.M):
+        start = inner.partition("::")[0]
+        for name in given("pub use %s;" % inner):
+            if name[0].islower():
+                below = [path for path in files_of(crate) if os.path.basename(path) == start + ".rt"]
+                there = signatures("\n".join(map(read, below)), "pub fn ") if below else functions(start)
+                found.update({name: there[name]} if name in there else {})
+    return found
+
+
+def listed():
+    """What doors.txt has of each layer: the types that callers name, and the calls as they are declared."""
+    layers = {}
+    for part in read(DOORS).split("\n\n")[1:]:
+        layer, _, lines = part.partition("\n")
+        names = re.sub(r"\n {4,}", " ", textwrap.dedent(lines)).strip().splitlines()
+        kinds = names.pop(0)[len("types: "):].split(", ") if names[0].startswith("types: ") else []
+        layers[layer] = set(kinds), set(names)
+    return layers
+
+
+def public_calls(layers):
+    """The calls of all layers as they are declared, by layer and then by `function` or `Type::method`."""
+    of_kind = methods(set().union(*(kinds for kinds, _ in layers.values())))
+    calls = {}
+    for layer, (kinds, _) in layers.items():
+        calls[layer] = functions(layer)
+        if layer in MODULES:
+            calls[layer].update(signatures(read("crates/" + MODULES[layer]), "pub fn "))
+        for kind in kinds:
+            # the first layer that names a type has its methods
+            calls[layer].update({"%s::%s" % (kind, name): "%s::%s" % (kind, it) for name, it in of_kind.pop(kind, {}).items()})
     return calls
 
 
@@ -130,29 +184,66 @@ def table(calls):
     return rows, set(re.findall(r"`([\w:]+)`", "\n".join(beside)))
 
 
-def wrong(calls, rows, beside):
-    """All that is wrong, a line each."""
-    told = {call for row in rows for call in row.calls}
-    doors = source("front_doors")
-    named = called(doors) | given(doors)
-    yield from ("%s has no row" % call for call in sorted(calls - told - beside))
-    yield from ("%s is no public call" % call for call in sorted((told | beside) - calls))
-    yield from ("crates/front_doors does not name %s" % call for call in sorted(told)
-                if call.rpartition("::")[2] not in named)
+def gives(layer):
+    """The types that the front door of a layer gives."""
+    text = read("crates/%s/src/lib.rt" % layer)
+    if layer in MODULES:
+        text += "\n" + "\n".join("pub use %s;" % name for name in re.findall(r"^pub (?:struct|enum) (\w+)",
+                                                                            read("crates/" + MODULES[layer]), re.M))
+    return {name for name in given(text) if name[0].isupper()}
+
+
+def wrapped(line):
+    """A line of doors.txt, which may be broken behind a comma alone."""
+    filled = textwrap.fill(re.sub("(?<!,) ", "\0", line), 120, initial_indent="  ", subsequent_indent="      ", break_long_words=False)
+    return filled.replace("\0", " ")
+
+
+def written(layers, calls, told):
+    """doors.txt with the calls of the table as the sources have them."""
+    parts = [read(DOORS).partition("\n\n")[0]]
+    for layer, (kinds, _) in layers.items():
+        lines = ["types: " + ", ".join(sorted(kinds))] if kinds else []
+        lines += [it for name, it in sorted(calls[layer].items()) if name in told]
+        parts.append("\n".join([layer, *map(wrapped, lines)]))
+    return "\n\n".join(parts) + "\n"
+
+
+def wrong_doors(layers, calls, told):
+    """What is wrong in doors.txt."""
+    for layer, (kinds, lines) in layers.items():
+        yield from ("%s gives no type %s" % (layer, kind) for kind in sorted(kinds - gives(layer)))
+        there = {it for name, it in calls[layer].items() if name in told}
+        yield from ("%s has no call %s" % (layer, line) for line in sorted(lines - there))
+        yield from ("%s is not listed with its call %s" % (layer, line) for line in sorted(there - lines))
+
+
+def wrong_rows(names, rows, told, beside):
+    """What is wrong in the table."""
+    yield from ("%s has no row" % name for name in sorted(names - told - beside))
+    yield from ("%s is no public call" % name for name in sorted((told | beside) - names))
     for row in rows:
         yield from row.wrong()
 
 
-def main():
-    calls = public_calls()
-    rows, beside = table(calls)
-    lines = list(wrong(calls, rows, beside))
+def main(words):
+    layers = listed()
+    calls = public_calls(layers)
+    names = set().union(*calls.values())
+    rows, beside = table(names)
+    told = {call for row in rows for call in row.calls}
+    if words == ["--list"]:
+        text = written(layers, calls, told)
+        with open(os.path.join(ROOT, DOORS), "w", encoding="utf-8") as file:
+            file.write(text)
+        return 0
+    lines = ["%s: %s" % (DOORS, it) for it in wrong_doors(layers, calls, told)]
+    lines += ["%s: %s" % (PROMISES, it) for it in wrong_rows(names, rows, told, beside)]
     for line in lines:
-        print("%s: %s" % (PROMISES, line))
-    print("%d public calls in %d rows, %d for other layers alone, %d wrong" % (
-        sum(len(row.calls) for row in rows), len(rows), len(beside), len(lines)))
+        print(line)
+    print("%d public calls in %d rows, %d for other layers alone, %d wrong" % (len(told), len(rows), len(beside), len(lines)))
     return 1 if lines else 0
 
 
 if __name__ == "__main__":
-    sys.exit(main())
+    sys.exit(main(sys.argv[1:]))

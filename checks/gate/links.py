@@ -1,9 +1,10 @@
-"""Sees that what README.md and docs/*.md name is there, and that no paragraph is too long: python3 checks links
+"""Sees that what README.md and docs/*.md name is there, and that nothing is too long to read: python3 checks links
 
 Looked at are links and the headings that they lead to; paths from the root of the repository, and from the folder of a
 crate; file names alone, which some folder must have; `make TARGET`; and `python3 checks NAME`. In a path `*` stands for
-anything, and so does a word like NAME. Paragraphs are those of paragraphs.py. It reads files alone. What is not there
-and what is too long is a line each, and then the status is 1.
+anything, and so does a word like NAME. How long a paragraph may be says paragraphs.py, and a page page_words.py; no line
+of README.md is too long for a terminal. Which turns are not plain English says phrases.py. It reads files alone. What is
+not there, too long or odd is a line each, and then the status is 1.
 """
 import fnmatch
 import os
@@ -11,10 +12,13 @@ import re
 import sys
 
 from checks import ROOT, STARTED
+from checks.gate.page_words import long_pages, pages
 from checks.gate.paragraphs import long_paragraphs
+from checks.gate.phrases import odd_phrases
 
 BUILT = (".git", "build", "out", "__pycache__")
 PAGES = ("README.md", *sorted("docs/" + name for name in os.listdir(ROOT + "/docs") if name.endswith(".md")))
+LINE_MOST = 300  # characters of a line of README.md
 PLACEHOLDER = re.compile(r"\b(?:NAME|CRATE|METHOD|EDIT)\b")
 LINK = re.compile(r"\]\(([^)\s]+)\)")
 AT_ROOT = re.compile(r"(?<![\w/.-])(?:crates|tools|checks|cases|docs|trials|demo)/[\w./*-]*")
@@ -85,16 +89,25 @@ def wrong_names(text, there):
     yield from ("python3 checks %s" % name for name in CHECK.findall(text) if name not in there.checks)
 
 
+def long_lines(page):
+    """A line for each line of a page that is too long."""
+    for number, line in enumerate(read(page).splitlines(), 1):
+        if len(line) > LINE_MOST:
+            yield "%s:%d: a line of %d characters, allowed %d" % (page, number, len(line), LINE_MOST)
+
+
 def main():
-    there, wrong, long = There(), [], []
+    there, wrong, long = There(), [], [*long_pages(), *long_lines("README.md")]
+    odd = [line for page in pages() for line in odd_phrases(page)]
     for page in PAGES:
         text = read(page)
         long += long_paragraphs(page, text)
         wrong += ["%s: %s" % (page, it) for it in [*wrong_links(page, text), *wrong_names(text, there)]]
     wrong += ["checks/__init__.py: %s" % path for path in STARTED if not there.has("checks/%s.py" % path)]
-    print("".join("%s is not there\n" % line for line in wrong) + "".join(line + "\n" for line in long)
-          + "%d pages, %d names not there, %d paragraphs too long" % (len(PAGES), len(wrong), len(long)))
-    return 1 if wrong or long else 0
+    print("".join("%s is not there\n" % line for line in wrong) + "".join(line + "\n" for line in [*long, *odd])
+          + "%d pages, %d names not there, %d pages, paragraphs or lines too long, %d odd phrases" % (
+              len(PAGES), len(wrong), len(long), len(odd)))
+    return 1 if wrong or long or odd else 0
 
 
 if __name__ == "__main__":

@@ -1,12 +1,10 @@
 """Sees that no paragraph of README.md and docs/*.md is too long to be read in one breath; part of `python3 checks links`.
 
-A paragraph is a run of lines, or one item of a list. Code and the rows of tables are none, and docs/NOTEBOOK.md, which
-keeps notes as they were written, is passed over.
+A paragraph is a run of lines, or one item of a list. Code and the rows of tables are none.
 """
 import re
 
 MOST = 900  # characters
-KEPT_AS_WRITTEN = ("docs/NOTEBOOK.md",)
 BEGINS_ANEW = re.compile(r"\s*(?:[-*] |\d+\. |#)")
 
 
@@ -29,8 +27,6 @@ def paragraphs(text):
 
 def long_paragraphs(page, text):
     """A line for each paragraph of the page that is too long."""
-    if page in KEPT_AS_WRITTEN:
-        return
     for first, paragraph in paragraphs(text):
         if len(paragraph) > MOST:
             yield "%s:%d: a paragraph of %d characters, allowed %d" % (page, first, len(paragraph), MOST)

@@ -6,10 +6,10 @@ import re
 import struct
 import tarfile
 
-import mount_faults
 from checks import ROOT
 from checks.installed.mounts import OTHER, places, user
 from checks.installed.roots import Failed, hold, hold_in
+from strata_mount.faults import RULES
 
 RULE = os.path.join(ROOT, "crates", "romfs_format", "src", "rule.rt")
 NOT_ROMFS = "layer 1 at 00000000: not romfs\n"
@@ -37,12 +37,12 @@ def images(root):
     full, = struct.unpack_from(">I", data, 8)
     put("/srv/cut.romfs", data[:full - 100])
     put("/srv/empty.romfs", b"")
-    cut = "it is cut off: %d of %d bytes are there; copy or fetch it again" % (full - 100, full)
+    cut = "it is truncated: %d of %d bytes; copy or fetch it again" % (full - 100, full)
     front = "strata-mount: %s 1 is /srv/%s: %s\n"
     wanted = (
         ("none.romfs", 1, "image 1: cannot be read\n" + front % ("image", "none.romfs", "no such file or directory")),
-        ("folder", 1, "image 1: cannot be read\n" + front % ("image", "folder", "it is a folder; "
-                                                             "`genromfs -d FOLDER -f IMAGE` makes an image of a folder")),
+        ("folder", 1, "image 1: cannot be read\n" + front % ("image", "folder", "it is a directory; "
+                                                             "`strata-layers image FOLDER IMAGE` makes an image from a directory")),
         ("cut.romfs", 3, "layer 1 at 00000008: bad full size\n" + front % ("layer", "cut.romfs", cut)),
         ("empty.romfs", 3, "layer 1 at 00000000: too short\n" + front % ("layer", "empty.romfs", "the file is empty")))
     for name, status, lines in wanted:
@@ -54,11 +54,11 @@ def images(root):
          refused(root, "none:1"))
     done = root.run("prlimit", "--nofile=20", "strata-mount", *["/srv/lower.romfs"] * 30, "/mnt")
     hold("the status of many files", 1, done.status)
-    hold_in("many files", "too many open files: strata keeps one open for each of 30 images, and a few more, and `ulimit -n` "
+    hold_in("many files", "too many open files: strata keeps one open for each of 30 images, and a few more; `ulimit -n` "
                           "allows 20\n", done.err)
     done = root.run("strata-mount", *["/srv/lower.romfs"] * 129, "/mnt")
     hold("129 images", (3, "layers: 129, allowed 1 to 128"), (done.status, done.err.splitlines()[0]))
-    hold_in("129 images", "strata-mount: 129 images were named, and 128 can be stacked", done.err)
+    hold_in("129 images", "strata-mount: 129 images were named, and at most 128 can be stacked", done.err)
     done = root.run("strata-mount", "/srv/lower.romfs", "/srv")
     hold("an image below the folder", (1, "strata-mount: /srv/lower.romfs: this image lies in the folder that it would be mounted "
                                           "on\n"), (done.status, done.err))
@@ -103,17 +103,17 @@ def kinds(root):
     # gzip: RFC 1952; zstd: RFC 8878; squashfs, erofs, ext4: the kernel's include/uapi/linux/magic.h and its places of
     # superblocks; ELF: elf(5); containers: the OCI image layout and what `docker save` writes
     wanted = (
-        (gzip.compress(romfs), "compressed by gzip: unpack it by `gzip -dc %s > IMAGE`, which is an image of romfs"),
-        (gzip.compress(archive(["a"])), "compressed by gzip: it holds an archive of tar"),
-        (at(0, bytes.fromhex("28b52ffd")), "compressed by zstd: unpack it by `zstd -dc %s > IMAGE`"),
-        (at(0, b"hsqs"), "an image of squashfs; strata serves romfs: `unsquashfs -d FOLDER %s`"),
-        (at(1024, struct.pack("<I", 0xE0F5E1E2)), "an image of erofs; strata serves romfs: `fsck.erofs --extract=FOLDER %s`"),
-        (at(1024 + 56, struct.pack("<H", 0xEF53)), "an image of ext4; strata serves romfs: "),
-        (archive(["bin/sh"]), "an archive of tar: `tar xf %s -C FOLDER`"),
-        (archive(["oci-layout", "index.json"]), "an archive of a container image: `skopeo copy oci-archive:%s oci:LAYOUT:TAG`"),
-        (archive(["a/layer.tar", "manifest.json"]), "an archive of a container image: `skopeo copy docker-archive:%s "),
-        (at(0, b"\x7fELF"), "a program or library (ELF), and no image of a tree"),
-        (at(0, b"Hello"), "an image of romfs begins with `-rom1fs-`"))
+        (gzip.compress(romfs), "compressed with gzip: unpack it with `gzip -dc %s > IMAGE`, which is a romfs image"),
+        (gzip.compress(archive(["a"])), "compressed with gzip: it contains a tar archive"),
+        (at(0, bytes.fromhex("28b52ffd")), "compressed with zstd: unpack it with `zstd -dc %s > IMAGE`"),
+        (at(0, b"hsqs"), "a squashfs image; strata serves romfs: `unsquashfs -d FOLDER %s`"),
+        (at(1024, struct.pack("<I", 0xE0F5E1E2)), "an erofs image; strata serves romfs: `fsck.erofs --extract=FOLDER %s`"),
+        (at(1024 + 56, struct.pack("<H", 0xEF53)), "an ext4 image; strata serves romfs: "),
+        (archive(["bin/sh"]), "a tar archive: `strata-layers image - IMAGE < %s` makes an image of it"),
+        (archive(["oci-layout", "index.json"]), "an archived container image: `skopeo copy oci-archive:%s oci:LAYOUT:TAG`"),
+        (archive(["a/layer.tar", "manifest.json"]), "an archived container image: `skopeo copy docker-archive:%s "),
+        (at(0, b"\x7fELF"), "a program or library (ELF), not an image"),
+        (at(0, b"Hello"), "a romfs image begins with `-rom1fs-`"))
     path = "/srv/a file"
     for data, words in wanted:
         put(path, data)
@@ -128,16 +128,16 @@ def rules(root):
     """Each rule of images has a sentence, and the one that is broken stands behind its line."""
     with open(RULE, encoding="utf-8") as it:
         texts = re.findall(r'Rule::\w+ => "([^"]+)"', it.read())
-    hold("rules with a sentence", texts, list(mount_faults.RULES))
+    hold("rules with a sentence", texts, list(RULES))
     root.install()
     with open("/srv/lower.romfs", "rb") as it:
         data = bytearray(it.read())
     place = data.find(b"hostname")
     changed = bytes(data[:place + 3]) + b"X" + bytes(data[place + 4:])
     status, told = refused(root, put("/srv/changed.romfs", changed))
-    hold("a sum", (3, "layer 1 at 0000000c: bad sum\nstrata-mount: layer 1 is /srv/changed.romfs: the first 512 bytes don't add up: "
-                      "they were changed after the image was made; the file was damaged, or what made it is at fault: make it "
-                      "anew\n"), (status, told))
+    hold("a sum", (3, "layer 1 at 0000000c: bad sum\nstrata-mount: layer 1 is /srv/changed.romfs: the checksum of the first "
+                      "512 bytes is wrong: they were changed after the image was made; the file is damaged or was badly made: "
+                      "make it again\n"), (status, told))
     return "%d rules, each with a sentence" % len(texts)
 
 

@@ -9,17 +9,18 @@ import os
 import sys
 import tempfile
 
-from checks.installed import faults, mounts, packages, pages, programs, strangers, traces
+from checks.installed import commands, faults, mounts, packages, pages, programs, strangers, traces
 from checks.installed.roots import apart
 
 CHECKS = (
     programs.named, programs.early, pages.shown, pages.options, pages.shells, pages.words_of_fstab, pages.faults,
-    packages.same_bytes, packages.uninstalled, packages.unbuilt)
+    packages.same_bytes, packages.uninstalled, packages.unbuilt, commands.in_reference)
 # those that mount
 MOUNTING = (
     programs.alone, programs.links, mounts.typed, mounts.by_fstab, mounts.words, mounts.colons, mounts.stored, mounts.faked, mounts.by_user,
     mounts.dead, mounts.units, traces.debug, traces.stats, traces.progress, faults.images, faults.not_permitted, faults.kinds,
-    faults.rules, faults.dashes, *strangers.CHECKS, packages.package, packages.beside, packages.archive)
+    faults.rules, faults.dashes, *strangers.CHECKS, packages.package, packages.beside, packages.archive,
+    commands.mounting, commands.readme)
 
 
 def main(program, wanted):

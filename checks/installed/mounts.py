@@ -16,7 +16,7 @@ OTHER = 65534
 # every word of fstab(5) and mount(8) that says when, by whom, or how a file system of the usual kind is mounted
 FSTAB_WORDS = ("defaults,auto,nouser,nofail,_netdev,nonempty,async,relatime,nodiratime,lazytime,x-systemd.automount,"
                "x-systemd.requires=srv.mount,x-systemd.requires-mounts-for=/data2,X-mount.mkdir,comment=of a tree,strict,whole,"
-               "workers=2,noexec,nosuid,nodev,allow_other")
+               "workers=2,noexec,nosuid,nodev,allow_other,modeless")
 
 
 def tried(root):
@@ -127,13 +127,13 @@ def words(root):
     hold("options of the mount", {"ro", "noexec", "nosuid", "nodev", "allow_other"},
          {"ro", "noexec", "nosuid", "nodev", "allow_other"} & set(shown))
     done = root.run("mount", "-o", "remount,exec", "/srv/made")
-    hold("remount", (WRONG_WORDS, "mount.strata: a mount of strata can't be changed (remount): take it away, and mount anew\n"),
+    hold("remount", (WRONG_WORDS, "mount.strata: a mount of strata cannot be changed (remount): unmount it and mount again\n"),
          (done.status, done.err))
     root.good("umount", "/srv/made")
     for said in ("nonsense", "ro,nonsense=3", "defaults,nonsense"):
         done = root.run("mount", "-t", "strata", STACK, "/srv/made", "-o", said)
         hold("the status of -o %s" % said, WRONG_WORDS, done.status)
-        hold_in("-o " + said, "mount.strata: -o: not known: nonsense", done.err)
+        hold_in("-o " + said, "mount.strata: -o: unknown: nonsense", done.err)
     for said in ("workers=many", "strict=yes", "whole=yes", "fd=3", "uid=-1"):
         hold("the status of -o %s" % said, WRONG_WORDS, root.run("mount", "-t", "strata", STACK, "/srv/made", "-o", said).status)
     hold("mounts", [], places())
@@ -193,7 +193,7 @@ def stored(root):
     hold("a file", "beacon\n", root.good("cat", "/srv/tree/etc/hostname"))
     root.good("umount", "/srv/tree")
     settle("no server is left", [], servers)
-    hold_in("prune", "3 layers taken away", root.good("strata-layers", "prune"))
+    hold_in("prune", "3 layers removed", root.good("strata-layers", "prune"))
     done = root.run("mount", "-a")
     hold("an image that is gone", NOT_MOUNTED, done.status)
     hold_in("an image that is gone", "mount.strata: ", done.err)
@@ -240,7 +240,7 @@ def by_user(root):
     hold("root's look", 1, root.run("cat", "/mnt/user/etc/hostname").status)
     done = root.run(*other, "strata-mount", "--background", "/srv/lower.romfs", "/mnt/user")
     hold("the status of a second mount", 1, done.status)
-    hold_in("a second mount", "strata-mount: /mnt/user: a mount stands here already: `fusermount3 -u /mnt/user` takes it away\n",
+    hold_in("a second mount", "strata-mount: /mnt/user: something is mounted here already: `fusermount3 -u /mnt/user` unmounts it\n",
             done.err)
     root.good(*other, "umount", "/mnt/user")
     hold("mounts", [], places())
@@ -265,7 +265,7 @@ def dead(root):
     os.mkdir(place)
     background = ("strata-mount", "--background")
     killed(root, place, *background)
-    said = "a dead mount stands here, whose server has ended (fuse.strata): `umount %s` takes it away" % place
+    said = "a dead mount, whose server has ended (fuse.strata): `umount %s` unmounts it" % place
     done = root.run(*background, "/srv/lower.romfs", place)
     hold("strata-mount", (1, "strata-mount: %s: %s, and so does --replace\n" % (place, said)), (done.status, done.err))
     done = root.run("mount", "-t", "strata", STACK, place)
@@ -277,7 +277,7 @@ def dead(root):
     root.good("umount", place)
     settle("no server is left", [], servers)
     killed(root, place, *background)
-    hold_in("a folder below", "`umount %s` takes it away\n" % place, root.run(*background, "/srv/lower.romfs", place + "/var").err)
+    hold_in("a folder below", "`umount %s` unmounts it\n" % place, root.run(*background, "/srv/lower.romfs", place + "/var").err)
     os.mkdir("/srv/other")
     done = root.run(*background, place + "/image.romfs", "/srv/other")
     hold("an image in a dead mount", (1, "image 0: cannot be read\nstrata-mount: image 0 is %s/image.romfs: %s\n" % (place, said)),

@@ -10,11 +10,12 @@ from checks.installed.mounts import STACK, fstab, hold_stack
 from checks.installed.programs import version
 from checks.installed.roots import LeftOut, hold, hold_in
 
-PATHS = ("bin/strata", "bin/strata-mount", "bin/strata-layers", "sbin/mount.strata", "sbin/mount.fuse.strata", "lib/strata/mount.py",
+PATHS = ("bin/strata", "bin/strata-mount", "bin/strata-layers", "sbin/mount.strata", "sbin/mount.fuse.strata",
+         "lib/strata/strata_mount/command.py", "lib/strata/strata_layers/command.py", "lib/strata/strata_format/romfs.py",
          "share/man/man1/strata.1", "share/man/man1/strata-mount.1", "share/man/man1/strata-layers.1",
          "share/man/man5/strata-attributes.5", "share/man/man8/mount.strata.8",
          "share/man/man8/mount.fuse.strata.8", "share/doc/strata/README.md", "share/doc/strata/USE.md",
-         "share/doc/strata/MOUNTING.md")
+         "share/doc/strata/MOUNTING.md", "share/doc/strata/LIMITS.md")
 
 
 def made(root, target, suffix):
@@ -135,7 +136,7 @@ def uninstalled(root):
     root.make("install", "PREFIX=/usr/local")
     for name in ("mount.strata", "mount.fuse.strata"):
         hold("/sbin/" + name, "/usr/local/sbin/" + name, os.readlink(root.top + "/sbin/" + name))
-    hold_in("what is installed", "/usr/local/lib/strata/mount.py", root.written())
+    hold_in("what is installed", "/usr/local/lib/strata/strata_mount/command.py", root.written())
     root.make("uninstall", "PREFIX=/usr/local")
     hold("what is left", set(), root.written() - before)
     return "no file is left"

@@ -2,9 +2,9 @@
 import os
 import re
 
-import mount_options
 from checks import ROOT
 from checks.installed.roots import Failed, LeftOut, hold, hold_in
+from strata_mount.options import CLEARS, IGNORED, IGNORED_FRONTS, KERNEL, SETS, STRATA
 
 PAGES = ("man1/strata.1", "man1/strata-mount.1", "man1/strata-layers.1", "man8/mount.strata.8")
 # pages of what is no program
@@ -12,7 +12,7 @@ FORMATS = ("man5/strata-attributes.5",)
 MAN = "/usr/local/share/man/"
 SHARE = "/usr/local/share/"
 SUBCOMMANDS = ("check", "list", "serve", "socket")
-VERBS = ("convert", "pull", "images", "verify", "remove", "prune", "config", "attributes")
+VERBS = ("image", "convert", "pull", "images", "verify", "remove", "prune", "config", "attributes")
 OPTION = re.compile(r"(?<![\w-])(--[a-z][a-z-]*|-[A-Za-z])(?![\w-])")
 COMPLETED = {"bash": SHARE + "bash-completion/completions/%s", "zsh": SHARE + "zsh/site-functions/_%s",
              "fish": SHARE + "fish/vendor_completions.d/%s.fish"}
@@ -91,8 +91,7 @@ def words_of_fstab(root):
     root.install()
     with open(MAN + PAGES[3], encoding="utf-8") as it:
         text = it.read().replace("\\-", "-")
-    words = {*mount_options.IGNORED, *mount_options.KERNEL, *mount_options.SETS, *mount_options.CLEARS, *mount_options.STRATA,
-             *mount_options.IGNORED_FRONTS}
+    words = {*IGNORED, *KERNEL, *SETS, *CLEARS, *STRATA, *IGNORED_FRONTS}
     missing = sorted(word for word in words if not re.search(r"(?<![\w-])%s(?![a-z])" % re.escape(word), text))
     hold("words that the page leaves out", [], missing)
     return "%d words of -o" % len(words)

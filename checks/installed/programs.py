@@ -36,7 +36,7 @@ def named(root):
 def early(root):
     """SIGINT while a program still loads its modules ends it without a word."""
     root.install()
-    with open("/usr/local/lib/strata/ends.py", "w", encoding="ascii") as out:
+    with open("/usr/local/lib/strata/strata_format/ends.py", "w", encoding="ascii") as out:
         out.write("import signal\nsignal.raise_signal(signal.SIGINT)\n")
     for name in ("strata-layers", "strata-mount", "mount.strata"):
         hold(name, (-signal.SIGINT, "", ""), tuple(root.run(name, "--version")))
@@ -48,7 +48,7 @@ def alone(root):
     root.install()
     folder = "/tmp/stranger"
     os.mkdir(folder)
-    for name in ("mount", "version", "os", "argparse", "ctypes", "mount_options", "sitecustomize", "refused", "layouts"):
+    for name in ("strata_mount", "strata_layers", "strata_format", "os", "argparse", "ctypes", "sitecustomize", "mount", "layers"):
         with open("%s/%s.py" % (folder, name), "w", encoding="ascii") as out:
             out.write(EVIL)
     for name in ("strata", "fusermount3", "python3", "umount"):

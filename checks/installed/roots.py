@@ -17,6 +17,7 @@ from checks import ROOT
 NEWNS, NEWPID = 0x20000, 0x20000000
 DEATH_SIGNAL = 1
 BIND, REC, PRIVATE = 0x1000, 0x4000, 0x40000
+DETACH = 2
 # a check, and a command of it, that does not end is ended after so many seconds
 CHECK_SECONDS, SECONDS = 1200, 300
 PATH = "/usr/local/sbin:/usr/local/bin:/usr/sbin:/usr/bin:/sbin:/bin"
@@ -106,7 +107,12 @@ class Root:
         self.enter()
 
     def enter(self):
-        os.chroot(self.top)
+        os.chdir(self.top)
+        # in a chroot no user namespace can be made: this root becomes that of the mount namespace
+        done = subprocess.run(["pivot_root", ".", "."], stderr=subprocess.PIPE, text=True, env={"PATH": PATH})
+        if done.returncode != 0:
+            raise LeftOut(done.stderr.strip())
+        called(libc.umount2(b".", DETACH), "umount of the old root")
         os.chdir("/")
         os.environ.clear()
         os.environ.update(PATH=PATH, HOME="/root", LC_ALL="C.UTF-8", TERM="dumb")

@@ -7,13 +7,16 @@ import tarfile
 
 from checks.installed.mounts import NOT_MOUNTED, STACK, WRONG_WORDS, hold_stack, places, servers, settle
 from checks.installed.roots import hold, hold_in
+from strata_format.version import PACKAGES
 
 HELPER, PLACE = "/usr/local/sbin/mount.strata", "/mnt/strange"
 LOWER = "/srv/lower.romfs"
+OURS = "/usr/local/lib/strata/"
 SECONDS = 60
 # what a stranger may have planted, each of which leaves a word in this file
 PLANTED = "/tmp/planted"
-MODULES = ("os", "mount", "mount_helper", "struct", "argparse", "site", "sitecustomize", "ends", "encodings/__init__")
+MODULES = ("os", "strata_mount", "strata_layers", "strata_format", "struct", "argparse", "site", "sitecustomize",
+           "encodings/__init__")
 PROGRAMS = ("strata", "fusermount3", "python3", "sh")
 
 
@@ -118,7 +121,7 @@ def names(root):
     os.link(LOWER, b"/srv/\xff")
     held_refused(root, "no UTF-8", NOT_MOUNTED, "no name in UTF-8", HELPER, b"/srv/\xff", PLACE)
     held_refused(root, "a long name", NOT_MOUNTED, "file name too long", HELPER, "/" + "a" * 4000, PLACE)
-    held_refused(root, "a longer one", WRONG_WORDS, "longer together", HELPER, "/" + "a" * 5000, PLACE)
+    held_refused(root, "a longer one", WRONG_WORDS, "bytes together", HELPER, "/" + "a" * 5000, PLACE)
     os.mkdir("/tmp/gone")
     gone = "cd /tmp/gone; rmdir /tmp/gone; exec "
     held_refused(root, "a folder that is gone", NOT_MOUNTED, "mount.strata: the working folder: No such file or directory",
@@ -131,12 +134,12 @@ def no_files(root):
     begin(root)
     os.mkfifo("/srv/pipe")
     writer = subprocess.Popen(["sh", "-c", "echo hallo > /srv/pipe"])
-    held_refused(root, "a pipe", NOT_MOUNTED, "layer 0 is /srv/pipe: an image has 16 bytes at least", HELPER, "/srv/pipe", PLACE)
+    held_refused(root, "a pipe", NOT_MOUNTED, "layer 0 is /srv/pipe: an image has at least 16 bytes", HELPER, "/srv/pipe", PLACE)
     writer.wait()
     hold("-f of a pipe", 0, root.run(HELPER, "/srv/pipe", PLACE, "-f", timeout=SECONDS).status)
     socket.socket(socket.AF_UNIX).bind("/srv/socket")
     held_refused(root, "a socket", NOT_MOUNTED, "it is a socket", HELPER, "/srv/socket", PLACE)
-    held_refused(root, "a device", NOT_MOUNTED, "an image has 16 bytes at least", HELPER, "/dev/null", PLACE)
+    held_refused(root, "a device", NOT_MOUNTED, "an image has at least 16 bytes", HELPER, "/dev/null", PLACE)
     held_refused(root, "a file of /proc", NOT_MOUNTED, "begins with `-rom1fs-`", HELPER, "/proc/version", PLACE)
     os.symlink("loop", "/srv/loop")
     held_refused(root, "a loop", NOT_MOUNTED, "too many levels of symbolic links", HELPER, "/srv/loop", PLACE)
@@ -145,7 +148,7 @@ def no_files(root):
     with open("/srv/sparse", "wb") as out:
         out.write(info.tobuf(tarfile.GNU_FORMAT))
         out.truncate(9 << 30)
-    held_refused(root, "a sparse archive", NOT_MOUNTED, "an archive of tar", "prlimit", "--as=%d" % (1 << 30), HELPER, "/srv/sparse", PLACE)
+    held_refused(root, "a sparse archive", NOT_MOUNTED, "a tar archive", "prlimit", "--as=%d" % (1 << 30), HELPER, "/srv/sparse", PLACE)
     return "a pipe, a socket, devices, a file of /proc, a loop, an archive that says 8 GiB"
 
 
@@ -187,7 +190,8 @@ def over_itself(root):
     """strata is not mounted over what it needs: it would wait for itself."""
     begin(root)
     for place, needed in (("/usr/local", "/usr/local/bin/strata"), ("/usr/local/bin", "/usr/local/bin/strata"),
-                          ("/usr/local/lib/strata", "/usr/local/lib/strata/mount.py"), ("/usr", "/usr/"),
+                          (OURS, OURS + "strata_"),
+                          *((OURS + package, OURS + package + "/__init__.py") for package in PACKAGES), ("/usr", "/usr/"),
                           ("/etc", "/etc/ld.so."), ("/dev", "/dev/null"), ("/proc", "/proc/self/fd"),
                           ("/sys", "/sys/devices/system/cpu/online"), ("/lib64", "/lib64/ld-linux-x86-64.so.2")):
         held_refused(root, place, NOT_MOUNTED, "%s" % needed, HELPER, LOWER, place)

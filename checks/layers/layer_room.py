@@ -5,10 +5,10 @@ import os
 import tarfile
 import tempfile
 
-import layers
 from checks.layers.shown_trees import Unlike, compare, compare_attributes, shown_tree, wanted_tree
 from checks.plain import plain_layers
 from checks.shared.layer_files import layout_of
+from strata_layers import command
 
 GNU, PAX, USTAR = tarfile.GNU_FORMAT, tarfile.PAX_FORMAT, tarfile.USTAR_FORMAT
 NAME = "tools/layers.py: "
@@ -51,14 +51,12 @@ class Room:
         if self.strata is not None:
             compare(wanted_tree(wanted), shown_tree(self.strata, images))
 
-    def refused(self, word, line):
-        """The tool must say exactly this line, where `..` stands for anything, and leave nothing."""
+    def refused(self, word, *lines):
+        """The tool must say exactly these lines, where `..` stands for anything, and leave
+        nothing."""
         folder = self.name()
         status, output, told = self.convert(word, folder)
-        expect(status == 1 and output == "" and len(told) == 1, "status %d, printed %r, told %r" % (status, output, told))
-        begin, _, end = line.partition("..")
-        expect(told[0] == line or ".." in line and told[0].startswith(begin) and told[0].endswith(end),
-               "told %r, and %r is wanted" % (told[0], line))
+        expect_lines(status, output, told, lines)
         expect(not os.path.exists(folder), "there is %s" % folder)
 
     def take(self, *archives):
@@ -73,12 +71,22 @@ def run_tool(*words):
     a fault's line bears."""
     out, errors = io.TextIOWrapper(io.BytesIO()), io.StringIO()
     with contextlib.redirect_stdout(out), contextlib.redirect_stderr(errors):
-        status = layers.main(list(words))
+        status = command.main(list(words))
     told = errors.getvalue().splitlines()
     if status == 1:
-        expect(told[-1].startswith(NAME), "told %r" % told)
-        told[-1] = told[-1][len(NAME):]
+        expect(told and all(line.startswith(NAME) for line in told), "told %r" % told)
+        told = [line[len(NAME):] for line in told]
     return status, out.buffer.getvalue().decode(), told
+
+
+def expect_lines(status, output, told, lines):
+    """A run must have refused something with these lines, where `..` stands for anything."""
+    expect(status == 1 and output == "" and len(told) == len(lines),
+           "status %d, printed %r, told %r" % (status, output, told))
+    for got, line in zip(told, lines):
+        begin, _, end = line.partition("..")
+        expect(got == line or ".." in line and got.startswith(begin) and got.endswith(end),
+               "told %r, and %r is wanted" % (got, line))
 
 
 def expect(condition, words):

@@ -1,12 +1,15 @@
 """Tests of tools/layers.py: packing, digests, sizes, and which image of a layout is meant. A test is a function of a room."""
 import gzip
+import io
 import os
 import shutil
 import struct
+import sys
+import types
 
-import layouts
-import packing
+from checks.layers.layer_room import expect
 from checks.shared.layer_files import LAYER, LayoutFolder, archive, file, tag
+from strata_layers import layouts, packing
 
 
 def test_packing(room):
@@ -34,7 +37,7 @@ def test_zstd(room):
     if packing.zstd_module() is None:
         path, os.environ["PATH"] = os.environ["PATH"], ""
         try:
-            room.refused(parts.path, "layer 0: packed by " + packing.NO_ZSTD)
+            room.refused(parts.path, "layer 0: zstd wants the program zstd: install the package zstd ..")
         finally:
             os.environ["PATH"] = path
         if shutil.which("zstd") is None:
@@ -42,6 +45,34 @@ def test_zstd(room):
     room.taken(parts.path, [data])
     parts.index([parts.manifest([parts.blob(LAYER + "+zstd", frame[:-1])])])
     room.refused(parts.path, "layer 0: the packed data are broken: ..")
+
+
+class StoredFrames:
+    """Stands in for Python 3.14's module: frames whose one block is stored, behind 12 bytes."""
+
+    class ZstdFile:
+        def __init__(self, source):
+            self.data = io.BytesIO(b"".join(iter(lambda: source.read(100), b""))[12:])
+
+        def read(self, size):
+            return self.data.read(size)
+
+
+def test_zstd_of_python(room):
+    """Python's own module is used where there is one, and no program."""
+    data = archive([file("a", b"1" * 3000)])
+    parts, path = LayoutFolder(room.name()), os.environ["PATH"]
+    parts.index([parts.manifest([parts.blob(LAYER + "+zstd", bytes(12) + data)])])
+    package = types.ModuleType("compression")
+    package.zstd = StoredFrames
+    os.environ["PATH"], sys.modules["compression"] = "", package
+    try:
+        folder = room.name()
+        expect(room.convert(parts.path, folder)[0] == 0, "it was refused")
+    finally:
+        os.environ["PATH"] = path
+        del sys.modules["compression"]
+    room.hold([folder + "/00.romfs"], [data])
 
 
 def test_digests(room):

@@ -1,6 +1,7 @@
 """Tests of tools/layers.py: layers that must be refused, each with its line. A test is a function of a room."""
 from checks.layers.layer_room import GNU
-from checks.shared.layer_files import archive, block, character, directory, entry, fifo, file, hard, symlink
+from checks.shared.layer_files import (archive, block, character, directory, entry, fifo, file, hard,
+                                       layout_of, symlink)
 
 
 def test_refused_entries(room):
@@ -22,7 +23,6 @@ def test_refused_entries(room):
             ("layer 0: d/l: no directory, and something stands below it", directory("d"), symlink("d/l", "."), file("d/l/b/c")),
             ("layer 0: h: no directory, and something stands below it", file("a"), hard("h", "a"), directory("h/d")),
             ("layer 0: h: a hard link to nothing in its layer: lower", hard("h", "lower")),
-            ("layer 0: a: a hard link to nothing in its layer: b", hard("a", "b"), hard("b", "a")),
             ("layer 0: a: a hard link to nothing in its layer: a", hard("a", "a")),
             ("layer 0: h: a hard link to the directory d", directory("d"), hard("h", "d")),
             ("layer 0: h: a hard link to the directory /", hard("h", "/")),
@@ -33,7 +33,6 @@ def test_refused_entries(room):
     room.refuse("layer 1: h: a hard link to nothing in its layer: f", archive([file("f", b"1")]), archive([hard("h", "f")]))
     room.refuse("layer 0: a\\00b: no image holds the name 'a\\00b'", archive([file("x", pax_headers={"path": "a\0b"})]))
     room.refuse("layer 0: l: no link holds the target 'a\\00b'", archive([symlink("l", "x", pax_headers={"linkpath": "a\0b"})]))
-    room.refuse("layer 0: s: a sparse file, which is not read", archive([entry(b"S", "s")], GNU))
 
 
 def test_large(room):
@@ -41,17 +40,37 @@ def test_large(room):
     info, _ = file("large")
     # behind the volume's header, the root's two, and its own; a trailer with two rows has to end below 2^32
     info.size = 2 ** 32 - 16 - 96 - 64 - 32 - 80
-    room.refuse("layer 0: the archive is cut off", info.tobuf(GNU))
+    room.refuse("layer 0: the archive is truncated", info.tobuf(GNU))
     info.size += 1
     room.refuse("layer 0: large: the image would be larger than 4294967280 bytes with its attributes", info.tobuf(GNU))
     info.size = 2 ** 40
-    room.refuse("layer 0: large: the image would be larger than 4294967280 bytes with its attributes", info.tobuf(GNU))
+    room.refused(layout_of(room.name(), [info.tobuf(GNU)]).path,
+                 "layer 0: large: a file of 1099511627776 bytes, at most 4294967280 are held",
+                 "layer 0: the archive is truncated")
+
+
+def test_many_faults(room):
+    """One bad entry hides none of the others; of more than ten the others are counted."""
+    nothing = "layer 0: %s: a hard link to nothing in its layer: %s"
+    room.refused(layout_of(room.name(), [archive([hard("a", "b"), hard("b", "a")])]).path,
+                 nothing % ("a", "b"), nothing % ("b", "b"))
+    bad = [file("../x"), character("c", 0, 65536), symlink("l", "t" * 4096), file("good", b"1"), block("b", 4096, 0)]
+    lines = ["layer 0: ../x: no path within a layer",
+             "layer 0: c: a device of minor number 65536, at most 65535 is held",
+             "layer 0: l: a link's target of 4096 bytes, at most 4095 are held",
+             "layer 0: b: a device of major number 4096, at most 4095 is held"]
+    room.refused(layout_of(room.name(), [archive(bad)]).path, *lines)
+    made = archive([*bad, *(file("d/../%d" % number) for number in range(10))])
+    more = ["layer 0: d/../%d: no path within a layer" % number for number in range(6)]
+    room.refused(layout_of(room.name(), [made]).path, *lines, *more, "layer 0: .. and 4 more")
+    cut = archive([file("../x"), file("y", b"1" * 600)])
+    room.refused(layout_of(room.name(), [cut[:1600]]).path, lines[0], "layer 0: the archive is truncated")
 
 
 def test_broken_archives(room):
     good = archive([file("a", b"1" * 600), file("b" * 120, b"2")])
     for size in (1, 511, 513, 1100, 1111, 2047, 2048, 2559, 3072):
-        room.refuse("layer 0: the archive is cut off", good[:size])
+        room.refuse("layer 0: the archive is truncated", good[:size])
     room.refuse("layer 0: the archive is broken: a header's checksum", good[:10] + b"x" + good[11:])
     room.refuse("layer 0: the archive is broken: a header's checksum", good[:1536] + b"7" * 512 + good[2048:])
     room.refuse("layer 0: the archive is broken: a header behind its end", bytes(512) + good)

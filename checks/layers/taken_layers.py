@@ -2,7 +2,7 @@
 import random
 import struct
 
-from checks.layers.layer_room import GNU, PAX, USTAR, expect
+from checks.layers.layer_room import GNU, PAX, USTAR, expect, expect_lines
 from checks.plain import plain_layers
 from checks.shared.layer_files import archive, block, character, directory, entry, fifo, file, hard, layout_of, symlink
 
@@ -120,7 +120,8 @@ def test_random(room):
         try:
             plain_layers.shown_by(made)
         except plain_layers.Impossible:
-            room.refused(place, "layer ..")
+            status, output, told = room.convert(place, room.name())
+            expect_lines(status, output, told, ["layer .."] * max(1, len(told)))
             refused += 1
             continue
         room.taken(place, made)

@@ -1,12 +1,13 @@
 """Tests of tools/layers.py: the folder that it writes, its words, and the demo's layout. A test is a function of a room."""
 import gzip
+import hashlib
 import os
 import subprocess
 
-import layouts
 from checks import ROOT, TOOLS
 from checks.layers.layer_room import expect
 from checks.shared.layer_files import archive, directory, file, hard, layout_of, symlink
+from strata_layers import layouts
 
 
 def test_folder(room):
@@ -18,7 +19,7 @@ def test_folder(room):
     with open(os.path.join(folder, "other"), "w", encoding="ascii") as out:
         out.write("x")
     broken = layout_of(room.name(), [data, data[:100]])
-    expect(room.convert(broken.path, folder)[2] == ["layer 1: the archive is cut off"], "a broken layer")
+    expect(room.convert(broken.path, folder)[2] == ["layer 1: the archive is truncated"], "a broken layer")
     expect(os.listdir(folder) == ["other"], "left: %r" % os.listdir(folder))
     expect(room.convert(parts.path, folder)[0] == 0, "a folder that is there")
     with open(os.path.join(folder, "00.romfs"), "rb") as it:
@@ -61,8 +62,10 @@ def test_same_bytes(room):
         room.convert(layout_of(room.name(), [made], (packed,)).path, folder)
         with open(os.path.join(folder, "00.romfs"), "rb") as it:
             images.append(it.read())
-    # the volume's name is the blob's digest
-    expect(images[0][96:] == images[1][96:] and images[0][:8] == b"-rom1fs-" and len(images[0]) % 1024 == 0, "the images differ")
+    expect(images[0] == images[1] and images[0][:8] == b"-rom1fs-", "the images differ")
+    # the volume's name is the digest of the archive
+    name = b"sha256:" + hashlib.sha256(made).hexdigest().encode() + b"\0"
+    expect(images[0][16:16 + len(name)] == name and len(images[0]) % 1024 == 0, "its name differs")
 
 
 def test_command(room):
@@ -82,16 +85,16 @@ def test_command(room):
 def test_wrong_words(room):
     """Wrong words are told in one line, which says what is wrong with them, with status 2."""
     place = layout_of(room.name(), [archive([file("a", b"1")])]).path
-    verbs = "no such folder, and no verb; the verbs are convert, pull, images, verify, remove, prune, config, attributes"
+    verbs = "neither a directory nor a verb; the verbs are image, convert, pull, images, verify, remove, prune, config, attributes"
     for line, *words in (
-            ("a verb is missing, or LAYOUT[:TAG] FOLDER",),
-            ("FOLDER is missing, where the images of %s go" % place, place),
-            ("b: a word too many behind LAYOUT[:TAG] FOLDER", place, "a", "b"),
-            ("--store: no verb stands before it", "--store", "X", "images"),
+            ("a verb or LAYOUT[:TAG] FOLDER is missing",),
+            ("FOLDER for the images of %s is missing" % place, place),
+            ("b: unexpected after LAYOUT[:TAG] FOLDER", place, "a", "b"),
+            ("--store: an option before the verb", "--store", "X", "images"),
             ("pul: " + verbs, "pul", "oci:x"),
             ("convrt: " + verbs, "convrt", "a", "b")):
         done = subprocess.run([TOOLS + "/layers.py", *words], cwd=room.path, capture_output=True, check=False, text=True)
-        wanted = (2, "", "tools/layers.py: %s; --help tells more\n" % line)
+        wanted = (2, "", "tools/layers.py: %s; see --help\n" % line)
         expect((done.returncode, done.stdout, done.stderr) == wanted, "ended with %r" % (done,))
 
 

@@ -118,7 +118,7 @@ def test_extended_attributes(room):
         directory("d d", pax_headers={"RHT.security.selinux": "x"}), file("acl", pax_headers={"SCHILY.acl.access": "user::rw-"}),
         file("no", pax_headers={"SCHILY.dev": "1", "attributes": "x"})]), archive(many))
     hold("told", ["extended attributes are not kept: 253 entries", "  layer 0: ping: security.capability,user.x",
-                  "  layer 0: d\\20d/: security.selinux", "  layer 0: acl: acl.access"], told[:4])
+                  "  layer 0: d\\20d: security.selinux", "  layer 0: acl: acl.access"], told[:4])
     hold("the last", ["  layer 1: f196: user.y", "  .. and 53 more"], told[-2:])
 
 

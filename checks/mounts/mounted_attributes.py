@@ -21,9 +21,9 @@ from checks.shared.layer_files import file as entry
 from checks.shared.mounting import Failed, LeftOut, fails, hold
 from checks.shared.random_inputs import random_stack
 from checks.shared.random_trailers import with_trailer
-from mount import called, libc
+from strata_format.system import called, libc
 
-ALL = ("-o", "allow_other")
+ALL = ("-o", "allow_other,modeless")
 # what the kernel shows of an owner that it takes for none
 NO_OWNER, SHOWN = 2 ** 32 - 1, 65534
 PR_GET_NO_NEW_PRIVS = 39

@@ -11,7 +11,8 @@ import sys
 from checks.mounts.mounted_trees import MIB, file, folder, wanted_of
 from checks.shared.build import seal
 from checks.shared.mounting import SCRIPT, Failed, LeftOut, children, fails, hold, hold_tree, name_of, places, rows, shown, wait_for
-from mount import DEVICE, MNT_DETACH, called, libc
+from strata_format.system import called, libc
+from strata_mount.device import DEVICE, MNT_DETACH
 
 MS_BIND = 0x1000
 # a user who is not root
@@ -89,7 +90,7 @@ def killed(room):
     at, process = room.start([image])
     os.kill(server_of(process), signal.SIGKILL)
     told = process.communicate()[1]
-    hold("mount.py", (128 + signal.SIGKILL, True, False), (process.returncode, b"ended by signal 9" in told, at in places()))
+    hold("mount.py", (128 + signal.SIGKILL, True, False), (process.returncode, b"killed by signal 9" in told, at in places()))
     return "ENOTCONN, and then taken away: by umount, and by mount.py where it waits"
 
 
@@ -192,7 +193,7 @@ def refused(room):
         for words, status, line in wanted:
             hold_refused(room, background + words, status, line)
     hold_refused(room, ["--background", "--strata", "/bin/true", image, at], 1,
-                 "mount.py: /bin/true has ended before the mount answered\n")
+                 "mount.py: /bin/true ended before the mount answered\n")
     if room.is_root:
         hide_device()
         hold_refused(room, [image, at], 1, "mount.py: %s: No such file or directory\n" % DEVICE)
@@ -221,8 +222,12 @@ def shared(room):
         raise LeftOut("who is not root can't become another user")
     items = [file("x", random.Random(8).randbytes(MIB + 3)), folder("d"), file("d/y", b"y")]
     image = room.layer(items)
-    for words, number in (([], errno.EACCES), (["-o", "allow_other"], 0), (["-o", "max_read=4096,noatime"], errno.EACCES)):
-        mount = room.mount([image], *words)
+    told = ("mount.py: %s: without modes and owners, so with allow_other everybody can read all files; "
+            "`strata-layers image` keeps them, and -o modeless says that this is meant\n" % image)
+    for option, number, line in (("", errno.EACCES, ""), ("allow_other", 0, told), ("allow_other,modeless", 0, ""),
+                                 ("max_read=4096,noatime", errno.EACCES, "")):
+        words = ["-o", option] if option else []
+        mount = room.mount([image], *words, told=line.encode())
         hold_tree("mounted with %s" % words, wanted_of([items]), shown(mount.at))
         opened = os.open(mount.path(b"x"), os.O_RDONLY | os.O_DIRECT)
         hold("data past the pages", True, os.pread(opened, 300000, 5) == items[0].data[5:300005])

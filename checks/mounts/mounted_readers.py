@@ -9,7 +9,7 @@ import time
 from checks.mounts.mounted_ends import abort, connections
 from checks.mounts.mounted_trees import MIB, file, folder
 from checks.shared.mounting import Failed, hold, wait_until
-from mount import MNT_DETACH
+from strata_mount.device import MNT_DETACH
 
 # so many processes look at a mount at the same time
 CLIENTS = 16

@@ -13,7 +13,7 @@ from checks.plain.plain_images import SYMLINK
 from checks.shared.images import Item, flat, sample
 from checks.shared.mounting import fails, hold, hold_tree, rows, shown
 from checks.shared.random_inputs import random_stack
-from mount import called, libc
+from strata_format.system import called, libc
 
 MIB = 1 << 20
 # by kind: the mode without and with the bit of executables

@@ -7,10 +7,10 @@ import struct
 import tarfile
 import zlib
 
-import packing
-import romfs
 from checks.registry import made
 from checks.registry.rooms import Failed, hold
+from strata_format import romfs
+from strata_layers import packing
 
 # what a pull may take of memory, over what this process has already
 ROOM = 96 << 20
@@ -96,11 +96,11 @@ def links():
 
 
 def check_much_of_little(room):
-    """A few bytes that unpack to much take little memory and one line."""
+    """A few bytes that unpack to much take little memory, and few lines."""
     for pieces, status in ((keywords, 0), (attributes, 0), (deep, 0), (links, 1)):
         done = bounded(room, "pull", "oci:" + layout_of(room, pieces()).path, "a:1")
         hold("%s: %s" % (pieces.__name__, done.stderr[-300:]), status, done.returncode)
-    hold("lines", 1, done.stderr.count("\n"))
+    hold("lines", 11, done.stderr.count("\n"))
 
 
 def check_most_unpacked(room):

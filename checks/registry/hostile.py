@@ -48,25 +48,30 @@ def flip(path):
 
 
 def check_verify(room):
-    """verify names a layer whose byte is flipped, and one that is missing; pulling again heals
-    both."""
+    """verify names a layer whose byte is flipped, and takes it out of use, and one that is missing;
+    pulling again heals both."""
     source = made.layout(room.name())
     room.layers("pull", "oci:" + source.path, "a:1")
     first, second = mounted_layers(room, "a:1")[:2]
     flip(first)
     os.unlink(second)
-    done = room.tried("verify")
-    lines = done.stdout.splitlines()
-    hold("lines", (1, 2), (done.returncode, len(lines)))
-    hold("wrong", True, lines[0].startswith(first + ": its digest is sha256:") and "needed by a:1" in lines[0])
-    hold("missing", "sha256:%s: missing; needed by a:1" % os.path.basename(second), lines[1])
     other = room.name()
     shutil.copytree(room.store, other)
     room.refused("%s: the layer sha256:%s has the digest sha256:.." % (other, os.path.basename(first)),
                  "convert", "--compress", "gzip", source.path, room.name(), store=other)
-    os.unlink(first)
+    done = room.tried("verify")
+    lines = done.stdout.splitlines()
+    hold("lines", (1, 2), (done.returncode, len(lines)))
+    aside = "; it is set aside as %s.damaged; pull again; needed by a:1" % os.path.basename(first)
+    hold("wrong", True, lines[0].startswith(first + ": its digest is sha256:") and lines[0].endswith(aside))
+    hold("missing", "sha256:%s: missing; needed by a:1" % os.path.basename(second), lines[1])
+    hold("out of use", (False, True), (os.path.exists(first), os.path.exists(first + ".damaged")))
     hold("again", "a:1: 5 layers, 2 of them new\n", room.layers("pull", "oci:" + source.path, "a:1"))
     hold("verified", "", room.layers("verify"))
+    hold("read only", {0o444}, {os.stat(it).st_mode & 0o777 for it in mounted_layers(room, "a:1")})
+    size = os.path.getsize(first + ".damaged")
+    hold("pruned", "1 layers removed, %d bytes; 0 are in use by a mount\n" % size, room.layers("prune"))
+    hold("gone", False, os.path.exists(first + ".damaged"))
 
 
 def check_unlike_configuration(room):
@@ -276,8 +281,9 @@ def check_full_disk(room):
 def check_progress(room):
     """A line of progress on a terminal, which is taken away at the end; no word of it elsewhere."""
     source = made.layout(room.name(), large_layers(2))
-    code = ("import sys; sys.path.insert(0, %r); import progress; progress.FIRST_AFTER = progress.NEXT_AFTER = 0;"
-            "import layers; sys.exit(layers.main(sys.argv[1:]))" % TOOLS)
+    code = ("import sys; sys.path.insert(0, %r); from strata_format import progress;"
+            "progress.FIRST_AFTER = progress.NEXT_AFTER = 0;"
+            "from strata_layers import command; sys.exit(command.main(sys.argv[1:]))" % TOOLS)
     words = [sys.executable, "-B", "-c", code, "pull", "--store", room.store, "oci:" + source.path, "a:1"]
     ours, theirs = os.openpty()
     run = subprocess.Popen(words, stdout=subprocess.DEVNULL, stderr=theirs, env=room.environment)

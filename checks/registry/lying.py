@@ -6,11 +6,11 @@ import os
 import socketserver
 import threading
 
-import fetch
 from checks.registry import made
 from checks.registry.hostile import hold_nothing
 from checks.registry.loopback import trust
 from checks.registry.rooms import Failed, hold, needs, snapshot
+from strata_layers import fetch
 
 PIECE = bytes(1 << 16)
 # skopeo's own files are smaller here, so that less is written

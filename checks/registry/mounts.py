@@ -83,7 +83,7 @@ def check_used_layers(room):
     room.layers("pull", "oci:" + source.path, "a:1")
     at = mounted(room, "a:1")
     room.layers("remove", "a:1")
-    line = "0 layers taken away, 0 bytes; 5 are in use by a mount\n"
+    line = "0 layers removed, 0 bytes; 5 are in use by a mount\n"
     hold("while it is mounted", line, room.layers("prune"))
     hold("mounted still", WANTED, seen(at))
     take_away(room, at)

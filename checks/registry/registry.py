@@ -18,9 +18,10 @@ def main(words):
     is_right &= run_checks(lying.CHECKS, strata, "lying")
     is_right &= run_checks(mounts.CHECKS, strata, "mounts")
     if not is_quick:
-        from checks.registry import outside, printed
+        from checks.registry import outside, printed, sandboxes
         is_right &= run_checks(outside.CHECKS, strata, "outside")
         is_right &= run_checks(printed.CHECKS, strata, "printed")
+        is_right &= run_checks(sandboxes.CHECKS, strata, "sandboxes")
     return is_right
 
 

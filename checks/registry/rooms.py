@@ -9,8 +9,8 @@ import sys
 import tempfile
 from collections import namedtuple
 
-import layers as tool
 from checks import TOOLS
+from strata_layers import command
 
 LAYERS = os.path.join(TOOLS, "layers.py")
 MOUNT = os.path.join(TOOLS, "mount.py")
@@ -89,7 +89,7 @@ class Room:
             os.dup2(out, 1)
             os.dup2(errors, 2)
             sys.stdout, sys.stderr = (io.TextIOWrapper(io.FileIO(it, "w"), write_through=True) for it in (1, 2))
-            status = tool.main(words)
+            status = command.main(words)
         except SystemExit as ended:
             status = ended.code
         finally:

@@ -109,7 +109,7 @@ def check_platforms(room):
     for verb, words in (("convert", (source.path, room.name())), ("pull", ("oci:" + source.path,))):
         done = room.tried(verb, "--platform", "windows", *words)
         hold(verb, (2, "", "tools/layers.py %s: argument --platform: windows: no platform; linux/ARCHITECTURE[/VARIANT] is wanted; "
-                    "--help tells more\n" % verb), done)
+                    "see --help\n" % verb), done)
 
 
 def check_pull(room):
@@ -145,9 +145,9 @@ def check_shared(room):
     before = room.blobs()
     hold("printed", "two:latest: 5 layers, 2 of them new\n", room.layers("pull", "oci:" + two.path, "two"))
     hold("how many layers", 7, len(room.blobs()))
-    hold("pruned", "0 layers taken away, 0 bytes; 0 are in use by a mount\n", room.layers("prune"))
+    hold("pruned", "0 layers removed, 0 bytes; 0 are in use by a mount\n", room.layers("prune"))
     room.layers("remove", "two")
-    hold("pruned", True, room.layers("prune").startswith("2 layers taken away, "))
+    hold("pruned", True, room.layers("prune").startswith("2 layers removed, "))
     hold("layers that stay", before, room.blobs())
     room.refused("two: no such image in %s" % room.store, "remove", "two")
     room.layers("remove", "one:latest")
@@ -225,25 +225,47 @@ def check_config(room):
     room.layers("pull", "oci:" + source.path, "a")
     hold("config", "entrypoint /bin/say 'it'\"'\"'s'\ncommand 'a b'\nenv PATH=/bin\nenv 'WORD=x y'\nenv HOME\nfolder /var\nuser 7:8\n",
          room.layers("config", "a"))
-    words = shlex.split(room.layers("config", "--bwrap", "a"))
-    hold("bwrap", ["--clearenv", "--setenv", "PATH", "/bin", "--setenv", "WORD", "x y", "--setenv", "HOME", "",
-                   "--chdir", "/var",
-                   "--unshare-user", "--uid", "7", "--gid", "8", "--", "/bin/say", "it's", "a b"], words)
+    rest = ["--clearenv", "--setenv", "PATH", "/bin", "--setenv", "WORD", "x y", "--setenv", "HOME", "",
+            "--chdir", "/var", "--", "/bin/say", "it's", "a b"]
+    hold_bwrap(room, "a", ["--uid", "7", "--gid", "8"], ["setpriv", "--reuid", "7", "--regid", "8", "--clear-groups",
+                                                         "--inh-caps=-all"], rest)
     words = shlex.split(room.layers("config", "--podman", "a"))
     hold("podman", ["--entrypoint", '["/bin/say", "it\'s", "a b"]', "--workdir", "/var", "--env", "PATH=/bin",
                     "--env", "WORD=x y", "--env", "HOME=", "--user", "7:8"], words)
     hold_user_by_name(room)
 
 
+def hold_bwrap(room, name, numbers, become, rest):
+    """The command of bwrap by who calls: root becomes the image's user, and anybody else is refused or has his own rights
+    under that user's number."""
+    options = ["--ro-bind", "/a b", "/"]
+    if os.geteuid() == 0:
+        words = shlex.split(room.layers("config", "--bwrap", name, *options))
+        hold("by root", [*become, "bwrap", *options, *rest], words)
+        room.refused("--as-caller would give root's rights to the image's user; leave it out", "config", "--bwrap",
+                     "--as-caller", name)
+    else:
+        room.refused("the image's user is ..with your rights under that number", "config", "--bwrap", name)
+        words = shlex.split(room.layers("config", "--bwrap", "--as-caller", name, *options))
+        hold("by a user", ["bwrap", *options, "--unshare-user", *numbers, *rest], words)
+
+
 def hold_user_by_name(room):
-    """Of a user who is no number bwrap is told nothing, and who calls the tool is told that."""
-    source = made.Layout(room.name(), {**made.RUN, "User": "www-data"})
-    source.index(made.tagged(source.image(made.LAYERS), "1"))
-    room.layers("pull", "oci:" + source.path, "named")
-    line = NAME + "named: its user www-data is no number: bwrap runs it as the user who calls bwrap\n"
-    for form, told in (("--bwrap", line), ("--podman", "")):
-        done = room.tried("config", form, "named")
-        hold(form, (0, told, form == "--podman"), (done.returncode, done.stderr, "www-data" in shlex.split(done.stdout)))
+    """A user's name is looked up in the image's own files, of which the upper layer's count; one that is not there is
+    refused for bwrap, and podman looks it up by itself."""
+    passwd, group = b"root:x:0:0::/:/\nweb:x:33:34::/:/\n", b"tape:x:26:web\nown:x:34:\n"
+    layers = [made.archive(made.entry("etc/passwd", b"web:x:1:1::/:/\n"), made.entry("etc/group", group)),
+              made.archive(made.entry("etc/passwd", passwd))]
+    for user, name in (("web", "named"), ("nobody", "unnamed")):
+        source = made.Layout(room.name(), {**made.RUN, "User": user})
+        source.index(made.tagged(source.image(layers), "1"))
+        room.layers("pull", "oci:" + source.path, name)
+        hold("podman", True, user in shlex.split(room.layers("config", "--podman", name)))
+    rest = ["--clearenv", "--setenv", "PATH", "/bin", "--setenv", "WORD", "x y", "--chdir", "/var", "--", "/bin/say", "it's",
+            "a b"]
+    hold_bwrap(room, "named", ["--uid", "33", "--gid", "34"],
+               ["setpriv", "--reuid", "33", "--regid", "34", "--groups", "26", "--inh-caps=-all"], rest)
+    room.refused("the image has no user nobody", "config", "--bwrap", "unnamed")
 
 
 def check_lost(room):

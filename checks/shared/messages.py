@@ -2,7 +2,7 @@
 import struct
 
 from checks.shared.text import Wrong
-from fuse_text import NODELESS, OPCODES
+from strata_format.fuse_text import NODELESS, OPCODES
 
 # bodies of fixed sizes of which nothing is looked at
 ZEROS = {"GETATTR": 16, "RELEASE": 24, "RELEASEDIR": 24, "FLUSH": 24, "FSYNC": 16, "FSYNCDIR": 16, "INTERRUPT": 8}

@@ -10,7 +10,8 @@ import time
 
 from checks import TOOLS
 from checks.shared.images import laid_out
-from mount import DEVICE, called, libc
+from strata_format.system import called, libc
+from strata_mount.device import DEVICE
 
 SCRIPT = TOOLS + "/mount.py"
 # a check that does not end is ended after so many seconds; STRATA_SLOWER says how many times as many
@@ -196,8 +197,8 @@ class Room:
         """How mount.py is called."""
         return [sys.executable, "-B", SCRIPT, "--strata", self.program]
 
-    def mount(self, images, *words):
-        return Mount(self, images, words)
+    def mount(self, images, *words, told=b""):
+        return Mount(self, images, words, told)
 
     def start(self, images, *words):
         """A mount that is waited for: where it is, and the process of mount.py."""
@@ -210,13 +211,13 @@ class Room:
 
 
 class Mount:
-    """Images mounted in the background, and the process that serves them."""
+    """Images mounted in the background, of which this is told, and the process that serves them."""
 
-    def __init__(self, room, images, words):
+    def __init__(self, room, images, words, told):
         self.at, before = room.place(), children()
         done = subprocess.run([*room.words(), "--background", *with_readers(words), *images, self.at],
                               stdin=subprocess.DEVNULL, stderr=subprocess.PIPE)
-        hold("mount.py", (0, b""), (done.returncode, done.stderr))
+        hold("mount.py", (0, told), (done.returncode, done.stderr))
         servers = children() - before
         hold("processes that serve", 1, len(servers))
         self.server, = servers

@@ -4,7 +4,7 @@ import struct
 from checks.plain.plain_images import DIRECTORY, fault
 from checks.shared.build import header, init, name_bytes, request, seal, volume
 from checks.shared.images import Item, laid_out
-from fuse_text import OPCODES
+from strata_format.fuse_text import OPCODES
 
 NAMES = [b"a", b"b", b"c", b"d", b".", b"..", b"", b"a/b", b".wh.a", b"fifteen-letters", b"sixteen-letters-", b"x" * 255]
 EDGES = [0, 15, 16, 32, 40, 80, 4095, 4096, 0x10000003, 0x0fff0001, 2 ** 31, 2 ** 32 - 1]

@@ -7,7 +7,7 @@ import struct
 
 from checks.plain import plain_replies as plain
 from checks.shared.text import Wrong
-from fuse_text import KINDS, NAMES, reply_lines
+from strata_format.fuse_text import KINDS, NAMES, reply_lines
 
 TYPES = {name: number for number, name in KINDS.items()}
 

@@ -6,7 +6,8 @@ import os
 import select
 import struct
 
-from mount import DEVICE, MNT_DETACH, called, libc
+from strata_format.system import called, libc
+from strata_mount.device import DEVICE, MNT_DETACH
 
 LOOKUP, FORGET, GETATTR, OPEN, READ, RELEASE, FLUSH, INIT, INTERRUPT = 1, 2, 3, 14, 15, 18, 25, 26, 36
 ROOT, FILE = 1, 2

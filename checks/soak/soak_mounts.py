@@ -14,7 +14,7 @@ from checks.shared.images import Item, flat
 from checks.shared.mounting import Failed, LeftOut, Room, apart, children, fails, hold, places, try_mount
 from checks.shared.watched_file import CUT, FAIL, SERVE, TURN, WAIT, WatchedFile, turned
 from checks.soak.soak_streams import Memory, call_once
-from mount import DEVICE
+from strata_mount.device import DEVICE
 
 # the processes that read in each mount, and how often each reads all files
 READERS, ROUNDS = 8, 4

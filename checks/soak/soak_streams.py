@@ -13,7 +13,7 @@ from checks.shared.build import init
 from checks.shared.images import Item, flat
 from checks.shared.mounting import Failed, LeftOut, Room, apart, hold, try_mount
 from checks.shared.runs import MINUTE
-from mount import DEVICE
+from strata_mount.device import DEVICE
 
 KIB = 1 << 10
 MIB = 1 << 20

@@ -1,12 +1,13 @@
 -- Where the row of an offset stands: nowhere where no row has it (nowhere), and else at the first
 -- that has it (here). So the first row that is not below the offset tells, among rows that rise
 -- (found, another, past). The row for an offset is the one at its position (row_at_position).
-use Rattle.std.proofs.Common.{◌≡◌, ◌≢◌, ◌∙◌, sym, ap, ℕ, ◌<◌, ◌≤◌, inl, inr, true, false, ltb, Bool, ◌==◌, List, [], ◌∷◌, length, get_or, cond, Some, None, arith, refl}
+use Rattle.std.proofs.Common.{◌-◌, ◌≡◌, ◌≢◌, ◌∙◌, sym, ap, ℕ, ◌<◌, ◌≤◌, inl, inr, true, false, ltb, Bool, ◌==◌, List, [], ◌∷◌, length, get_or, cond, Some, None, arith, refl}
 use Rattle.std.specs.Prelude.{find, slice_get}
 use Rattle.std.specs.List.{position_or_len}
 use Rattle.std.specs.List.Sorted.{IsNonDecreasingBy, IsPartitionPoint}
 use Rattle.std.specs.Option.{option_and_then}
 use Rattle.std.proofs.lemmas.Bool.{cases_lt, eq-eqb, le-ltb, lt-ltb, ltb-false, ltb-true, ne_eqb}
+use Rattle.std.proofs.lemmas.List.{get_or_default}
 use Rattle.std.proofs.lemmas.List.Folds.{find_at}
 use Rattle.std.proofs.lemmas.List.Sums.{position_or_len_is}
 use Rattle.std.proofs.lemmas.Option.{slice_get_past}
@@ -76,3 +77,15 @@ module _ (xs : List AttributeRow) (p i : ℕ) (rising : IsNonDecreasingBy (λ x.
   -- and where all rows are below
   pub past : length xs ≤ i → None ≡ position_at xs p
   past l = nowhere xs p (λ k d m. below k d (omega arith))
+
+-- where the one before is below the offset, a row that has it is the first that has it
+pub first : (xs : List AttributeRow) (p i : ℕ) (d : AttributeRow) → IsNonDecreasingBy (λ x. x.place) xs → i < length xs
+    → (0 < i → (get_or xs (i - 1) d).place < p) → (get_or xs i d).place ≡ p → Some i ≡ position_at xs p
+first xs p i d rising l below e = here xs p i d l before e
+  where
+    before : (k : ℕ) (b : AttributeRow) → k < i → (get_or xs k b).place ≢ p
+    before k b m q =
+        let r = rising k (i - 1) b (omega arith) (omega arith) in
+        let s = below (omega arith) in
+        let t : get_or xs (i - 1) b ≡ get_or xs (i - 1) d = get_or_default xs (i - 1) b d (omega arith) in
+        (let u = ap (λ (y : AttributeRow). y.place) t in omega arith)

@@ -1,6 +1,6 @@
 //! What is kept of a trailer.
 
-ghost use Rattle.std.specs.Prelude.{◌≡◌, ◌+◌, ◌^◌, ◌<◌, ◌≤◌, [], length, nat_eq, slice_get, IfOk, IfSome};
+ghost use Rattle.std.specs.Prelude.{◌≡◌, ◌+◌, ◌^◌, ◌<◌, ◌≤◌, [], length, nat_eq, slice_get, IfOk, IfSome, IsTrue, Some};
 ghost use Rattle.romfs_format.specs.declared.limits.TheConstants.{HEAD_SIZE, MAX_MODE};
 ghost use Rattle.romfs_format.specs.declared.limits.TheConstants.{TRAILER_HEAD_SIZE};
 ghost use Rattle.romfs_format.specs.Trailer.{IsTrailerBroken, first_rows, row_at, row_count, rows};
@@ -74,18 +74,35 @@ impl<A: Allocator> Rows<A> {
         ensures value { result ≡ row_at self.now place }
         ensures mode { IfSome result (λ row. row.mode ≤ MAX_MODE) }
     {
-        self.get(self.position(place)?)
+        self.get(self.position(place, 0)?)
     }
 
-    /// Where that row stands among all, counted from 0. It takes as many steps.
-    pub fn position(&self, place: u32) -> Option<u32>
+    /// Where that row stands among all, counted from 0. It is looked for first at a position that
+    /// is guessed, and else takes as many steps.
+    pub fn position(&self, place: u32, guess: u32) -> Option<u32>
         ensures value { result ≡ position_at self.now place }
         ensures small { IfSome result (λ position. position + 1 < 2 ^ 32) }
     {
+        if self.is_first(place, guess as usize) {
+            return Some(guess);
+        }
         let position = self.rows.partition_point(|row| row.place() < place);
         match self.rows.get(position) {
             Some(row) if row.place() == place => Some(position as u32),
             _ => None,
+        }
+    }
+
+    // Whether the row at a position is the first one for the header at an offset.
+    fn is_first(&self, place: u32, position: usize) -> bool
+        ensures value { IsTrue result → Some position ≡ position_at self.now place }
+        ensures small { IsTrue result → position + 1 < 2 ^ 32 }
+    {
+        match self.rows.get(position) {
+            Some(row) if row.place() == place => {
+                position == 0 || self.rows[position - 1].place() < place
+            }
+            _ => false,
         }
     }
 

@@ -11,9 +11,10 @@ use Rattle.serve_loop.specs.Opening.{WasNotBegun}
 use Rattle.serve_loop.specs.Serving.{Does, Trace}
 use Rattle.serve_core.specs.declared.stop.Stop.{Stop}
 use Rattle.serve_core.specs.Headline.{Bounds}
+use Rattle.serve_core.specs.Openings.{IsNotOpenedOver}
 use Rattle.serve_core.proofs.Stops.{ended_well, read_told}
 use Rattle.device_readers.specs.Laws.{HasServedBefore}
-use Rattle.device_readers.specs.Readers.{AreServedBy, HasDone, HasServed, IsNotOpenedOver, shared}
+use Rattle.device_readers.specs.Readers.{AreServedBy, HasDone, HasServed, shared}
 use Rattle.device_readers.specs.Seats.{SeatState}
 
 module _ {A : Type 0} (over : Sourced) (within : Bounds) where

@@ -1,4 +1,3 @@
-pub mod Opened
 pub mod Reading
 pub mod Order
 pub mod Begun

@@ -1,19 +1,17 @@
 -- What the readers of one open /dev/fuse do, each a stream of its own between its own devices, over
 -- one stack and the sources of its data. Each counts lookups of as many nodes as its bounds say.
-use Rattle.std.specs.Prelude.{◌≡◌, ◌<◌, IsTrue, List, ◌∷◌, Option, None, Some, Result, Ok, Err}
+use Rattle.std.specs.Prelude.{◌≡◌, ◌<◌, IsTrue, List, ◌∷◌, Option, None, Some, Result, Ok}
 use Rattle.std.specs.List.{AllZip}
 use Rattle.devices.specs.States.{Devices}
 use Rattle.reply_model.specs.declared.session.Session.{Session}
 use Rattle.reply_model.specs.Readings.{Sourced}
-use Rattle.reply_pool.specs.Answers.{answering_from}
 use Rattle.serve_loop.specs.declared.done.Done.{Done}
 use Rattle.serve_loop.specs.declared.opening.Begun.{Begun}
-use Rattle.serve_loop.specs.declared.opening.Opening.{Opening}
 use Rattle.serve_loop.specs.declared.opening.Opening.TheVariants as openings
-use Rattle.serve_loop.specs.Serving.{Does, Trace}
-use Rattle.serve_loop.specs.Opening.{HasBegun, WasNotBegun}
+use Rattle.serve_loop.specs.Serving.{Does}
 use Rattle.serve_core.specs.declared.stop.Stop.{Stop}
-use Rattle.serve_core.specs.Headline.{Bounds, IsRunWithin, RunsWithin}
+use Rattle.serve_core.specs.Headline.{Bounds, RunsWithin}
+use Rattle.serve_core.specs.Openings.{IsNotOpenedOver, IsOpenedOver}
 use Rattle.device_readers.specs.Seats.{SeatState, devices_of}
 
 -- what readers share: a stack with the sources of its data, and the bounds of each
@@ -24,22 +22,6 @@ pub record Shared : Type 0 where
 -- the same, of its parts
 abbrev pub shared : Sourced → Bounds → Shared
 shared by within = record { by = by; within = within }
-
--- a stream was served over a stack to its end, or until it stopped, and its session had not begun
-pub record IsNotOpenedOver {A : Type 0} (first : Session) (by : Sourced) (within : Bounds)
-    (t : Trace) (result : Result (Done A) Stop) : Type 0 where
-  pub run : IsRunWithin first by within t result
-  pub not_begun : WasNotBegun (answering_from first by) t run.ended
-
--- a stream was served over a stack until its session had begun, or before that to its end, or until
--- it stopped
-abbrev pub IsOpenedOver : {A : Type 0} → Session → Sourced → Bounds → Trace
-    → Result (Opening A) Stop → Type 0
-IsOpenedOver first by within t (Ok (openings.Begun begun)) =
-    HasBegun (answering_from first by) within.counted within.turns t begun
-IsOpenedOver first by within t (Ok (openings.Ended done)) =
-    IsNotOpenedOver first by within t (Ok done)
-IsOpenedOver {A} first by within t (Err stop) = IsNotOpenedOver {A = A} first by within t (Err stop)
 
 -- either side of a seat is gone only after a failure of its own
 pub record IsGoneByFailure {A : Type 0} (seat : SeatState A) : Type 0 where

@@ -3,7 +3,7 @@
 //! Each reader has a [`Seat`]: the two devices that it reads messages from and writes replies to,
 //! both over the one descriptor. [`serve_by_readers`] begins with the reader of the first seat,
 //! which serves until INIT is answered. The others begin in the session that it leaves: each in a
-//! thread of its own, by a `run_counting` of its own over the same table and files. The kernel
+//! thread of its own, by a `run_from` of its own over the same table and files. The kernel
 //! gives each message to one read; no contract says so. Readers share nothing but what they borrow,
 //! and wait for nothing but, at last, for one another. Each seat then holds what its reader came
 //! to, and [`end_of_all`] is the [`End`] that is told of all of them. [`laws`] say what that means.
@@ -12,7 +12,6 @@
 pub mod ends;
 pub mod examples;
 pub mod laws;
-mod opening;
 mod readers;
 mod seat;
 

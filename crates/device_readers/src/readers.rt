@@ -6,7 +6,7 @@ ghost use Rattle.std.specs.Thread.{IsSync};
 ghost use denote.Param.Send.{IsSend, Frees};
 ghost use Rattle.devices.specs.declared.limits.TheConstants.{MAX_TURNS};
 ghost use Rattle.fuse_answer.specs.Puts.{sourced_by};
-ghost use Rattle.serve_core.specs.Headline.{bounds};
+ghost use Rattle.serve_core.specs.Headline.{bounds_over};
 ghost use Rattle.serve_loop.specs.Serving.{AreReady};
 ghost use Rattle.device_readers.specs.Seats.{AreNew, devices_of, end_of_all, seat_of};
 ghost use Rattle.device_readers.specs.Readers.{AreServedBy, HasServed, shared};
@@ -14,18 +14,16 @@ ghost use Rattle.device_readers.specs.Readers.{AreServedBy, HasServed, shared};
 use crate::ends::{End, first_told};
 use crate::seat::Seat;
 use image_bytes::Contents;
-use serve_core::{Done, Gate, Served, SharedAllocator, Terms};
-use serve_loop::Begun;
+use serve_core::{Begun, Done, Gate, Served, SharedAllocator, Terms};
 use std::io::{Read, Write};
 use std::thread::{Threads, for_each_mut};
 
 /// Serves the requests of an open `/dev/fuse` over a table and its files by the readers of these
 /// seats, on these terms, and waits until all have ended. Each seat then holds what its reader came
-/// to. Lookups are counted of so many of the first nodes, at 16 bytes a node and reader; with 0 of
-/// none.
+/// to. Each reader counts lookups for itself, as the terms say.
 ///
 /// The reader of the first seat serves alone until the session has begun. Then the others begin in
-/// that session, and each answers what it reads as [`serve_core::run_counting`] does, with buffers
+/// that session, and each answers what it reads as [`serve_core::run_from`] does, with buffers
 /// and balances of its own. One that ends, or stops for a fault or for want of memory, ends alone:
 /// the others serve on. Where no thread can be started for a reader, it begins once another has
 /// ended. What came before the session of all is the result; where the first reader ended before
@@ -43,23 +41,23 @@ pub fn serve_by_readers<
     served: Served<'_, A, D>,
     seats: &mut [Seat<I, O, A>],
     terms: &Terms<'_, G>,
-    counted: u64,
 ) -> Option<Done<A>>
     requires some { 0 < length seats.old }
     requires new { AreNew (map (seat_of I.remaining) seats.old) }
     requires turns { terms.now.turns ≤ MAX_TURNS }
-    ensures { AreServedBy terms.now.first
-        (shared (sourced_by D.source served.entry) (bounds terms.now.turns counted))
+    ensures { let by = sourced_by D.source served.entry in AreServedBy terms.now.first
+        (shared by (bounds_over terms.now.turns terms.now.counted by))
         (map (seat_of I.remaining) seats.old) (map (seat_of I.remaining) seats.new) result }
 {
-    let Begun { session, done } = seats[0].open(rt, alloc, served, terms, counted)?;
+    let Begun { session, done } = seats[0].open(rt, alloc, served, terms)?;
     let terms = Terms {
         first: session,
         plan: terms.plan,
         turns: terms.turns,
+        counted: terms.counted,
         gate: terms.gate,
     };
-    serve_together(rt, alloc, served, seats, &terms, counted);
+    serve_together(rt, alloc, served, seats, &terms);
     Some(done)
 }
 
@@ -71,29 +69,22 @@ fn serve_together<
     I: Read + Copy + Send + Drop,
     O: Write + Copy + Send + Drop,
     G: Gate + Sync,
->(
-    rt: &R,
-    alloc: A,
-    served: Served<'_, A, D>,
-    seats: &mut [Seat<I, O, A>],
-    terms: &Terms<'_, G>,
-    counted: u64,
-)
+>(rt: &R, alloc: A, served: Served<'_, A, D>, seats: &mut [Seat<I, O, A>], terms: &Terms<'_, G>)
     requires some { 0 < length seats.old }
     requires ready { AllByRecursion (λ seat. AreReady terms.now.turns (devices_of seat))
         (map (seat_of I.remaining) seats.old) }
-    ensures { AllZip (HasServed terms.now.first (sourced_by D.source served.entry)
-        (bounds terms.now.turns counted)) (map (seat_of I.remaining) seats.old)
+    ensures { let by = sourced_by D.source served.entry in AllZip (HasServed terms.now.first by
+        (bounds_over terms.now.turns terms.now.counted by)) (map (seat_of I.remaining) seats.old)
         (map (seat_of I.remaining) seats.new) }
 {
     let serve = move |_place: usize, seat: &mut Seat<I, O, A>|
         requires { IsSync R.row × IsSync G.row × IsSync D.row × IsSync A.row × IsSend A.row
             × Frees A.Allocator A.dealloc_token
             × AreReady terms.now.turns (devices_of (seat_of I.remaining seat.now)) }
-        ensures { HasServed terms.entry.now.first (sourced_by D.source served.entry)
-            (bounds terms.entry.now.turns counted) (seat_of I.remaining seat.entry.now)
-            (seat_of I.remaining seat.exit.now) }
-    { seat.serve(rt, alloc, served, terms, counted) };
+        ensures { let by = sourced_by D.source served.entry in HasServed terms.entry.now.first by
+            (bounds_over terms.entry.now.turns terms.entry.now.counted by)
+            (seat_of I.remaining seat.entry.now) (seat_of I.remaining seat.exit.now) }
+    { seat.serve(rt, alloc, served, terms) };
     let readers = seats.len();
     for_each_mut(rt, seats, readers, &serve);
 }

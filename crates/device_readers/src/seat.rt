@@ -2,17 +2,17 @@
 
 ghost use Rattle.std.specs.Prelude.{◌≡◌, IfOk, length, map, replicate};
 ghost use Rattle.fuse_answer.specs.Puts.{sourced_by};
-ghost use Rattle.serve_core.specs.Headline.{bounds};
+ghost use Rattle.serve_core.specs.Headline.{bounds_over};
 ghost use Rattle.serve_loop.specs.Serving.{AreReady};
 ghost use Rattle.device_readers.specs.Seats.{AreNew, devices_of, new_seat, own_end, seat_of};
 ghost use Rattle.device_readers.specs.Readers.{HasOpened, HasServed, shared};
 
 use crate::ends::{End, end_of_stop};
-use crate::opening::open;
 use fuse_device::{MessageTap, ReplySpout};
 use image_bytes::Contents;
-use serve_core::{Done, Gate, Served, SharedAllocator, Stop, Terms, run_counting};
-use serve_loop::{Begun, Opening};
+use serve_core::{
+    Begun, Done, Gate, Opening, Served, SharedAllocator, Stop, Terms, Until, run_from, run_until,
+};
 use std::alloc::{AllocError, Allocator};
 use std::io::{Read, Write};
 use std::thread::Threads;
@@ -52,29 +52,21 @@ impl<I: Read + Drop, O: Write + Drop, A: SharedAllocator> Seat<I, O, A> {
     }
 
     // Serves what its devices bring over a table and its files, on these terms, until the session
-    // has begun, and gives the session. Lookups are counted of so many of the first nodes.
+    // has begun, and gives the session.
     pub(crate) fn open<R: Threads + Sync, D: Contents + Sync, G: Gate + Sync>(
         &mut self,
         rt: &R,
         alloc: A,
         served: Served<'_, A, D>,
         terms: &Terms<'_, G>,
-        counted: u64,
     ) -> Option<Begun<A>>
         requires { AreReady terms.now.turns (devices_of (seat_of I.remaining self.old)) }
-        ensures { HasOpened terms.now.first
-            (shared (sourced_by D.source served.entry) (bounds terms.now.turns counted))
+        ensures { let by = sourced_by D.source served.entry in HasOpened terms.now.first
+            (shared by (bounds_over terms.now.turns terms.now.counted by))
             (seat_of I.remaining self.old) (seat_of I.remaining self.new) result }
     {
-        let opened = open(
-            rt,
-            alloc,
-            served,
-            &mut self.input,
-            &mut self.output,
-            terms,
-            counted,
-        );
+        let (input, output) = (&mut self.input, &mut self.output);
+        let opened = run_until(rt, alloc, served, input, output, terms, Until::Begun);
         let ended = match opened {
             Ok(Opening::Begun(begun)) => return Some(begun),
             Ok(Opening::Ended(done)) => Ok(done),
@@ -84,23 +76,21 @@ impl<I: Read + Drop, O: Write + Drop, A: SharedAllocator> Seat<I, O, A> {
         None
     }
 
-    // Serves what its devices bring over a table and its files, on these terms. Lookups are counted
-    // of so many of the first nodes.
+    // Serves what its devices bring over a table and its files, on these terms.
     pub(crate) fn serve<R: Threads + Sync, D: Contents + Sync, G: Gate + Sync>(
         &mut self,
         rt: &R,
         alloc: A,
         served: Served<'_, A, D>,
         terms: &Terms<'_, G>,
-        counted: u64,
     )
         requires { AreReady terms.now.turns (devices_of (seat_of I.remaining self.old)) }
-        ensures { HasServed terms.now.first (sourced_by D.source served.entry)
-            (bounds terms.now.turns counted) (seat_of I.remaining self.old)
+        ensures { let by = sourced_by D.source served.entry in HasServed terms.now.first by
+            (bounds_over terms.now.turns terms.now.counted by) (seat_of I.remaining self.old)
             (seat_of I.remaining self.new) }
     {
         let (input, output) = (&mut self.input, &mut self.output);
-        self.result = Some(run_counting(rt, alloc, served, input, output, terms, counted));
+        self.result = Some(run_from(rt, alloc, served, input, output, terms));
     }
 }
 

@@ -89,7 +89,8 @@ pub fn answer_and_move<A: Allocator, D: Contents, O: Allocator>(
 }
 
 // The same. It is laid out anew at each call: for the requests that are asked most there is code of
-// their own, in which nothing is left of what other requests are answered.
+// their own, in which nothing is left of what other requests are answered. By one call of it a
+// million GETATTRs took 114 ms of processor in place of 51, and LOOKUPs 245 in place of 205.
 #[inline(always)]
 fn settle<A: Allocator, D: Contents, O: Allocator>(
     served: Served<'_, A, D>,

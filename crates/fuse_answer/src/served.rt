@@ -1,6 +1,6 @@
 //! What requests are answered over.
 
-ghost use Rattle.std.specs.Prelude.{◌≡◌, []};
+ghost use Rattle.std.specs.Prelude.{◌≡◌, [], true};
 
 use image_bytes::InMemory;
 use std::alloc::{AllocError, Allocator};
@@ -24,8 +24,9 @@ impl<'a, A: Allocator, D> Clone for Served<'a, A, D> {
 impl<'a, A: Allocator, D> Copy for Served<'a, A, D> {}
 
 impl<'a, A: Allocator> Served<'a, A, InMemory<'a>> {
-    /// A table that holds all data.
+    /// A table of images that are held whole: all data are its own.
     pub fn held(table: &'a Table<A>) -> Self
+        requires { table.now.whole ≡ true }
         ensures table { result.table.now ≡ table.now }
         ensures files { result.files.now ≡ [] }
     {

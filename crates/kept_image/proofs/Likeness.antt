@@ -1,6 +1,7 @@
 -- Two lists that look the same at the headers of a closed set lead to the same headers, and break the
 -- same rules of file headers (breaks_alike). Each relation goes over from one list to the other; for
--- what is denied it comes back, since looking the same goes both ways.
+-- what is denied it comes back, since looking the same goes both ways. So paths lead to the same headers
+-- (same_path), hard links to the same ends (same_end), and targets are the same (same_target).
 use Rattle.std.proofs.Common.{◌≡◌, ◌≢◌, ◌∙◌, sym, ap, subst, ℕ, zero, suc, ◌+◌, ◌<◌, ◌≤◌, ◌%◌, ◌/◌, ◌^◌, ◌⊎◌, inl, inr, List, [], ◌∷◌, Bool, IsTrue, length, take, drop, Option, Some, None, refl, arith}
 use Rattle.std.specs.Prelude.{IsSome, IsSomeAnd, IsNone, MatchOption}
 use Rattle.romfs_format.specs.declared.limits.TheConstants.{HEAD_SIZE, MAX_TARGET_SIZE, MAX_MAJOR}
@@ -340,13 +341,29 @@ same_path kept headers a xs g c path h =
       (λ p. (has_alike headers xs a (alike_sym headers a xs s) (keeps_alike headers a xs s k) path h p).0),
     )
 
+-- and hard links there to the same end, which has the same fields and name
+pub same_end : (kept headers : ℕ → Bool) (a xs : List ℕ) → Agrees kept a xs → IsClosed kept headers a
+    → (path : List (List ℕ)) (h end : ℕ) → Has a path h
+    → (IsFinal a h end → IsFinal xs h end × (head_of a end ≡ head_of xs end) × (name a end ≡ name xs end))
+    × (IsFinal xs h end → IsFinal a h end)
+same_end kept headers a xs g c path h end p =
+    let s = alike kept headers a xs g c in
+    let k = closed_keeps kept headers a c in
+    let i = (has_alike headers a xs s k path h p).1 in (
+      (λ f. (let t = final_alike headers a xs s k f i in (t.0, head_alike headers a xs s k end t.1, s.names end t.1))),
+      (λ f. (final_alike headers xs a (alike_sym headers a xs s) (keeps_alike headers a xs s k) f i).0),
+    )
+
 -- and has the same target
 pub same_target : (kept headers : ℕ → Bool) (a xs : List ℕ) → Agrees kept a xs → IsClosed kept headers a
-    → (path : List (List ℕ)) (h : ℕ) (n : List ℕ) → Has a path h → kind a h ≡ SymLink → size a h ≤ MAX_TARGET_SIZE → name a h ≡ Some n
-    → take (size a h) (drop (data_at h n) a) ≡ take (size a h) (drop (data_at h n) xs)
-same_target kept headers a xs g c path h n p k l e =
-    let t = has_alike headers a xs (alike kept headers a xs g c) (closed_keeps kept headers a c) path h p in
-    bytes_of_link kept a xs g h n (c.target h t.1) k l e
+    → (path : List (List ℕ)) (h end : ℕ) (n : List ℕ) → Has a path h → IsFinal a h end → kind a end ≡ SymLink
+    → size a end ≤ MAX_TARGET_SIZE → name a end ≡ Some n
+    → take (size a end) (drop (data_at end n) a) ≡ take (size a end) (drop (data_at end n) xs)
+same_target kept headers a xs g c path h end n p f k l e =
+    let s = alike kept headers a xs g c in
+    let keeps = closed_keeps kept headers a c in
+    let t = final_alike headers a xs s keeps f (has_alike headers a xs s keeps path h p).1 in
+    bytes_of_link kept a xs g end n (c.target end t.1) k l e
 
 -- the root is missing in both, or in neither
 pub no_root_goes : (headers : ℕ → Bool) (a xs : List ℕ) → Alike headers a xs → IsTrue (headers (root a)) → HasNoRoot a → HasNoRoot xs

@@ -163,15 +163,15 @@ module _ (b a : List ℕ) (g : IsGatheredOf b a) where
     size_is = (let e = g.long in
         let f : (if nat_le HEAD_SIZE (word b 8) then word b 8 else HEAD_SIZE) ≡ word b 8 = grind (arith, nat_tests) in omega arith)
 
-    image_a : image a ≡ a
+    pub image_a : image a ≡ a
     unfolding image
     image_a = take_all (word a 8) a (let w = words in let s = size_is in omega arith)
 
-    image_b : image b ≡ take (length a) b
+    pub image_b : image b ≡ take (length a) b
     unfolding image
     image_b = ap (λ n. take n b) (sym size_is)
 
-    agrees : Agrees (is_same (take (length a) b) a) (take (length a) b) a
+    pub agrees : Agrees (is_same (take (length a) b) a) (take (length a) b) a
     agrees = record { long = length-take-le (length a) b short; same = λ p s. eqb-true _ _ s }
 
     looks : Alike g.headers (take (length a) b) a

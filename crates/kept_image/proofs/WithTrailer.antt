@@ -1,10 +1,10 @@
 -- What was gathered with its trailer breaks the rules that the bytes break (twins_forth, twins_back),
 -- those of attributes, too (broken_forth, broken_back), and shows the same rows (rows_alike). Its front
--- looks the same to the volume's rules (front_volume), and has the same accessible bytes (image_front).
-use Rattle.std.proofs.Common.{◌≡◌, ◌∙◌, sym, ap, subst, ℕ, ◌+◌, ◌^◌, ◌<◌, ◌≤◌, ◌⊎◌, ◌&&◌, inl, inr, min, true, false, Bool, List, [], length, take, drop, get_or, Option, if◌then◌else◌, refl, arith, length-drop, length-take, take_all}
+-- looks the same to the volume's rules (front_volume), and has the same accessible bytes (image_is).
+use Rattle.std.proofs.Common.{◌≡◌, ◌∙◌, sym, ap, subst, ℕ, ◌+◌, ◌^◌, ◌<◌, ◌≤◌, ◌&&◌, inl, inr, min, Bool, List, [], length, take, drop, get_or, Option, if◌then◌else◌, refl, arith, length-drop, length-take, take_all}
 use Rattle.std.specs.Prelude.{nat_eq, nat_le, nat_lt, codes}
 use Rattle.std.specs.List.{starts_with}
-use Rattle.std.proofs.lemmas.Bool.{cases_lt}
+use Rattle.std.proofs.lemmas.Bool.{cases_lt, cases_Bool}
 use Rattle.std.proofs.lemmas.Bool.Decides.{nat_tests}
 use Rattle.std.proofs.lemmas.List.{get_or-take, get_or_past, ext_get_or, take-take}
 use Rattle.romfs_format.specs.declared.attribute_row.AttributeRow.{AttributeRow}
@@ -17,6 +17,7 @@ use Rattle.romfs_format.specs.Fields.{word, image, summed, text_at, root, padded
 use Rattle.romfs_format.specs.Profiles.{reads_attributes}
 use Rattle.romfs_format.specs.Rules.{HasNoRoot, Breaks, BreaksHeader, IsSound, IsFaultOf}
 use Rattle.romfs_format.specs.Trailer.{trailer, trailer_at, has_trailer, HasTrailer, IsTrailer, IsTrailerBroken, row_count, first_rows, rows, rows_shown}
+use Rattle.romfs_format.proofs.Faults.{full_size}
 use Rattle.romfs_format.proofs.Trailers.{kept_trailer}
 use Rattle.held_image.proofs.Fields.{word_same}
 use Rattle.held_image.proofs.Views.{short_front}
@@ -43,10 +44,6 @@ reach_cut b l = elim (cases_lt (word b 8) HEAD_SIZE) [
 reach_full : (b : List ℕ) → 16 ≤ word b 8 → word b 8 ≤ length b → reach b ≡ word b 8
 reach_full b l h =
     let f : (if nat_le HEAD_SIZE (word b 8) then word b 8 else HEAD_SIZE) ≡ word b 8 = grind (arith, nat_tests) in omega arith
-
-true_or_false : (x : Bool) → (x ≡ true) ⊎ (x ≡ false)
-true_or_false true = inl refl
-true_or_false false = inr refl
 
 abbrev shown : Bool → List AttributeRow → List AttributeRow
 shown h xs = if h then xs else []
@@ -90,6 +87,11 @@ module _ (b a : List ℕ) (g : IsGatheredWithTrailerOf b a) where
         ∙ sym (ap (λ xs. take (word front 8) xs) (take_all (reach b) a (omega arith)) ∙ take_all (word front 8) a (omega arith)))
     | inr l ↦ ap (λ n. take n a) words_front ∙ sym (take-take (word front 8) (reach b) a (let w = words_front in omega arith))
   ]
+
+  -- the accessible bytes are those of the front
+  pub image_is : image a ≡ image (take (reach b) a)
+  unfolding front
+  image_is = image_front
 
   starts : take 8 a ≡ take 8 front
   starts =
@@ -145,7 +147,7 @@ module _ (b a : List ℕ) (g : IsGatheredWithTrailerOf b a) where
     has_too = ap (λ p. begins_trailer a p) place_too
 
     has_same : has_trailer a ≡ has_trailer b
-    has_same = has_too ∙ elim (true_or_false (begins_trailer b (padded (reach b)))) [
+    has_same = has_too ∙ elim (cases_Bool (begins_trailer b (padded (reach b)))) [
       | inl e ↦ ap (λ x. nat_lt (padded (reach b)) (2 ^ 32) && x)
           (ap (λ t. starts_with nat_eq t (codes "-attr01-")) (g.tail e) ∙ letters_same (drop (padded (reach b)) b) (reach b))
       | inr e ↦ (let n = g.none e in let d = length-drop (padded (reach b)) a in
@@ -175,7 +177,7 @@ module _ (b a : List ℕ) (g : IsGatheredWithTrailerOf b a) where
     broken_back (h, n) = (let k = sym has_same ∙ h in (k, λ x. n (goes k x)))
 
     pub rows_alike : ¬ IsTrailerBroken b → rows a ≡ rows b
-    rows_alike k = elim (true_or_false (has_trailer b)) [
+    rows_alike k = elim (cases_Bool (has_trailer b)) [
       | inl h ↦ by_has has_same (ap (λ t. first_rows t (row_count t)) (tail_is h)
           ∙ rows_same (trailer b) (reach b) (subst (λ n. IsTrailer n (trailer b)) full_is (kept_trailer b h k)))
       | inr e ↦ ap (λ x. shown x (first_rows (trailer a) (row_count (trailer a)))) (has_same ∙ e)
@@ -251,14 +253,11 @@ module _ (b a : List ℕ) (g : IsGatheredWithTrailerOf b a) where
       (fault_of_goes profile b a (twins_forth profile) fault, fault_of_goes profile a b (twins_back profile) fault)
 
   pub same_rows_shown : (profile : Profile) → IsSound profile b → rows_shown profile a ≡ rows_shown profile b
-  same_rows_shown profile s = elim (true_or_false (reads_attributes profile)) [
-    | inl e ↦ ap (λ x. shown x (rows a)) e ∙ rows_alike least most (λ x. s.keeps Attributes (trailer_at b) (e, x, refl))
+  same_rows_shown profile s = elim (cases_Bool (reads_attributes profile)) [
+    | inl e ↦ ap (λ x. shown x (rows a)) e ∙ rows_alike full.0 full.1 (λ x. s.keeps Attributes (trailer_at b) (e, x, refl))
         ∙ sym (ap (λ x. shown x (rows b)) e)
     | inr e ↦ ap (λ x. shown x (rows a)) e ∙ sym (ap (λ x. shown x (rows b)) e)
   ]
     where
-      least : 16 ≤ word b 8
-      least = elim (cases_lt (word b 8) 16) [ inl l ↦ absurd (s.keeps FullSize 8 (inr l, refl)) | inr l ↦ l ]
-
-      most : word b 8 ≤ length b
-      most = elim (cases_lt (length b) (word b 8)) [ inl l ↦ absurd (s.keeps FullSize 8 (inl l, refl)) | inr l ↦ l ]
+      full : (16 ≤ word b 8) × (word b 8 ≤ length b)
+      full = full_size profile b s

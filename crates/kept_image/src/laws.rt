@@ -9,6 +9,7 @@ ghost use Rattle.romfs_format.specs.declared.head.Kind.TheVariants.{SymLink};
 ghost use Rattle.romfs_format.specs.Fields.{word, kind, size, name, data_at};
 ghost use Rattle.romfs_format.specs.Chains.{Has};
 ghost use Rattle.romfs_format.specs.Heads.{head_of};
+ghost use Rattle.romfs_format.specs.Links.{IsFinal};
 ghost use Rattle.romfs_format.specs.Profiles.{reads_attributes};
 ghost use Rattle.romfs_format.specs.Rules.{Breaks, BreaksHeader, IsFaultOf, IsSound};
 ghost use Rattle.romfs_format.specs.Trailer.{rows_shown};
@@ -59,18 +60,25 @@ pub fn same_rows_with_trailer()
 {}
 
 /// Paths of lists that agree where the headers of a closed set are kept lead to the same headers,
-/// which have the same fields.
+/// and hard links there to the same ends. Both have the same fields; an end has the same name, too.
 pub fn same_paths()
-    ensures { (kept headers : ℕ → Bool) (a xs : List ℕ) → Agrees kept a xs →
+    ensures paths { (kept headers : ℕ → Bool) (a xs : List ℕ) → Agrees kept a xs →
         IsClosed kept headers a → (path : List (List ℕ)) (h : ℕ) →
         (Has a path h → Has xs path h × (head_of a h ≡ head_of xs h))
         × (Has xs path h → Has a path h) }
+    ensures ends { (kept headers : ℕ → Bool) (a xs : List ℕ) → Agrees kept a xs →
+        IsClosed kept headers a → (path : List (List ℕ)) (h end : ℕ) → Has a path h →
+        (IsFinal a h end → IsFinal xs h end × (head_of a end ≡ head_of xs end)
+        × (name a end ≡ name xs end))
+        × (IsFinal xs h end → IsFinal a h end) }
 {}
 
-/// A symbolic link at a path has the same target in both, unless it is too long.
+/// A symbolic link to which a path leads, after hard links, has the same target in both, unless it
+/// is too long.
 pub fn same_targets()
     ensures { (kept headers : ℕ → Bool) (a xs : List ℕ) → Agrees kept a xs →
-        IsClosed kept headers a → (path : List (List ℕ)) (h : ℕ) (n : List ℕ) → Has a path h →
-        kind a h ≡ SymLink → size a h ≤ MAX_TARGET_SIZE → name a h ≡ Some n →
-        take (size a h) (drop (data_at h n) a) ≡ take (size a h) (drop (data_at h n) xs) }
+        IsClosed kept headers a → (path : List (List ℕ)) (h end : ℕ) (n : List ℕ) →
+        Has a path h → IsFinal a h end → kind a end ≡ SymLink → size a end ≤ MAX_TARGET_SIZE →
+        name a end ≡ Some n →
+        take (size a end) (drop (data_at end n) a) ≡ take (size a end) (drop (data_at end n) xs) }
 {}

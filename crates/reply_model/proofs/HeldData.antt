@@ -30,7 +30,7 @@ own_length : (n : ℕ) (xs : List ℕ) → take n xs ≡ take (length (take n xs
 own_length n xs = sym (take_min n xs) ∙ ap (λ k. take k xs) (sym (length-take n xs))
 
 -- some bytes behind others, of some bytes behind others, are a front part of what stands there
-window : (m k n s : ℕ) (a : List ℕ) → (r : ℕ) × (take m (drop k (take n (drop s a))) ≡ take r (drop (s + k) a))
+pub window : (m k n s : ℕ) (a : List ℕ) → (r : ℕ) × (take m (drop k (take n (drop s a))) ≡ take r (drop (s + k) a))
 window m k n s a = dite (dec_le k n)
     (λ less.
     let e : k + (n - k) ≡ n = omega arith in
@@ -43,22 +43,22 @@ window m k n s a = dite (dec_le k n)
     (λ not. let more = lt_of_not-le not in let l = length-take n (drop s a) in
     (0, ap (take m) (drop_all k (take n (drop s a)) (omega arith)) ∙ take_all m [] (omega arith)))
 
-stands : (xs ys : List ℕ) → ((r : ℕ) × (xs ≡ take r ys)) → xs ≡ take (length xs) ys
+pub stands : (xs ys : List ℕ) → ((r : ℕ) × (xs ≡ take r ys)) → xs ≡ take (length xs) ys
 stands xs ys (r, is) = is ∙ own_length r ys ∙ ap (λ l. take (length l) ys) (sym is)
 
 -- the data of a place stand in its layer where they begin
-data_there : (layers : List (List ℕ)) (p : Place) (a : List ℕ) (offset size : ℕ) → layer_of layers p ≡ a
+pub data_there : (layers : List (List ℕ)) (p : Place) (a : List ℕ) (offset size : ℕ) → layer_of layers p ≡ a
     → (r : ℕ) × (take size (drop offset (data_of layers p)) ≡ take r (drop (data_start layers p + offset) a))
 unfolding data_of
 data_there layers p a offset size is =
     subst (λ (b : List ℕ). (r : ℕ) × (take size (drop offset (data_of layers p)) ≡ take r (drop (data_start layers p + offset) b))) is
     (window size offset (size_at layers p) (option_map_or (data_at p.1) (name (layer_of layers p) p.1) 0) (layer_of layers p))
 
-data_behind : (unique : ℕ) (bytes : List ℕ) → drop OUT_HEADER_SIZE (reply_with unique bytes) ≡ bytes
+pub data_behind : (unique : ℕ) (bytes : List ℕ) → drop OUT_HEADER_SIZE (reply_with unique bytes) ≡ bytes
 unfolding reply_with
 data_behind unique bytes = drop_at (reply_head unique (length bytes)) bytes OUT_HEADER_SIZE (length-head unique (length bytes))
 
-none_behind : (unique : ℕ) (errno : Errno) → drop OUT_HEADER_SIZE (error_reply unique errno) ≡ []
+pub none_behind : (unique : ℕ) (errno : Errno) → drop OUT_HEADER_SIZE (error_reply unique errno) ≡ []
 none_behind unique errno = drop_all OUT_HEADER_SIZE (error_reply unique errno) (let e = length-error_reply unique errno in omega arith)
 
 -- without sources no data are read

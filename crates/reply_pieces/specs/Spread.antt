@@ -6,9 +6,8 @@ use Rattle.fuse_wire.specs.Reads.{asked_of}
 use Rattle.fuse_wire.specs.Requests.{asked}
 use Rattle.fuse_wire.specs.Stream.{IsRest}
 use Rattle.draw_board.specs.Positions.{times}
-use Rattle.stack_model.specs.Listing.{Stacked}
 use Rattle.reply_model.specs.declared.session.Session.{Session}
-use Rattle.reply_model.specs.Readings.{Sourced, in_memory}
+use Rattle.reply_model.specs.Readings.{Sourced}
 use Rattle.reply_model.specs.Sessions.{session_after}
 use Rattle.reply_model.specs.Streams.{session_at}
 use Rattle.lookup_balances.specs.Balances.{IsMoved}
@@ -61,10 +60,6 @@ pub record SpreadsFrom {A : Type 0} (by : Sourced) (s : Session) (stream : List 
   pub sized : 1 ≤ size
   pub answered : AnswerAll by jobs size spread.pieces.items
   pub once : AreEachOnce spread.pieces.items
-
--- the same, where all layers are held
-abbrev pub SpreadsOut : {A : Type 0} → Stacked → Session → List ℕ → RoundPieces A → Type 0
-SpreadsOut stack s stream spread = SpreadsFrom (in_memory stack) s stream spread
 
 -- bytes of pieces are appended in the order of their numbers, and their moves added to balances
 pub record AreAppended {A : Type 0} (pieces : List (Piece A)) (old new : Output) : Type 0 where

@@ -21,6 +21,6 @@ pub use fuse_answer::Served;
 pub use pool::Pool;
 pub use reply_pieces::{Gathered, Piece, RoundPieces, Rounded};
 pub use round_plan::Plan;
-pub use spread::{spread_out, spread_out_from};
+pub use spread::spread_out;
 pub use worker::work;
 pub use workers::round;

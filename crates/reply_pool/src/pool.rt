@@ -1,8 +1,7 @@
 //! The rounds of a serving loop.
 
-ghost use Rattle.std.specs.Prelude.{◌≡◌, ◌≤◌, ◌^◌, [], length, IfOk, IfSome};
+ghost use Rattle.std.specs.Prelude.{◌≡◌, ◌≤◌, ◌^◌, length, IfOk, IfSome};
 ghost use Rattle.serve_loop.specs.declared.limits.TheConstants.{MAX_ROUND_MESSAGES};
-ghost use Rattle.stack_model.specs.Numbers.{nodes};
 ghost use Rattle.lookup_balances.specs.Balances.{AreWithin};
 ghost use Rattle.serve_loop.specs.Rounds.{output, AppendsAnswer};
 ghost use Rattle.reply_pieces.specs.Answers.{answering_from};
@@ -11,13 +10,12 @@ ghost use Rattle.reply_pool.specs.Pools.{SpreadsRounds};
 
 use fuse_answer::{Served, after, answer_and_move};
 use fuse_wire::{Replies, Request};
-use image_bytes::{Contents, InMemory};
+use image_bytes::Contents;
 use reply_model::Session;
 use reply_pieces::Gathered;
 use round_plan::{LookupsAhead, Plan, pass_batch, worth_workers};
 use serve_loop::{AnswersOne, AnswersRounds, RoundEnd, walk};
 use std::alloc::{AllocError, Allocator};
-use table_reader::Table;
 use work_gate::Gate;
 
 /// What answers requests over a table by a plan, and the files of its layers. A gate is passed
@@ -37,25 +35,10 @@ pub struct Pool<'a, A: Allocator, D, G: Gate, F> {
     counted: u64,
 }
 
-impl<'a, A: Allocator, G: Gate, F> Pool<'a, A, InMemory<'a>, G, F> {
-    /// Answers over this table, which holds all data, by this plan, with these workers. Streams
-    /// begin in the session `first`. Balances are kept of all nodes.
-    pub fn new(table: &'a Table<A>, first: Session, plan: Plan, gate: &'a G, workers: F) -> Self
-        ensures table { result.served.table.now ≡ table.now }
-        ensures files { result.served.files.now ≡ [] }
-        ensures first { result.first ≡ first }
-        ensures plan { result.plan ≡ plan }
-        ensures workers { result.workers ≡ workers }
-        ensures counted { result.counted ≡ length (nodes table.now.entries) }
-    {
-        Pool::over(Served::held(table), first, plan, gate, workers, table.len())
-    }
-}
-
 impl<'a, A: Allocator, D: Contents, G: Gate, F> Pool<'a, A, D, G, F> {
-    /// The same over a table and the files of its layers. Balances are kept of so many of the first
-    /// nodes.
-    pub fn over(
+    /// Answers over this table and these files, by this plan, with these workers. Streams begin in
+    /// the session `first`. Balances are kept of so many of the first nodes.
+    pub fn new(
         served: Served<'a, A, D>,
         first: Session,
         plan: Plan,

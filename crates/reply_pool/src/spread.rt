@@ -8,7 +8,7 @@ ghost use Rattle.serve_loop.specs.declared.limits.TheConstants.{MAX_ROUND_MESSAG
 ghost use Rattle.work_gate.specs.declared.limits.TheConstants.{MAX_BATCH};
 ghost use Rattle.fuse_wire.specs.Stream.{IsRest};
 ghost use Rattle.fuse_answer.specs.Puts.{sourced_by};
-ghost use Rattle.reply_pieces.specs.Spread.{AreFirstJobs, SpreadsFrom, SpreadsOut};
+ghost use Rattle.reply_pieces.specs.Spread.{AreFirstJobs, SpreadsFrom};
 
 use crate::workers::answer_batches;
 use fuse_answer::{Served, after};
@@ -20,7 +20,6 @@ use round_plan::Plan;
 use serve_loop::RoundEnd;
 use std::alloc::{AllocError, Allocator};
 use std::thread::Threads;
-use table_reader::Table;
 use work_gate::Gate;
 
 // The first messages of a stream as jobs, and how far they go.
@@ -31,30 +30,9 @@ struct Taken<'a, A: Allocator> {
 }
 
 /// Answers so many of the first messages of a stream, or as many as are whole: 1 to 256 of them, by
-/// workers of a plan, over a table that holds all data. The batches are the plan's, or smaller, so
-/// that there is one for each worker. `AllocError` comes only where memory was refused, in
-/// whichever thread.
-pub fn spread_out<R: Threads + Sync, A: Allocator + Copy + Send + Sync, G: Gate + Sync>(
-    rt: &R,
-    alloc: A,
-    table: &Table<A>,
-    stream: &[u8],
-    session: Session,
-    messages: usize,
-    plan: Plan,
-    gate: &G,
-) -> Result<RoundPieces<A>, AllocError>
-    requires some { 1 ≤ messages }
-    requires few { messages ≤ MAX_ROUND_MESSAGES }
-    requires short { length stream.now ≤ 2 ^ 57 }
-    ensures { IfOk result (λ spread. SpreadsOut table.now session stream.now spread) }
-{
-    let served = Served::held(table);
-    spread_out_from(rt, alloc, served, stream, session, messages, plan, gate)
-}
-
-/// The same over a table and the files of its layers.
-pub fn spread_out_from<
+/// workers of a plan. The batches are the plan's, or smaller, so that there is one for each worker.
+/// `AllocError` comes only where memory was refused, in whichever thread.
+pub fn spread_out<
     R: Threads + Sync,
     A: Allocator + Copy + Send + Sync,
     D: Contents + Sync,

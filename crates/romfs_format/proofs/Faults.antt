@@ -1,12 +1,13 @@
 -- An image has one fault (one_fault): of two that differ in stage, place or number one is named
 -- before the other, and rules with one number are one rule (one_rule). What breaks a rule breaks it
 -- under each profile that asks no less (carried), so what is sound there is sound (sound_too).
-use Rattle.std.proofs.Common.{◌≡◌, ◌∙◌, sym, ap, ℕ, ◌↔◌, inl, inr, true, false, IsTrue, List, [], ◌∷◌, get_or, refl}
-use Rattle.std.proofs.lemmas.Bool.{cases_order, false≢true}
+use Rattle.std.proofs.Common.{◌≡◌, ◌∙◌, sym, ap, ℕ, ◌≤◌, ◌↔◌, inl, inr, true, false, IsTrue, List, [], ◌∷◌, length, get_or, refl}
+use Rattle.std.proofs.lemmas.Bool.{cases_lt, cases_order, false≢true}
 use Rattle.romfs_format.specs.declared.rule.Rule.{Rule}
 use Rattle.romfs_format.specs.declared.rule.Rule.TheVariants.{Short, Magic, FullSize, BadSum, VolumeName, NoRoot, Outside, NameOpen, NameBad, DataOutside, TargetLong, LinkedTwice, SameName, LinkLoop, LinkDirectory, MajorLarge, HeaderSum, TooDeep, Attributes}
 use Rattle.romfs_format.specs.declared.rule.Profile.{Profile}
 use Rattle.romfs_format.specs.declared.rule.Profile.TheVariants.{Usual, Strict, UsualWithAttributes, StrictWithAttributes}
+use Rattle.romfs_format.specs.Fields.{word}
 use Rattle.romfs_format.specs.Profiles.{asks_sums, reads_attributes}
 use Rattle.romfs_format.specs.Trailer.{trailer_at, IsTrailerBroken}
 use Rattle.romfs_format.specs.Rules.{rule_number, stage, Breaks, IsFault, IsSound}
@@ -62,6 +63,13 @@ one_fault profile b r s p q x y =
 -- an image that is sound under a profile has no fault under it
 pub no_fault : (profile : Profile) (b : List ℕ) (r : Rule) (p : ℕ) → IsSound profile b → ¬ IsFault profile b r p
 no_fault profile b r p s f = s.keeps r p f.broken
+
+-- a sound image has its full size
+pub full_size : (profile : Profile) (b : List ℕ) → IsSound profile b → (16 ≤ word b 8) × (word b 8 ≤ length b)
+full_size profile b s = (
+  elim (cases_lt (word b 8) 16) [ inl l ↦ absurd (s.keeps FullSize 8 (inr l, refl)) | inr l ↦ l ],
+  elim (cases_lt (length b) (word b 8)) [ inl l ↦ absurd (s.keeps FullSize 8 (inl l, refl)) | inr l ↦ l ],
+)
 
 -- what breaks a rule of one profile breaks it under another that asks no less of these bytes
 module _ (p q : Profile) (b : List ℕ) (sums : IsTrue (asks_sums p) → IsTrue (asks_sums q))

@@ -1,13 +1,15 @@
--- A symbolic link that a path of a sound image leads to has a short target (short_target): it is a
--- member, or on a member's destination chain (led_to), so it is reached and lies in the image
--- (used_inside), and the rule on targets speaks of it.
-use Rattle.std.proofs.Common.{◌≡◌, ◌≢◌, sym, subst, ℕ, zero, suc, ◌+◌, ◌≤◌, ◌⊎◌, inl, inr, List, [], ◌∷◌, length, arith, refl}
+-- A symbolic link that a path of a sound image leads to has a short target (short_target) and a name
+-- that is ended (named_target): it is a member, or on a member's destination chain (led_to), so it is
+-- reached (used_reached) and lies in the image (used_inside), and the rules on targets and on names
+-- speak of it.
+use Rattle.std.proofs.Common.{◌≡◌, ◌≢◌, ◌∙◌, sym, subst, ℕ, zero, suc, ◌+◌, ◌≤◌, ◌⊎◌, inl, inr, List, [], ◌∷◌, Option, Some, None, length, arith, refl}
+use Rattle.std.specs.Prelude.{IsSome, IsNone}
 use Rattle.std.proofs.lemmas.Bool.{cases_lt}
 use Rattle.romfs_format.specs.declared.head.Kind.TheVariants.{Directory, SymLink}
 use Rattle.romfs_format.specs.declared.rule.Profile.TheVariants.{Usual}
-use Rattle.romfs_format.specs.declared.rule.Rule.TheVariants.{NoRoot, Outside, TargetLong}
+use Rattle.romfs_format.specs.declared.rule.Rule.TheVariants.{NoRoot, Outside, NameOpen, TargetLong}
 use Rattle.romfs_format.specs.declared.limits.TheConstants.{HEAD_SIZE, MAX_TARGET_SIZE}
-use Rattle.romfs_format.specs.Fields.{image, root, IsInside, kind, size}
+use Rattle.romfs_format.specs.Fields.{image, root, IsInside, kind, size, name}
 use Rattle.romfs_format.specs.Chains.{IsAt, IsOpened, IsMember, IsSomeMember, Leads, Has}
 use Rattle.romfs_format.specs.Links.{first_of, next_of, IsHardLink, IsDestination, here, there, IsFinal, stays, follows, IsTarget, IsReached}
 use Rattle.romfs_format.specs.Rules.{IsSound}
@@ -37,6 +39,10 @@ leads_member a (n ∷ path) d h (c, m, e, rest) = elim (leads_member a path c h 
 chain_reached : (a : List ℕ) (d n h : ℕ) → IsOpened a d → IsAt a d n h → IsReached a h
 chain_reached a d zero h o x = inr (inl (first_of d, (o, x)))
 chain_reached a d (suc n) h o x = inr (inl (next_of x.0, (d, record { opened = o; in_chain = (n, x.1) }, x.2)))
+
+some_name : (o : Option (List ℕ)) → ¬ IsNone o → IsSome o
+some_name (Some n) f = refl
+some_name None f = absurd (f refl)
 
 module _ (b : List ℕ) (s : IsSound Usual b) where
   -- what is reached lies in the image
@@ -69,9 +75,12 @@ module _ (b : List ℕ) (s : IsSound Usual b) where
   ]
 
   -- both are reached, and so lie in the image
+  used_reached : (e : ℕ) → IsSomeMember (image b) e ⊎ IsTarget (image b) e → IsReached (image b) e
+  used_reached e (inl m) = chain_reached (image b) m.0 m.1.in_chain.0 e m.1.opened m.1.in_chain.1
+  used_reached e (inr t) = inr (inr t)
+
   used_inside : (e : ℕ) → IsSomeMember (image b) e ⊎ IsTarget (image b) e → IsInside (image b) e
-  used_inside e (inl m) = reached_inside e (chain_reached (image b) m.0 m.1.in_chain.0 e m.1.opened m.1.in_chain.1)
-  used_inside e (inr t) = reached_inside e (inr (inr t))
+  used_inside e u = reached_inside e (used_reached e u)
 
   -- a symbolic link that a path leads to, after hard links, has a target that is not too long
   pub short_target : (path : List (List ℕ)) (h e : ℕ) → Has (image b) path h → IsFinal (image b) h e
@@ -82,3 +91,14 @@ module _ (b : List ℕ) (s : IsSound Usual b) where
         | inl l ↦ absurd (s.keeps TargetLong e ((used_inside e u, u), (k, l)))
         | inr l ↦ l
       ]
+
+  -- and a name that is ended
+  pub named_target : (path : List (List ℕ)) (h e : ℕ) → Has (image b) path h → IsFinal (image b) h e
+      → kind (image b) e ≡ SymLink → IsSome (name (image b) e)
+  named_target path h e x f k =
+      let u = led_to path h e x f (λ i. cc) in
+      some_name (name (image b) e) (λ o. s.keeps NameOpen e (used_reached e u, used_inside e u, no_root, o))
+    where
+      no_root : e ≢ root (image b)
+      no_root q = root_directory (λ d.
+          (let z : SymLink ≡ Directory = sym k ∙ subst (λ y. kind (image b) y ≡ Directory) (sym q) d in cc))

@@ -9,10 +9,11 @@ use Rattle.stack_model.specs.Listing.{Stacked}
 use Rattle.stack_prepare.specs.declared.refusal.Refusal.{Refusal}
 use Rattle.stack_prepare.specs.declared.refusal.Refusal.TheVariants as refusals
 use Rattle.stack_prepare.specs.Layers.{AreRefused}
+use Rattle.stack_prepare.specs.Preparing.{AreStacked}
 use Rattle.reply_model.specs.declared.session.Session.{Session}
 use Rattle.reply_model.specs.Replies.{reply}
 use Rattle.reply_model.specs.Streams.{replies}
-use Rattle.reply_model.specs.Readings.{Sourced, sourced}
+use Rattle.reply_model.specs.Readings.{Sourced, in_memory, sourced}
 use Rattle.reply_model.proofs.Following.{as_defined}
 use Rattle.reply_model.proofs.HeldData.{held_layers_told}
 use Rattle.image_bytes.specs.Sources.{held}
@@ -23,19 +24,14 @@ use Rattle.reply_pool.specs.Answers.{answering, answering_from}
 use Rattle.reply_pool.specs.Spread.{SpreadsFrom}
 use Rattle.reply_pool.specs.declared.RoundPieces.{RoundPieces}
 use Rattle.serve_loop.specs.declared.done.Done.{Done}
-use Rattle.serve_loop.specs.declared.stream_fault.StreamFault.{StreamFault}
-use Rattle.serve_loop.specs.declared.stream_fault.StreamFault.TheVariants.{Turns}
-use Rattle.serve_loop.specs.Serving.{AreRepliesTo, Does, IsRun, Trace}
+use Rattle.serve_loop.specs.Serving.{AreRepliesTo, IsRun, Trace}
 use Rattle.serve_loop.proofs.Ends.{served}
+use Rattle.serve_core.specs.declared.terms.Counted.TheVariants.{AllNodes}
 use Rattle.serve_core.specs.declared.stop.Stop.{Stop}
 use Rattle.serve_core.specs.declared.stop.Stop.TheVariants.{Layer, Layers}
-use Rattle.serve_core.specs.Stops.{IsRefusal, stop_of_fault, stop_of_refusal}
-use Rattle.serve_core.specs.Headline.{Bounds, Call, HasServedAll, HasServedOver, IsAtOnce, IsNotBegun, IsRefusedFor, RunsWithin, ServesBetween}
+use Rattle.serve_core.specs.Stops.{IsRefusal, stop_of_refusal}
+use Rattle.serve_core.specs.Headline.{Call, HasServedAll, HasServedOver, IsAtOnce, IsNotBegun, IsRefusedFor, RunsWithin, ServesBetween, bounds_over}
 use Rattle.serve_core.proofs.Stops.{broken_told, ended_well, many_told, never_broken, never_many, same_stop}
-
--- two results that are faults of a stream are so of one
-pub same_fault : {A : Type 0} {a b : StreamFault} → (let result : Result (Done A) StreamFault = Err a in result ≡ Err b) → a ≡ b
-same_fault e = cc
 
 -- what workers gave back over one stack answers the stream of any other that is the same
 pub spread_answers : {A E : Type 0} (first : Session) (over by : Sourced) (s : Session) (stream : List ℕ) (given : Result (RoundPieces A) E)
@@ -44,18 +40,6 @@ pub spread_answers : {A E : Type 0} (first : Session) (over by : Sourced) (s : S
     × SpreadsFrom x s stream spread)
 spread_answers first over by s stream (Ok spread) same out = (first, over, refl, subst (λ x. SpreadsFrom x s stream spread) (sym same) out)
 spread_answers first over by s stream (Err e) same out = tt
-
--- where the stream of a run was not served to its end, the run tells so
-pub run_stopped : {A : Type 0} (first : Session) (by : Sourced) (within : Bounds) (fault : StreamFault) (result : Result (Done A) Stop)
-    (old new : Devices) → IsErrAnd result (λ said. said ≡ stop_of_fault fault)
-    → Does (λ t. IsRun {A = A} (answering_from first by) within.counted within.turns t (Err fault)) old new
-    → (within.turns ≡ 0 → fault ≡ Turns) → RunsWithin first by within result old new
-run_stopped first by within fault (Ok done) old new e run once = absurd e
-run_stopped first by within fault (Err said) old new e (got, put, took, held, run) once = record {
-  run = (got, put, took, held, record { ended = Err fault; result_is = ap Err e; run = run });
-  end = tt;
-  at_once = λ none. ap Err (e ∙ ap stop_of_fault (once none));
-}
 
 -- where images are refused and no device was called, serving was not begun, and tells why
 pub not_begun : {A : Type 0} (call : Call) (result : Result (Done A) Stop) (stop : Stop) (old : Devices)
@@ -129,3 +113,22 @@ module _ {A : Type 0} (call : Call) where
 
 -- the four of them, for the goals of the laws
 pub ruleset over_images = (served_over, many_refused, broken_refused, at_once)
+
+-- to prepare images and then to run a stream over their table is to serve it over the images
+pub once_run : {A : Type 0} (call : Call) (stack : Stacked) (result : Result (Done A) Stop) (old new : Devices)
+    → AreStacked call.profile call.owner call.images stack
+    → RunsWithin call.first (in_memory stack) (bounds_over call.turns AllNodes (in_memory stack)) result old new
+    → ServesBetween call result old new
+once_run call stack result old new stacked runs = inl (record { stack = stack; stacked = stacked; runs = runs })
+
+-- and to refuse them is not to begin
+pub once_refused : {A : Type 0} (call : Call) (refusal : Refusal) (devices : Devices) → AreRefused call.profile call.images refusal
+    → ServesBetween {A = A} call (Err (stop_of_refusal refusal)) devices devices
+once_refused call refusal devices refused = inr (record {
+  stop = stop_of_refusal refusal;
+  result_is = refl;
+  refused = record { refusal = refusal; stop_is = refl; refused = refused };
+  kept = refl;
+})
+
+pub ruleset run_once_prepared = (once_run, once_refused)

@@ -1,2 +1,3 @@
 pub mod Stops
 pub mod Headline
+pub mod Openings

@@ -18,6 +18,8 @@ use Rattle.serve_loop.specs.declared.done.Done.{Done}
 use Rattle.serve_loop.specs.declared.stream_fault.StreamFault.{StreamFault}
 use Rattle.serve_loop.specs.Serving.{Trace, Does, IsRun}
 use Rattle.serve_loop.specs.Laws.{HasServed}
+use Rattle.serve_core.specs.declared.terms.Counted.{Counted}
+use Rattle.serve_core.specs.declared.terms.Counted.TheVariants.{AllNodes, NoNodes}
 use Rattle.serve_core.specs.declared.stop.Stop.{Stop}
 use Rattle.serve_core.specs.declared.stop.Stop.TheVariants.{Turns}
 use Rattle.serve_core.specs.Stops.{IsRefusal, told}
@@ -37,6 +39,15 @@ bounds turns counted = record { turns = turns; counted = counted }
 -- lookups of all nodes are counted
 abbrev pub counting_all : Sourced → ℕ → Bounds
 counting_all by turns = bounds turns (length (nodes by.stack.entries))
+
+-- of how many of the first nodes lookups are counted
+abbrev pub nodes_counted : Counted → Stacked → ℕ
+nodes_counted AllNodes stack = length (nodes stack.entries)
+nodes_counted NoNodes stack = 0
+
+-- the bounds over a stack, where lookups are counted of these nodes
+abbrev pub bounds_over : ℕ → Counted → Sourced → Bounds
+bounds_over turns counted by = bounds turns (nodes_counted counted by.stack)
 
 -- a stream that begins in this session was served over a stack of layers and the sources of their
 -- data, each message as FUSE has it over the paths that they show, and its end is told

@@ -1,22 +1,28 @@
-//! What serving over images means: each law follows from what [`crate::serve_as`] promises. What
+//! What serving over images means: each law follows from what [`crate::serve_as`] promises, and so
+//! does what is promised of images that are prepared and a stream that is then run over them. What
 //! each end of a stream means say `serve_loop::laws`, and that images are refused for one reason
 //! says `stack_prepare::laws`.
 
 ghost use Rattle.std.specs.Prelude.{◌≡◌, ℕ, List, map, Result, Ok, Err};
 ghost use Rattle.devices.specs.States.{Devices};
 ghost use Rattle.romfs_format.specs.declared.rule.ImageFault.{ImageFault};
+ghost use Rattle.stack_prepare.specs.declared.refusal.Refusal.{Refusal};
 ghost use Rattle.stack_prepare.specs.declared.refusal.Refusal.TheVariants as refusals;
+ghost use Rattle.stack_prepare.specs.Layers.{AreRefused};
+ghost use Rattle.stack_prepare.specs.Preparing.{AreStacked};
 ghost use Rattle.serve_loop.specs.declared.done.Done.{Done};
 ghost use Rattle.serve_loop.specs.Serving.{AreRepliesTo};
 ghost use Rattle.stack_model.specs.Listing.{Stacked};
 ghost use Rattle.reply_model.specs.declared.session.Session.{Session};
 ghost use Rattle.image_bytes.specs.Sources.{held};
-ghost use Rattle.reply_model.specs.Readings.{sourced};
+ghost use Rattle.reply_model.specs.Readings.{in_memory, sourced};
 ghost use Rattle.reply_model.specs.Streams.{replies};
 ghost use Rattle.reply_pool.specs.Answers.{answering, answering_from};
 ghost use Rattle.serve_core.specs.declared.stop.Stop.{Stop};
 ghost use Rattle.serve_core.specs.declared.stop.Stop.TheVariants.{Layer, Layers};
-ghost use Rattle.serve_core.specs.Headline.{Call, ServesBetween, HasServedAll, IsRefusedFor, IsAtOnce};
+ghost use Rattle.serve_core.specs.declared.terms.Counted.TheVariants.{AllNodes};
+ghost use Rattle.serve_core.specs.Stops.{stop_of_refusal};
+ghost use Rattle.serve_core.specs.Headline.{Call, ServesBetween, HasServedAll, IsRefusedFor, IsAtOnce, RunsWithin, bounds_over};
 
 use std::alloc::Allocator;
 
@@ -52,4 +58,18 @@ pub fn streams_are_served_over_images<A: Allocator>()
         IsRefusedFor call (refusals.Layer n f) old new }
     ensures at_once { (call : Call) (result : Result (Done A) Stop) (old new : Devices) →
         call.turns ≡ 0 → ServesBetween call result old new → IsAtOnce call result }
+{}
+
+/// To prepare images of any owner, and then to run a stream over their table with lookups of all
+/// nodes counted, is to serve it over the images: as where the program holds them whole.
+#[tactic(auto, using(crate::proofs::Headline::run_once_prepared))]
+pub fn streams_are_served_once_images_are_prepared<A: Allocator>()
+    ensures run { (call : Call) (stack : Stacked) (result : Result (Done A) Stop)
+        (old new : Devices) → AreStacked call.profile call.owner call.images stack →
+        RunsWithin call.first (in_memory stack)
+        (bounds_over call.turns AllNodes (in_memory stack)) result old new →
+        ServesBetween call result old new }
+    ensures refused { (call : Call) (refusal : Refusal) (devices : Devices) →
+        AreRefused call.profile call.images refusal →
+        ServesBetween {A = A} call (Err (stop_of_refusal refusal)) devices devices }
 {}

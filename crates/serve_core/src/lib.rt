@@ -4,12 +4,13 @@
 //! serves a stream over their table (`serve_loop`, `reply_pool`); [`serve`] is [`prepare`], then
 //! [`run`]. For every list of images, request stream, cutting of its pulls and [`Terms`], the bytes
 //! that are put are the definition's replies, one after another; or the images are refused, and no
-//! device is called. [`run_from`] serves over a table and the files of its layers: the data of a
-//! READ are then such as its layer's file may give, or the reply is EIO's. [`run_counting`] is
-//! that, and counts lookups of some nodes alone, or of none, as the program does. `_as` takes a
-//! profile of rules, and `_owned` an owner besides, of all that has no row of attributes. What
-//! serving promises at each end is said by `IsRun` in `serve_loop`'s `specs/Serving`, and over
-//! images by `ServesBetween` in `specs/Headline`; [`laws`] draw from it what each end means.
+//! device is called. `_as` takes a profile of rules. [`run_from`] serves over a table and the files
+//! of its layers, as the program does: the data of a READ are then such as its layer's file may
+//! give, or the reply is EIO's. [`run_until`] is the one call below these, which may end as the
+//! session begins. What serving promises at each end is said by `IsRun` in `serve_loop`'s
+//! `specs/Serving`, and over images by `ServesBetween` in `specs/Headline`; [`laws`] draw from it
+//! what each end means, also of what the program calls: images that are prepared and a stream that
+//! is then run over them.
 //! [`Stop`] joins what the two halves tell: why images were refused, and why a stream was not
 //! served to its end.
 #![tactic(auto)]
@@ -19,16 +20,18 @@ mod preparing;
 mod running;
 mod serving;
 pub mod stop;
+mod terms;
 
 pub use devices::limits::MAX_TURNS;
 pub use devices::{Failed, Sink, Source, Spout, Tap};
-pub use preparing::{prepare, prepare_as, prepare_owned};
+pub use preparing::{prepare, prepare_as};
 pub use reply_model::Session;
 pub use reply_pool::{Plan, Served};
 pub use romfs_format::Profile;
-pub use running::{Terms, run, run_counting, run_from};
-pub use serve_loop::Done;
-pub use serving::{serve, serve_as, serve_owned};
-pub use stack_prepare::{Owner, SharedAllocator};
+pub use running::{run, run_from, run_until};
+pub use serve_loop::{Begun, Done, Opening, Until};
+pub use serving::{serve, serve_as};
+pub use stack_prepare::SharedAllocator;
 pub use stop::Stop;
+pub use terms::{Counted, Terms};
 pub use work_gate::{FreePass, Gate, Work};

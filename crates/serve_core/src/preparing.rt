@@ -8,7 +8,7 @@ ghost use Rattle.serve_core.specs.Stops.{IsRefusal};
 
 use crate::stop::Stop;
 use romfs_format::Profile;
-use stack_prepare::{Owner, SharedAllocator, Table};
+use stack_prepare::{SharedAllocator, Table};
 use std::thread::Threads;
 use work_gate::Gate;
 
@@ -43,21 +43,5 @@ pub fn prepare_as<R: Threads + Sync, A: SharedAllocator, G: Gate + Sync>(
     ensures err { IfErr result (IsRefusal profile (contents_of images)) }
     ensures whole { IfOk result (λ table. table.whole ≡ true) }
 {
-    prepare_owned(rt, alloc, images, profile, Owner::ROOT, gate)
-}
-
-/// The same, where all that has no row of attributes belongs to an owner.
-pub fn prepare_owned<R: Threads + Sync, A: SharedAllocator, G: Gate + Sync>(
-    rt: &R,
-    alloc: A,
-    images: Vec<Vec<u8, A>, A>,
-    profile: Profile,
-    owner: Owner,
-    gate: &G,
-) -> Result<Table<A>, Stop>
-    ensures ok { IfOk result (AreStacked profile owner (contents_of images)) }
-    ensures err { IfErr result (IsRefusal profile (contents_of images)) }
-    ensures whole { IfOk result (λ table. table.whole ≡ true) }
-{
-    Ok(stack_prepare::prepare_owned(rt, alloc, images, profile, owner, gate)?)
+    Ok(stack_prepare::prepare_as(rt, alloc, images, profile, gate)?)
 }

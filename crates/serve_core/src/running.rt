@@ -1,43 +1,31 @@
 //! Streams over a table.
 
-ghost use Rattle.std.specs.Prelude.{IfOk};
+ghost use Rattle.std.specs.Prelude.{◌≡◌, true, IfOk};
 ghost use Rattle.std.specs.Thread.{IsSync};
 ghost use denote.Param.Send.{IsSend, Frees};
 ghost use Rattle.devices.specs.States.{devices};
 ghost use Rattle.fuse_answer.specs.Puts.{sourced_by};
 ghost use Rattle.reply_pool.specs.Spread.{IsSpreadable, SpreadsFrom};
 ghost use Rattle.serve_loop.specs.Serving.{AreReady};
-ghost use Rattle.serve_core.specs.Headline.{RunsBetween, RunsWithin, bounds, counting_all};
+ghost use Rattle.serve_core.specs.Headline.{RunsBetween, RunsWithin, bounds_over};
+ghost use Rattle.serve_core.specs.Openings.{RunsUntil};
 
 use crate::stop::Stop;
+use crate::terms::{Counted, Terms, nodes_counted};
 use devices::{Sink, Source};
 use image_bytes::Contents;
 use reply_model::Session;
-use reply_pool::{Plan, Pool, RoundPieces, Served, spread_out_from};
-use serve_loop::{Done, run_by};
+use reply_pool::{Pool, RoundPieces, Served, spread_out};
+use serve_loop::{Done, Opening, Until};
 use stack_prepare::{SharedAllocator, Table};
 use std::alloc::AllocError;
 use std::thread::Threads;
 use work_gate::Gate;
 
-/// On which terms a stream is served.
-#[derive(Drop)]
-pub struct Terms<'a, G> {
-    /// The session that the stream begins in: in [`Session::LastingFresh`] one whose client is told
-    /// that the tree never changes.
-    pub first: Session,
-    /// How many workers answer a round, and in which batches.
-    pub plan: Plan,
-    /// How many pulls of the source there are at most.
-    pub turns: u64,
-    /// What is passed before the first request of each batch is answered, and before each image is
-    /// checked and stacked.
-    pub gate: &'a G,
-}
-
-/// Serves the source's stream of requests over a table into the sink, in at most as many pulls as
-/// its terms allow, of at most 65,536 bytes each. The bytes put are the replies to the stream, for
-/// every plan and however it is cut into pulls.
+/// Serves the source's stream of requests over a table of images that are held whole into the sink,
+/// in at most as many pulls as its terms allow, of at most 65,536 bytes each. The bytes put are the
+/// replies to the stream, for every plan and however it is cut into pulls. Lookups of all nodes are
+/// counted.
 ///
 /// - `Ok`: the stream came to its end between two messages: nothing is left of it, and all replies
 ///   are written and flushed.
@@ -56,7 +44,10 @@ pub fn run<R: Threads + Sync, A: SharedAllocator, S: Source, K: Sink, G: Gate + 
     sink: &mut K,
     terms: &Terms<'_, G>,
 ) -> Result<Done<A>, Stop>
-    requires { AreReady terms.now.turns (devices (S.state source.old) (K.state sink.old)) }
+    requires devices { AreReady terms.now.turns
+        (devices (S.state source.old) (K.state sink.old)) }
+    requires whole { table.now.whole ≡ true }
+    requires counted { terms.now.counted ≡ Counted.AllNodes }
     ensures { RunsBetween terms.now.first table.now terms.now.turns result
         (devices (S.state source.old) (K.state sink.old))
         (devices (S.state source.new) (K.state sink.new)) }
@@ -64,9 +55,9 @@ pub fn run<R: Threads + Sync, A: SharedAllocator, S: Source, K: Sink, G: Gate + 
     run_from(rt, alloc, Served::held(table), source, sink, terms)
 }
 
-/// The same over a table and the files of its layers. Data that stay in a file are read when they
-/// are asked for: a READ is told what the file gave then, or EIO where a read failed or the file
-/// ended before. All else is told as [`run`] tells it.
+/// The same over a table and the files of its layers, with lookups counted as the terms say. Data
+/// that stay in a file are read when they are asked for: a READ is told what the file gave then, or
+/// EIO where a read failed or the file ended before. All else is told as [`run`] tells it.
 pub fn run_from<
     R: Threads + Sync,
     A: SharedAllocator,
@@ -83,17 +74,22 @@ pub fn run_from<
     terms: &Terms<'_, G>,
 ) -> Result<Done<A>, Stop>
     requires { AreReady terms.now.turns (devices (S.state source.old) (K.state sink.old)) }
-    ensures { RunsWithin terms.now.first (sourced_by D.source served.entry)
-        (counting_all (sourced_by D.source served.entry) terms.now.turns) result
+    ensures { let by = sourced_by D.source served.entry in
+        RunsWithin terms.now.first by (bounds_over terms.now.turns terms.now.counted by) result
         (devices (S.state source.old) (K.state sink.old))
         (devices (S.state source.new) (K.state sink.new)) }
 {
-    run_counting(rt, alloc, served, source, sink, terms, served.table.len())
+    match run_until(rt, alloc, served, source, sink, terms, Until::End) {
+        Ok(Opening::Ended(done)) => Ok(done),
+        // a stream that is served to its end is not left as its session begins
+        Ok(Opening::Begun(_)) => unreachable!(),
+        Err(stop) => Err(stop),
+    }
 }
 
-/// The same, where lookups are counted of so many of the first nodes alone: with 0 of none, and
-/// no memory is taken for their balances.
-pub fn run_counting<
+/// The same to the stream's end, or only until its session has begun and no part of a message is
+/// left: what that comes to says [`serve_loop::run_until`].
+pub fn run_until<
     R: Threads + Sync,
     A: SharedAllocator,
     D: Contents + Sync,
@@ -107,11 +103,11 @@ pub fn run_counting<
     source: &mut S,
     sink: &mut K,
     terms: &Terms<'_, G>,
-    counted: u64,
-) -> Result<Done<A>, Stop>
+    until: Until,
+) -> Result<Opening<A>, Stop>
     requires { AreReady terms.now.turns (devices (S.state source.old) (K.state sink.old)) }
-    ensures { RunsWithin terms.now.first (sourced_by D.source served.entry)
-        (bounds terms.now.turns counted) result
+    ensures { let by = sourced_by D.source served.entry in RunsUntil until
+        terms.now.first by (bounds_over terms.now.turns terms.now.counted by) result
         (devices (S.state source.old) (K.state sink.old))
         (devices (S.state source.new) (K.state sink.new)) }
 {
@@ -124,7 +120,8 @@ pub fn run_counting<
             × IsSync A.row × IsSend A.row × Frees A.Allocator A.dealloc_token }
         ensures { IfOk result (λ spread.
             SpreadsFrom (sourced_by D.source served.entry) session stream.now spread) }
-    { spread_out_from(rt, alloc, served, stream, session, messages, plan, gate) };
-    let pool = Pool::over(served, terms.first, plan, gate, workers, counted);
-    Ok(run_by(alloc, &pool, source, sink, terms.turns)?)
+    { spread_out(rt, alloc, served, stream, session, messages, plan, gate) };
+    let counted = nodes_counted(terms.counted, served.table);
+    let pool = Pool::new(served, terms.first, plan, gate, workers, counted);
+    Ok(serve_loop::run_until(alloc, &pool, source, sink, terms.turns, until)?)
 }

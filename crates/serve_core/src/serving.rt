@@ -1,17 +1,19 @@
 //! Streams over images.
 
+ghost use Rattle.std.specs.Prelude.{◌≡◌};
 ghost use Rattle.devices.specs.States.{devices};
 ghost use Rattle.stack_prepare.specs.Layers.{contents_of};
 ghost use Rattle.serve_loop.specs.Serving.{AreReady};
-ghost use Rattle.serve_core.specs.Headline.{call, owned_call, ServesBetween};
+ghost use Rattle.serve_core.specs.Headline.{call, ServesBetween};
 
-use crate::preparing::prepare_owned;
-use crate::running::{Terms, run};
+use crate::preparing::prepare_as;
+use crate::running::run;
 use crate::stop::Stop;
+use crate::terms::{Counted, Terms};
 use devices::{Sink, Source};
 use romfs_format::Profile;
 use serve_loop::Done;
-use stack_prepare::{Owner, SharedAllocator};
+use stack_prepare::SharedAllocator;
 use std::thread::Threads;
 use work_gate::Gate;
 
@@ -29,7 +31,9 @@ pub fn serve<R: Threads + Sync, A: SharedAllocator, S: Source, K: Sink, G: Gate 
     sink: &mut K,
     terms: &Terms<'_, G>,
 ) -> Result<Done<A>, Stop>
-    requires { AreReady terms.now.turns (devices (S.state source.old) (K.state sink.old)) }
+    requires devices { AreReady terms.now.turns
+        (devices (S.state source.old) (K.state sink.old)) }
+    requires counted { terms.now.counted ≡ Counted.AllNodes }
     ensures { ServesBetween
         (call Profile.Usual (contents_of images) terms.now.first terms.now.turns) result
         (devices (S.state source.old) (K.state sink.old))
@@ -48,32 +52,14 @@ pub fn serve_as<R: Threads + Sync, A: SharedAllocator, S: Source, K: Sink, G: Ga
     sink: &mut K,
     terms: &Terms<'_, G>,
 ) -> Result<Done<A>, Stop>
-    requires { AreReady terms.now.turns (devices (S.state source.old) (K.state sink.old)) }
+    requires devices { AreReady terms.now.turns
+        (devices (S.state source.old) (K.state sink.old)) }
+    requires counted { terms.now.counted ≡ Counted.AllNodes }
     ensures { ServesBetween (call profile (contents_of images) terms.now.first terms.now.turns)
         result
         (devices (S.state source.old) (K.state sink.old))
         (devices (S.state source.new) (K.state sink.new)) }
 {
-    serve_owned(rt, alloc, images, profile, Owner::ROOT, source, sink, terms)
-}
-
-/// The same, where all that has no row of attributes belongs to an owner.
-pub fn serve_owned<R: Threads + Sync, A: SharedAllocator, S: Source, K: Sink, G: Gate + Sync>(
-    rt: &R,
-    alloc: A,
-    images: Vec<Vec<u8, A>, A>,
-    profile: Profile,
-    owner: Owner,
-    source: &mut S,
-    sink: &mut K,
-    terms: &Terms<'_, G>,
-) -> Result<Done<A>, Stop>
-    requires { AreReady terms.now.turns (devices (S.state source.old) (K.state sink.old)) }
-    ensures { ServesBetween
-        (owned_call profile owner (contents_of images) terms.now.first terms.now.turns) result
-        (devices (S.state source.old) (K.state sink.old))
-        (devices (S.state source.new) (K.state sink.new)) }
-{
-    let table = prepare_owned(rt, alloc, images, profile, owner, terms.gate)?;
+    let table = prepare_as(rt, alloc, images, profile, terms.gate)?;
     run(rt, alloc, &table, source, sink, terms)
 }

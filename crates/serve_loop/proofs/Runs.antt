@@ -1,7 +1,7 @@
 -- A stream served turn by turn. What holds before a turn (`IsRunning`) holds before the next: a
 -- pull gives bytes (`fed`), and what is whole is answered (`went_round`). Each other lemma is an
 -- end of the run, and says that it keeps the one promise (`IsRun`).
-use Rattle.std.proofs.Common.{◌≡◌, ◌∙◌, sym, ap, subst, ℕ, ◌+◌, ◌^◌, ◌<◌, ◌≤◌, inl, inr, ℤ, List, [], ◌++◌, length, refl, arith, length-append, append_assoc, append-nil, Result, Ok, Err, Some, IsErrAnd}
+use Rattle.std.proofs.Common.{◌≡◌, ◌∙◌, sym, ap, subst, ℕ, ◌+◌, ◌^◌, ◌<◌, ◌≤◌, inl, inr, ℤ, List, [], ◌++◌, length, refl, arith, length-append, append_assoc, append-nil, Result, Ok, Err, Some}
 use Rattle.devices.specs.declared.limits.TheConstants.{PULL_SIZE}
 use Rattle.fuse_wire.specs.Stream.{IsBad, IsOpen, IsRest, IsSplit}
 use Rattle.fuse_wire.proofs.Splits.{some_split}
@@ -402,10 +402,3 @@ small_fed by nodes turn t v rest ms f s h = record {
   nodes_are = s.nodes_are;
   balanced = s.balanced;
 }
-
--- a run that fails with `Memory` keeps the promise if that end does
-pub run_memory : {A : Type 0} (by : Answering) (nodes turns : ℕ) (t : Trace) (r : Result (Done A) StreamFault)
-    → IsErrAnd r (λ fault. fault ≡ Memory)
-    → IsRun {A = A} by nodes turns t (Err Memory) → IsRun by nodes turns t r
-run_memory by nodes turns t (Ok done) i p = absurd i
-run_memory {A} by nodes turns t (Err fault) i p = subst (λ (s : StreamFault). IsRun {A = A} by nodes turns t (Err s)) (sym i) p

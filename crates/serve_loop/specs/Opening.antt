@@ -1,4 +1,4 @@
--- What serving a stream until its session has begun promises.
+-- What serving a stream to its end, or until its session has begun, promises.
 use Rattle.std.specs.Prelude.{◌≡◌, ℕ, ◌<◌, List, [], length, map, true, false, Result, Ok, Err}
 use Rattle.fuse_wire.specs.Stream.{IsSplit}
 use Rattle.fuse_wire.specs.Requests.{asked}
@@ -11,6 +11,8 @@ use Rattle.serve_loop.specs.declared.done.Done.{Done}
 use Rattle.serve_loop.specs.declared.opening.Begun.{Begun}
 use Rattle.serve_loop.specs.declared.opening.Opening.{Opening}
 use Rattle.serve_loop.specs.declared.opening.Opening.TheVariants as openings
+use Rattle.serve_loop.specs.declared.opening.Until.{Until}
+use Rattle.serve_loop.specs.declared.opening.Until.TheVariants as wanted
 use Rattle.serve_loop.specs.declared.stream_fault.StreamFault.{StreamFault}
 use Rattle.serve_loop.specs.declared.stream_fault.StreamFault.TheVariants.{Read, Turns}
 
@@ -58,3 +60,21 @@ abbrev pub IsOpened : {A : Type 0} → Answering → ℕ → ℕ → Trace → R
 IsOpened by nodes turns t (Ok (openings.Begun begun)) = HasBegun by nodes turns t begun
 IsOpened by nodes turns t (Ok (openings.Ended done)) = IsNotOpened by nodes turns t (Ok done)
 IsOpened {A} by nodes turns t (Err fault) = IsNotOpened {A = A} by nodes turns t (Err fault)
+
+-- a stream was served to its end, or until it stopped
+abbrev pub IsRunToEnd : {A : Type 0} → Answering → ℕ → ℕ → Trace → Result (Opening A) StreamFault
+    → Type 0
+IsRunToEnd by nodes turns t (Ok (openings.Begun begun)) = ⊥
+IsRunToEnd by nodes turns t (Ok (openings.Ended done)) = IsRun by nodes turns t (Ok done)
+IsRunToEnd {A} by nodes turns t (Err fault) = IsRun {A = A} by nodes turns t (Err fault)
+
+-- a stream was served as far as it was to be
+abbrev pub IsServedUntil : {A : Type 0} → Until → Answering → ℕ → ℕ → Trace
+    → Result (Opening A) StreamFault → Type 0
+IsServedUntil wanted.End by nodes turns t result = IsRunToEnd by nodes turns t result
+IsServedUntil wanted.Begun by nodes turns t result = IsOpened by nodes turns t result
+
+-- this holds where a stream came to its end
+abbrev pub OnEnded : {A E : Type 0} → Result (Opening A) E → Type 0 → Type 0
+OnEnded (Ok (openings.Ended done)) it = it
+OnEnded _ it = Unit {0}

@@ -1,4 +1,4 @@
-//! What a served stream means, end by end: each law follows from what [`crate::run_by`] promises.
+//! What a served stream means, end by end: each law follows from what [`crate::run_until`] promises.
 
 ghost use Rattle.std.specs.Prelude.{◌≡◌, ◌↔◌, ◌+◌, ℕ, ℤ, true, List, Result, Ok, Err};
 ghost use Rattle.fuse_wire.specs.Stream.{IsSplit};

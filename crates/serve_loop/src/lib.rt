@@ -1,11 +1,12 @@
 //! The serving loop: a stream of FUSE requests from a source to a sink, whatever answers them.
 //!
-//! [`run_by`] answers what is whole in its buffer, in rounds ([`AnswersRounds`], or [`AnswersOne`]
-//! message by message), each round's replies pushed and flushed before the next; where no whole
-//! message is left it makes one pull. So a client that waits for a reply before it asks again is
-//! served. [`open_by`] serves so until a session has begun. What `run_by` promises at each end is
-//! said once, by `IsRun` in `specs/Serving`; [`laws`] draw from it what each end means, and
-//! [`StreamFault`] names those at which the stream was not served to its end. The loop knows how
+//! [`run_until`] answers what is whole in its buffer, in rounds ([`AnswersRounds`], or
+//! [`AnswersOne`] message by message), each round's replies pushed and flushed before the next;
+//! where no whole message is left it makes one pull. So a client that waits for a reply before it
+//! asks again is served. [`Until`] says whether a stream is served to its end or until its session
+//! has begun. What is promised at each end is said once, by `IsRun` in `specs/Serving`; [`laws`]
+//! draw from it what each end means, and [`StreamFault`] names those at which the stream was not
+//! served to its end. The loop knows how
 //! messages are framed and that a session goes from request to request, but no image and no node.
 //! It takes memory for the balances, one number of 128 bits a node, for a buffer of one message and
 //! two pulls, and for a round's replies: each of the latter two grows up to about 1.25 MiB,
@@ -30,6 +31,6 @@ pub use done::Done;
 pub use one_message::AnswersOne;
 pub use one_round::{AnswersRounds, RoundEnd};
 pub use one_thread::walk;
-pub use opening::{Begun, Opening, open_by};
-pub use running::run_by;
+pub use opening::{Begun, Opening, Until};
+pub use running::run_until;
 pub use stream_fault::StreamFault;

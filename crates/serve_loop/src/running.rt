@@ -1,14 +1,15 @@
-//! A stream, served to its end.
+//! A stream, served to its end or until its session has begun.
 
-ghost use Rattle.std.specs.Prelude.{◌≡◌, Err, MatchOption, OnOk};
+ghost use Rattle.std.specs.Prelude.{◌≡◌, Err, MatchOption};
 ghost use Rattle.std.specs.Io.KnownBytes.{IsAtEnd};
 ghost use Rattle.devices.specs.States.{devices};
 ghost use Rattle.fuse_wire.specs.Stream.{IsRest, IsBad, IsOpen};
 ghost use Rattle.serve_loop.specs.declared.stream_fault.StreamFault.TheVariants.{Turns};
-ghost use Rattle.serve_loop.specs.Serving.{AreReady, Does, IsRun};
+ghost use Rattle.serve_loop.specs.Serving.{AreReady, Does};
+ghost use Rattle.serve_loop.specs.Opening.{IsServedUntil, OnEnded};
 
-use crate::done::Done;
 use crate::one_round::AnswersRounds;
+use crate::opening::{Opening, Until, as_begun, is_reached};
 use crate::progress::Progress;
 use crate::rounds_on::answer_all;
 use crate::stream_fault::StreamFault;
@@ -17,10 +18,14 @@ use fuse_wire::{Framed, frame};
 use std::alloc::Allocator;
 
 /// Serves the source's stream of requests into the sink, in at most `turns` pulls of at most 65,536
-/// bytes each. The stream begins in the session that `answers` names.
+/// bytes each. The stream begins in the session that `answers` names. It is served to its end, or
+/// only until its session has begun and no part of a message is left: after the pull that brought
+/// INIT, where each pull brings one message.
 ///
-/// - `Ok`: the stream came to its end between two messages, and all replies are written and
-///   flushed.
+/// - `Ended`: the stream came to its end between two messages, and all replies are written and
+///   flushed. No session had begun where that was to end it.
+/// - `Begun`: the session has begun, and had not before the last pull. All that was got is
+///   answered, the replies are flushed, and neither device failed or met its end.
 /// - `BadLength`, `CutOff`, `Read` and `Turns`: all replies to the whole messages that came are
 ///   written and flushed.
 /// - `Write` and `Memory`: some of the first replies are written.
@@ -28,19 +33,21 @@ use std::alloc::Allocator;
 /// `Read` and `Write` come exactly where the source's or the sink's count of failures rose in this
 /// call. No pull follows an end, a bad length or a failure, and no device is called after memory
 /// was refused. With no turns it answers `Turns` at once.
-pub fn run_by<T: AnswersRounds, S: Source, K: Sink, A: Allocator + Copy>(
+pub fn run_until<T: AnswersRounds, S: Source, K: Sink, A: Allocator + Copy>(
     alloc: A,
     answers: &T,
     source: &mut S,
     sink: &mut K,
     turns: u64,
-) -> Result<Done<A>, StreamFault>
+    until: Until,
+) -> Result<Opening<A>, StreamFault>
     requires ready { T.ready answers.now }
     requires devices { AreReady turns (devices (S.state source.old) (K.state sink.old)) }
-    ensures run { Does (λ t. IsRun (T.answering answers.now) (T.nodes answers.now) turns t result)
+    ensures run { Does (λ t. IsServedUntil until
+        (T.answering answers.now) (T.nodes answers.now) turns t result)
         (devices (S.state source.old) (K.state sink.old))
         (devices (S.state source.new) (K.state sink.new)) }
-    ensures end { OnOk result (IsAtEnd (S.state source.new).left) }
+    ensures end { OnEnded result (IsAtEnd (S.state source.new).left) }
     ensures at_once { turns ≡ 0 → result ≡ Err Turns }
 {
     if turns == 0 {
@@ -55,7 +62,7 @@ pub fn run_by<T: AnswersRounds, S: Source, K: Sink, A: Allocator + Copy>(
         };
         if got == 0 {
             if progress.buffer.rest().is_empty() {
-                return Ok(progress.done());
+                return Ok(Opening::Ended(progress.done()));
             }
             return Err(StreamFault::CutOff { at: progress.at });
         }
@@ -70,12 +77,15 @@ pub fn run_by<T: AnswersRounds, S: Source, K: Sink, A: Allocator + Copy>(
                 len,
             });
         }
+        if is_reached(until, &progress) {
+            return Ok(Opening::Begun(as_begun(progress)));
+        }
     }
     Err(StreamFault::Turns)
 }
 
 // The length that the next message says, where no message has it, of bytes in which none is whole.
-pub(crate) fn bad_length(rest: &[u8]) -> Option<u32>
+fn bad_length(rest: &[u8]) -> Option<u32>
     requires { IsRest rest.now }
     ensures { MatchOption result (IsOpen rest.now) (λ n. IsBad rest.now n) }
 {

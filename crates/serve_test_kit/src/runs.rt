@@ -1,5 +1,7 @@
 //! Runs of streams over tables and images, and what they came to.
 
+ghost use Rattle.std.specs.Prelude.{◌≡◌, true, IfSome};
+
 use crate::calls::Calls;
 use crate::reader::Pieces;
 use crate::writer::Taker;
@@ -7,7 +9,7 @@ use devices::{Spout, Tap};
 use image_bytes::Contents;
 use reply_pool::Plan;
 use romfs_format::Profile;
-use serve_core::{Done, Served, Session, Stop, Terms, prepare, run, run_from, serve_as};
+use serve_core::{Counted, Done, Served, Session, Stop, Terms, prepare, run, run_from, serve_as};
 use stack_core::{FreePass, Gate};
 use std::alloc::{AllocError, Allocator, Global};
 use std::thread::Threads;
@@ -166,7 +168,9 @@ pub fn table_of<R: Threads + Sync, A: Allocator + Copy + Send + Sync>(
     rt: &R,
     alloc: A,
     images: Vec<Vec<u8, A>, A>,
-) -> Option<Table<A>> {
+) -> Option<Table<A>>
+    ensures { IfSome result (λ table. table.whole ≡ true) }
+{
     prepare(rt, alloc, images, &FreePass).ok()
 }
 
@@ -174,7 +178,9 @@ pub fn table_of<R: Threads + Sync, A: Allocator + Copy + Send + Sync>(
 pub fn sample_table<R: Threads + Sync, A: Allocator + Copy + Send + Sync>(
     rt: &R,
     alloc: A,
-) -> Option<Table<A>> {
+) -> Option<Table<A>>
+    ensures { IfSome result (λ table. table.whole ≡ true) }
+{
     table_of(rt, alloc, samples(alloc, 1)?)
 }
 
@@ -182,7 +188,9 @@ pub fn sample_table<R: Threads + Sync, A: Allocator + Copy + Send + Sync>(
 pub fn long_table<R: Threads + Sync, A: Allocator + Copy + Send + Sync>(
     rt: &R,
     alloc: A,
-) -> Option<Table<A>> {
+) -> Option<Table<A>>
+    ensures { IfSome result (λ table. table.whole ≡ true) }
+{
     table_of(rt, alloc, alone(alloc, image(alloc).ok()?).ok()?)
 }
 
@@ -196,7 +204,9 @@ pub fn ran<R: Threads + Sync, A: Allocator + Copy + Send + Sync, G: Gate + Sync>
     row: Run,
     watched: Watched<'_>,
     gate: &G,
-) -> Option<Finished<A>> {
+) -> Option<Finished<A>>
+    requires { table.now.whole ≡ true }
+{
     let plan = Plan::new(row.plan.0, row.plan.1)?;
     let mut pieces = pieces_of(stream, row, watched);
     let mut taker = taker_of(global, row, watched);
@@ -204,6 +214,7 @@ pub fn ran<R: Threads + Sync, A: Allocator + Copy + Send + Sync, G: Gate + Sync>
         first: Session::Fresh,
         plan,
         turns: u64::from(row.turns),
+        counted: Counted::AllNodes,
         gate,
     };
     let mut tap = Tap::new(&mut pieces);
@@ -228,6 +239,7 @@ pub fn ran_from<R: Threads + Sync, D: Contents + Sync>(
         first: Session::Fresh,
         plan,
         turns: u64::from(TURNS),
+        counted: Counted::AllNodes,
         gate: &FreePass,
     };
     let mut tap = Tap::new(&mut pieces);
@@ -247,7 +259,9 @@ pub fn run_over<R: Threads + Sync, A: Allocator + Copy + Send + Sync>(
     streams: (&[u8], &[u8]),
     row: Run,
     watched: Watched<'_>,
-) -> Option<Seen> {
+) -> Option<Seen>
+    requires { table.now.whole ≡ true }
+{
     let (stream, replies) = streams;
     let ran = ran(rt, global, alloc, table, stream, row, watched, &FreePass)?;
     Some(ran.seen(replies))
@@ -295,6 +309,7 @@ pub fn serve_of<R: Threads + Sync, A: Allocator + Copy + Send + Sync>(
         first,
         plan,
         turns: u64::from(row.turns),
+        counted: Counted::AllNodes,
         gate: &FreePass,
     };
     let done = serve_as(rt, alloc, images, profile, &mut tap, &mut spout, &terms);

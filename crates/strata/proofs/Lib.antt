@@ -13,3 +13,4 @@ pub mod Statuses
 pub mod Mounts
 pub mod Blames
 pub mod Told
+pub mod OverFiles

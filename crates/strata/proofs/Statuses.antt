@@ -26,6 +26,7 @@ use Rattle.strata.specs.declared.faults.Fault.{Fault}
 use Rattle.strata.specs.declared.faults.Fault.TheVariants.{ImageFile, RequestsFile, RepliesFile, BalancesFile, Bind, Accept, Broken, InSession, Stopped}
 use Rattle.strata.specs.Faults.{status_of, stop_status, out_of_memory, line_told_of}
 use Rattle.strata.specs.Images.{profile_of}
+use Rattle.serve_core.specs.Headline.{nodes_counted}
 use Rattle.strata.specs.Ending.{counted_of, first_of, IsStoppedOver, IsDone, EndsInFault, EndsWith, IsOver, IsOverWith, IsRunOf}
 use Rattle.strata.specs.Laws.{AreBad, AreToBlame}
 use Rattle.strata.specs.Sessions.{IsSession, status_at}
@@ -166,7 +167,7 @@ work_bad A verbs.Serve line images fault old new s e =
       ]
       | inr (inl r) ↦ refused_bad (profile_of line) images r.0.refusal r.0.refused
           (three_of fault (Stopped (stop_of_refusal r.0.refusal)) r.0.told e)
-      | inr (inr (inl p)) ↦ absurd (session_less (first_of line) p.by (counted_of line p.by) p.trace p.stop p.serving.session
+      | inr (inr (inl p)) ↦ absurd (session_less (first_of line) p.by (nodes_counted (counted_of line) p.by.stack) p.trace p.stop p.serving.session
           (three_of fault (Stopped p.stop) p.told e))
       | inr (inr (inr b)) ↦ elim b.told [
         | inl w ↦ absurd (one_is_less (three_of fault (Stopped stops.Write) w e))

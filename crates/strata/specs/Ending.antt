@@ -1,5 +1,5 @@
 -- What a command leaves behind: its status, and what its output gained.
-use Rattle.std.specs.Prelude.{◌≡◌, ◌≢◌, ◌<◌, ◌+◌, ◌⊎◌, ◌||◌, ℕ, List, true, Option, Some, None, is_some, length, vec_len, Result, Ok, Err, OnOk, if◌then◌else◌}
+use Rattle.std.specs.Prelude.{◌≡◌, ◌≢◌, ◌<◌, ◌+◌, ◌⊎◌, ◌||◌, ℕ, List, true, Option, Some, None, is_some, vec_len, Result, Ok, Err, OnOk, if◌then◌else◌}
 use Rattle.std.specs.Io.KnownBytes.{Appends, Consumes, IsAtEnd}
 use Rattle.romfs_format.specs.declared.rule.Profile.{Profile}
 use Rattle.node_attr.specs.declared.owner.TheConstants.Owner.{ROOT}
@@ -7,7 +7,6 @@ use Rattle.devices.specs.Counting.{no_pulls, no_pushes, no_accepts}
 use Rattle.devices.specs.Pushing.{HasFlushed, GainsFront}
 use Rattle.devices.specs.States.{SourceState, SinkState, Devices}
 use Rattle.stack_model.specs.Listing.{Stacked}
-use Rattle.stack_model.specs.Numbers.{nodes}
 use Rattle.serve_core.specs.declared.stop.Stop.{Stop}
 use Rattle.serve_loop.specs.declared.done.Done.{Done}
 use Rattle.stack_prepare.specs.declared.refusal.Refusal.{Refusal}
@@ -17,6 +16,9 @@ use Rattle.serve_loop.specs.Serving.{Trace}
 use Rattle.reply_model.specs.declared.session.Session.{Session}
 use Rattle.reply_model.specs.Readings.{Sourced}
 use Rattle.reply_model.specs.declared.session.Session.TheVariants.{Fresh, LastingFresh}
+use Rattle.serve_core.specs.declared.terms.Counted.{Counted}
+use Rattle.serve_core.specs.declared.terms.Counted.TheVariants.{AllNodes, NoNodes}
+use Rattle.serve_core.specs.Headline.{nodes_counted}
 use Rattle.serve_core.specs.Stops.{stop_of_refusal}
 use Rattle.path_list.specs.declared.walk.ListFault.TheVariants.{Write}
 use Rattle.path_list.specs.Faults.{Lists, IsBrokenOff}
@@ -37,14 +39,15 @@ use Rattle.strata.specs.Sessions.{Accepting, AreServed, status_at, IsSession}
 abbrev pub first_of : Line → Session
 first_of line = if line.lasting || line.device then LastingFresh else Fresh
 
--- of how many of the first nodes its lookups are counted: of all where the line names a file for
--- their balances, else of none
-abbrev pub counted_of : Line → Sourced → ℕ
-counted_of line by = if is_some line.balances then length (nodes by.stack.entries) else 0
+-- of which nodes its lookups are counted: of all where the line names a file for their balances,
+-- else of none
+abbrev pub counted_of : Line → Counted
+counted_of line = if is_some line.balances then AllNodes else NoNodes
 
 -- a stream was served over a stack and its sources as a session of its own, as the line says
 abbrev pub IsSessionOf : {A : Type 0} → Line → Sourced → Trace → Result (Done A) Stop → Type 0
-IsSessionOf line by t result = IsSession (first_of line) by (counted_of line by) t result
+IsSessionOf line by t result =
+    IsSession (first_of line) by (nodes_counted (counted_of line) by.stack) t result
 
 -- the devices that a command is run between were not used before
 pub record AreNew (devices : Devices) : Type 0 where

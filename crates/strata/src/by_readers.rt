@@ -13,7 +13,7 @@ use crate::preparing::prepare;
 use crate::settings::{first_of, plan_of};
 use command_line::Line;
 use device_readers::{End, Seat, end_of_all, seats_over, serve_by_readers};
-use serve_core::{FreePass, MAX_TURNS, Served, Terms};
+use serve_core::{Counted, FreePass, MAX_TURNS, Served, Terms};
 use std::alloc::Allocator;
 use std::fs::Files;
 use std::io::{Read, Write};
@@ -81,11 +81,12 @@ where
         first: first_of(line),
         plan: plan_of(line),
         turns: MAX_TURNS,
+        // no line asks for balances of a device
+        counted: Counted::NoNodes,
         gate: &FreePass,
     };
     let mut seats = seats_over(alloc, line.readers, reader, writer)?;
-    // No line asks for balances of a device.
-    let _before = serve_by_readers(rt, alloc, served, seats.as_mut_slice(), &terms, 0);
+    let _before = serve_by_readers(rt, alloc, served, seats.as_mut_slice(), &terms);
     Ok(seats)
 }
 

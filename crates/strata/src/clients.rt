@@ -3,7 +3,7 @@
 //! A session is the stream of one client: it begins with a new connection, and the connection is
 //! closed where it ends. All sessions are served over one table, each as a stream of its own.
 
-ghost use Rattle.std.specs.Prelude.{◌≡◌, ◌<◌, ◌^◌};
+ghost use Rattle.std.specs.Prelude.{◌≡◌, ◌<◌, ◌^◌, true};
 ghost use Rattle.devices.specs.Counting.{no_accepts};
 ghost use Rattle.devices.specs.declared.counts.Accepts.{Accepts};
 ghost use Rattle.fuse_answer.specs.Puts.{sourced_by};
@@ -16,15 +16,18 @@ ghost use Rattle.strata.specs.Sessions.{accepting, fault_of, status_at, EndWith,
 use crate::faults::Fault;
 use devices::{Clients, Listening, Sink, Source, Spout, Tap};
 use image_bytes::Contents;
-use serve_core::{Done, FreePass, MAX_TURNS, Plan, Served, Session, Stop, Terms, run_counting};
+use serve_core::{
+    Counted, Done, FreePass, MAX_TURNS, Plan, Served, Session, Stop, Terms, run_from,
+};
 use std::alloc::Allocator;
 use std::io::Write;
 use std::os::unix::net::{UnixListener, UnixStream};
 use std::thread::Threads;
 use table_reader::Table;
 
-/// Serves `count` sessions over a table to the clients of a listener, one after another, and gives
-/// the exit status. Each begins in a fresh session, and has at most 2^40 pulls.
+/// Serves `count` sessions over a table of images that are held whole to the clients of a listener,
+/// one after another, and gives the exit status. Each begins in a fresh session, and has at most
+/// 2^40 pulls.
 ///
 /// Where a session stops before its stream's end, its fault is told in a line of `faults`, with its
 /// number, from 1 on, and the next one follows. The status is that of the first such fault, and 0
@@ -39,6 +42,7 @@ pub fn sessions<R: Threads + Sync, A: Allocator + Copy + Send + Sync, E: Write>(
     plan: Plan,
     faults: &mut E,
 ) -> u8
+    requires { table.now.whole ≡ true }
     ensures { (after : Accepts)
         × EndWith A Session.Fresh (in_memory table.now) count result (accepting no_accepts after) }
 {
@@ -56,7 +60,7 @@ pub fn sessions<R: Threads + Sync, A: Allocator + Copy + Send + Sync, E: Write>(
 }
 
 /// The same of any clients, over a table and its files, in streams that begin in the session
-/// `first`, as [`serve_core::run_counting`] serves them; no lookups are counted. A session is one
+/// `first`, as [`serve_core::run_from`] serves them; no lookups are counted. A session is one
 /// client, and none but these is accepted.
 pub fn sessions_from<
     R: Threads + Sync,
@@ -160,8 +164,9 @@ fn serve_client<
         first,
         plan,
         turns: MAX_TURNS,
+        // nobody asks for the balances of a session
+        counted: Counted::NoNodes,
         gate: &FreePass,
     };
-    // nobody asks for the balances of a session
-    run_counting(rt, alloc, served, source, sink, &terms, 0)
+    run_from(rt, alloc, served, source, sink, &terms)
 }

@@ -1,6 +1,6 @@
 //! What the exit statuses mean, by what [`crate::command`] and [`crate::sessions_from`] promise.
 
-ghost use Rattle.std.specs.Prelude.{◌≡◌, ◌≢◌, ◌≤◌, ◌⊎◌, ◌↔◌, ℕ, List, [], Bool, true, false, length, is_some, Option, Some, None, Ok, Err};
+ghost use Rattle.std.specs.Prelude.{◌≡◌, ◌≢◌, ◌≤◌, ◌⊎◌, ◌↔◌, ℕ, List, [], Bool, true, false, length, map, is_some, Option, Some, None, Ok, Err};
 ghost use Rattle.std.specs.List.{AllByRecursion};
 ghost use Rattle.command_line.specs.CommandLine.{IsRefused, IsMisnumbered, IsCrossed};
 ghost use Rattle.command_line.specs.declared.options.Line.{Line};
@@ -10,7 +10,13 @@ ghost use Rattle.serve_core.specs.declared.stop.Stop.TheVariants.{Read, Write};
 ghost use Rattle.strata.specs.Ending.{EndsWith, IsServedWhole, IsFileFault, IsDoneOver, first_of};
 ghost use Rattle.reply_model.specs.declared.session.Session.{Session};
 ghost use Rattle.reply_model.specs.declared.session.Session.TheVariants.{Fresh, LastingFresh};
-ghost use Rattle.reply_model.specs.Readings.{Sourced, in_memory};
+ghost use Rattle.reply_model.specs.Readings.{Sourced, in_memory, sourced, IsReplyOver};
+ghost use Rattle.reply_model.specs.Replies.{reply};
+ghost use Rattle.serve_model.specs.Kept.{WereGatheredFor, over};
+ghost use Rattle.image_bytes.specs.Sources.{held};
+ghost use Rattle.fuse_wire.specs.Requests.{Asked, at_node, read};
+ghost use Rattle.stack_model.specs.Listing.{Stacked};
+ghost use Rattle.stack_prepare.specs.Preparing.{AreStacked};
 ghost use Rattle.serve_loop.specs.declared.done.Done.{Done};
 ghost use Rattle.serve_loop.specs.Serving.{Trace};
 ghost use Rattle.fuse_device.specs.Ends.{MountEnds};
@@ -124,6 +130,33 @@ pub fn images_stay_in_their_files()
     ensures said { (line : Line) (images : List (List ℕ)) (by : Sourced) → line.whole ≡ false →
         (line.in_files ≡ true) ⊎ (line.device ≡ true) → ArePrepared line images by →
         length by.sources ≡ length images }
+{}
+
+/// Where this was gathered of images for a line, and its data are read from sources that hold just
+/// these images, they are good, and a request may be told the reply that is defined over them, and
+/// no other. And this was, where the line was prepared over such sources.
+pub fn lines_are_served_as_over_their_files()
+    ensures good { (line : Line) (kept images : List (List ℕ)) (by : Sourced) →
+        ArePrepared line kept by → WereGatheredFor (profile_of line) images kept →
+        AreStacked (profile_of line) line.owner images (over images by.stack) }
+    ensures told { (line : Line) (kept images : List (List ℕ)) (by : Sourced) →
+        ArePrepared line kept by → WereGatheredFor (profile_of line) images kept →
+        (whole : Stacked) → AreStacked (profile_of line) line.owner images whole →
+        (s : Session) (q : Asked) (bytes : List ℕ) →
+        (IsReplyOver (sourced by.stack (map held images)) s q bytes ↔ (bytes ≡ reply whole s q)) }
+    ensures gathered { (line : Line) (kept images : List (List ℕ)) (by : Sourced) →
+        ArePrepared line kept by → 1 ≤ length images → by.sources ≡ map held images →
+        WereGatheredFor (profile_of line) images kept }
+{}
+
+/// Whatever is read of the files later: a request that is no READ is told the reply that is defined
+/// over the images of which this was gathered.
+pub fn lines_keep_what_they_show()
+    ensures { (line : Line) (kept images : List (List ℕ)) (by : Sourced) →
+        ArePrepared line kept by → WereGatheredFor (profile_of line) images kept →
+        (whole : Stacked) → AreStacked (profile_of line) line.owner images whole →
+        (s : Session) (q : Asked) (bytes : List ℕ) → IsReplyOver by s q bytes →
+        ((offset size : ℕ) → q.op ≢ at_node (read offset size)) → bytes ≡ reply whole s q }
 {}
 
 /// What is kept of an image beside its data is judged by the rules of a line as these are, whether

@@ -18,7 +18,7 @@ use crate::settings::{counted_of, first_of, plan_of};
 use command_line::Line;
 use devices::{Sink, Source, Spout, Tap};
 use image_bytes::Contents;
-use serve_core::{Done, FreePass, MAX_TURNS, Served, Stop, Terms, run_counting};
+use serve_core::{Done, FreePass, MAX_TURNS, Served, Stop, Terms, run_from};
 use std::alloc::Allocator;
 use std::fs::Files;
 use std::io::{Read, Write};
@@ -219,8 +219,8 @@ fn serve_between<
         first: first_of(line),
         plan: plan_of(line),
         turns: MAX_TURNS,
+        counted: counted_of(line),
         gate: &FreePass,
     };
-    let counted = counted_of(line, served);
-    run_counting(rt, alloc, served, source, sink, &terms, counted)
+    run_from(rt, alloc, served, source, sink, &terms)
 }

@@ -3,14 +3,11 @@
 
 ghost use Rattle.std.specs.Prelude.{◌≡◌};
 ghost use Rattle.command_line.specs.CommandLine.{IsInLimits};
-ghost use Rattle.fuse_answer.specs.Puts.{sourced_by};
 ghost use Rattle.strata.specs.Ending.{counted_of, first_of};
 ghost use Rattle.strata.specs.Images.{profile_of};
 
 use command_line::Line;
-use image_bytes::Contents;
-use serve_core::{Plan, Profile, Served, Session};
-use std::alloc::Allocator;
+use serve_core::{Counted, Plan, Profile, Session};
 
 /// The rules that the line holds images to, and whether their attributes are read.
 pub fn profile_of(line: &Line<'_>) -> Profile
@@ -30,15 +27,15 @@ pub fn first_of(line: &Line<'_>) -> Session
     }
 }
 
-/// Of how many of the first nodes the line has lookups counted: of all, where a file is named for
-/// their balances. Else nobody would see them, and they take time and memory.
-pub fn counted_of<A: Allocator, D: Contents>(line: &Line<'_>, served: Served<'_, A, D>) -> u64
-    ensures { result ≡ counted_of line.now (sourced_by D.source served.entry) }
+/// Of which nodes the line has lookups counted: of all, where a file is named for their balances.
+/// Else nobody would see them, and they take time and memory.
+pub fn counted_of(line: &Line<'_>) -> Counted
+    ensures { result ≡ counted_of line.now }
 {
     if line.balances.is_some() {
-        served.table.len()
+        Counted::AllNodes
     } else {
-        0
+        Counted::NoNodes
     }
 }
 

@@ -5,8 +5,9 @@ ghost use Rattle.std.specs.Option.{option_and_then};
 ghost use Rattle.node_attr.specs.declared.owner.TheConstants.Owner.{ROOT};
 ghost use Rattle.stack_model.specs.Attributes.{mode_by, row_in};
 ghost use Rattle.table_reader.specs.Readers.{placed};
-ghost use Rattle.table_reader.specs.Held.{brief_by, briefs_of, position_held};
+ghost use Rattle.table_reader.specs.Held.{brief_by, briefs_of};
 
+use crate::next_rows::NextRows;
 use crate::node::{Brief, Node};
 use attribute_rows::Rows;
 use node_attr::Owner;
@@ -39,26 +40,19 @@ impl<A: Allocator> Attributes<A> {
 }
 
 // The attributes of nodes in brief, in the same order.
-pub(crate) fn briefs_of<A: Allocator>(
+pub(crate) fn briefs_of<A: Allocator + Copy>(
     alloc: A,
     nodes: &[Node],
     rows: &[Rows<A>],
 ) -> Result<Vec<Brief, A>, AllocError>
     ensures { IfOk result (λ briefs. briefs.items ≡ briefs_of rows.now nodes.now) }
 {
+    let mut next = NextRows::of(alloc, rows)?;
     let mut briefs = Vec::with_capacity(alloc, nodes.len())?;
     for node in nodes {
-        briefs.push(brief_by(row_of(rows, node.place), node))?;
+        briefs.push(brief_by(row_of(rows, &mut next, node.place), node))?;
     }
     Ok(briefs)
-}
-
-// Where the row of a place stands among those of its layer, counted from 0.
-pub(crate) fn position_of<A: Allocator>(rows: &[Rows<A>], place: Place) -> Option<u32>
-    ensures { result ≡ position_held rows.now place }
-{
-    let of_layer = rows.get(place.layer as usize)?;
-    of_layer.position(place.header)
 }
 
 // The row at a position among those of a layer.
@@ -74,10 +68,14 @@ pub(crate) fn row_at<A: Allocator>(
 }
 
 // The row of a place among those of its layer.
-fn row_of<A: Allocator>(rows: &[Rows<A>], place: Place) -> Option<AttributeRow>
+fn row_of<A: Allocator>(
+    rows: &[Rows<A>],
+    next: &mut NextRows<A>,
+    place: Place,
+) -> Option<AttributeRow>
     ensures { result ≡ row_in rows.now (placed place) }
 {
-    row_at(rows, place.layer as usize, position_of(rows, place))
+    row_at(rows, place.layer as usize, next.position(rows, place))
 }
 
 // A mode of which a row says all bits but the type.

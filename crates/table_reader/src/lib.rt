@@ -19,6 +19,7 @@ mod directory;
 mod guess;
 mod layers;
 mod lookup;
+mod next_rows;
 mod node;
 mod row;
 mod slim_row;

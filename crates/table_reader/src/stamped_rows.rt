@@ -1,11 +1,12 @@
 //! The rows of attributes of all layers, and the stamps of nodes.
 
 ghost use Rattle.std.specs.Prelude.{◌≡◌, ◌++◌, ◌∷◌, [], length, map, IfOk};
-ghost use Rattle.table_reader.specs.Held.{row_held, stamp_by, stamp_held, have_rows, AreStampsOf};
+ghost use Rattle.table_reader.specs.Held.{position_held, row_held, stamp_by, stamp_held, have_rows, AreStampsOf};
 ghost use Rattle.table_reader.specs.Stamps.{slim_of, AreAllSlim, AreAllStamped};
 
-use crate::attributes::{position_of, row_at};
+use crate::attributes::row_at;
 use crate::lookup::numbered;
+use crate::next_rows::NextRows;
 use crate::node::Node;
 use crate::slim_rows::SlimRows;
 use crate::stamp::{KeptStamp, Stamp, stamp_by};
@@ -101,7 +102,7 @@ fn slim_layers<A: Allocator + Copy>(
 }
 
 // The stamps of nodes, in the order of their numbers, which become those of their rows.
-fn stamps_of<A: Allocator>(
+fn stamps_of<A: Allocator + Copy>(
     alloc: A,
     layers: &mut [SlimRows<A>],
     rows: &[Rows<A>],
@@ -113,28 +114,31 @@ fn stamps_of<A: Allocator>(
         stamps.items ≡ map (λ node. stamp_by (row_held rows.now node) owner) nodes.now) }
     ensures slim { IfOk result (λ stamps. AreAllSlim stamps.items rows.now layers.new) }
 {
+    let mut next = NextRows::of(alloc, rows)?;
     let mut stamps = Vec::with_capacity(alloc, nodes.len())?;
     for node in nodes {
-        stamp_node(&mut stamps, layers, rows, node, owner)?;
+        let found = next.position(rows, node.place);
+        stamp_node(&mut stamps, layers, rows, node, found, owner)?;
     }
     Ok(stamps)
 }
 
-// One more, which is this node's.
+// One more, which is that of this node, whose row was found.
 fn stamp_node<A: Allocator>(
     stamps: &mut Vec<KeptStamp, A>,
     layers: &mut [SlimRows<A>],
     rows: &[Rows<A>],
     node: &Node,
+    found: Option<u32>,
     owner: Owner,
 ) -> Result<(), AllocError>
-    requires { AreAllSlim stamps.old.items rows.now layers.old }
+    requires found { found ≡ position_held rows.now node.now.place }
+    requires slim { AreAllSlim stamps.old.items rows.now layers.old }
     ensures stamps { IfOk result (λ _. stamps.new.items
         ≡ stamps.old.items ++ stamp_by (row_held rows.now node.now) owner ∷ []) }
     ensures slim { IfOk result (λ _. AreAllSlim stamps.new.items rows.now layers.new) }
 {
     let layer = node.place.layer as usize;
-    let found = position_of(rows, node.place);
     let row = row_at(rows, layer, found);
     stamps.push(KeptStamp::of(stamp_by(row, owner)))?;
     match found {

@@ -1,6 +1,6 @@
 # fish completion for strata-mount(1)
 complete -c strata-mount -l background -d 'Return once the mount answers'
-complete -c strata-mount -s o -x -a 'allow_other noexec noatime max_read= suid dev rw strict whole workers= readers= uid= gid=' -d 'Options'
+complete -c strata-mount -s o -x -a 'allow_other noexec noatime max_read= suid dev rw strict whole modeless workers= readers= uid= gid=' -d 'Options'
 complete -c strata-mount -l strict -d 'Ask a right checksum of every header'
 complete -c strata-mount -l replace -d 'Take a dead mount away that stands there'
 complete -c strata-mount -l store -r -d 'The store of container images'

@@ -1,7 +1,7 @@
 //! `serve` over images, by the usual rules and in a usual session.
 
 use devices::{Spout, Tap};
-use serve_core::{FreePass, Plan, Session, Stop, Terms, serve};
+use serve_core::{Counted, FreePass, Plan, Session, Stop, Terms, serve};
 use std::thread::Threads;
 use test_kit::memories::{Memories, refuse_in_turn};
 use test_kit::sample_images::samples;
@@ -26,6 +26,7 @@ fn served<R: Threads + Sync>(
         first: Session::Fresh,
         plan,
         turns: u64::from(turns),
+        counted: Counted::AllNodes,
         gate: &FreePass,
     };
     let (mut tap, mut spout) = (Tap::new(stream), Spout::new(output));

@@ -1,5 +1,7 @@
 //! What a stream of lookups leaves: the balance of each node, by every plan.
 
+ghost use Rattle.std.specs.Prelude.{◌≡◌, true};
+
 use serve_test_kit::runs::{by, ran, sample_table};
 use stack_core::FreePass;
 use std::alloc::Global;
@@ -14,7 +16,9 @@ fn are_left<R: Threads + Sync>(
     global: Global,
     table: &Table<Global>,
     plan: (u32, u32),
-) -> Option<bool> {
+) -> Option<bool>
+    requires { table.now.whole ≡ true }
+{
     let stream = lookups(global).ok()?;
     let ran = ran(
         rt,
@@ -35,7 +39,9 @@ fn wrong_plan<R: Threads + Sync>(
     rt: &R,
     global: Global,
     table: &Table<Global>,
-) -> Option<(u32, u32)> {
+) -> Option<(u32, u32)>
+    requires { table.now.whole ≡ true }
+{
     for plan in [(1, 1), (1, 3), (2, 1), (2, 3), (5, 1), (5, 3)] {
         if are_left(rt, global, table, plan) != Some(true) {
             return Some(plan);

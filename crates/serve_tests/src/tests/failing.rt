@@ -1,5 +1,7 @@
 //! Devices that fail at each place in turn.
 
+ghost use Rattle.std.specs.Prelude.{◌≡◌, true};
+
 use serve_core::Stop;
 use serve_test_kit::runs::{End, Run, Seen, WHOLE, run_over, sample_table};
 use std::alloc::Global;
@@ -56,6 +58,7 @@ struct Script {
     table: Table<Global>,
     stream: Vec<u8>,
     replies: Vec<u8>,
+    ghost whole: { table.whole ≡ true },
 }
 
 impl Script {

@@ -1,5 +1,7 @@
 //! Images are checked at the same time, and each piece of work passes its gate once.
 
+ghost use Rattle.std.specs.Prelude.{◌≡◌, true};
+
 use serve_core::prepare;
 use serve_test_kit::runs::{by, long_table, ran, sample_table};
 use stack_core::{Gate, Work};
@@ -63,7 +65,9 @@ fn begun<R: Threads + Sync>(
     table: &Table<Global>,
     stream: &[u8],
     plan: (u32, u32),
-) -> Option<u64> {
+) -> Option<u64>
+    requires { table.now.whole ≡ true }
+{
     let gate = Recording::new();
     let ran = ran(rt, global, global, table, stream, by(plan), None, &gate)?;
     let (checks, trees, batches) = gate.seen();
@@ -77,7 +81,9 @@ fn wrong_plan<R: Threads + Sync>(
     table: &Table<Global>,
     stream: &[u8],
     plans: [((u32, u32), u64); 2],
-) -> Option<(u32, u32)> {
+) -> Option<(u32, u32)>
+    requires { table.now.whole ≡ true }
+{
     for (plan, batches) in plans {
         if begun(rt, global, table, stream, plan) != Some(batches) {
             return Some(plan);

@@ -1,7 +1,11 @@
 //! Several readers of one device, which gives each message to one of them.
 
+ghost use Rattle.std.specs.Prelude.{◌≡◌, true, IfSome};
+
 use device_readers::{End, Seat, end_of_all, seats_over, serve_by_readers};
-use serve_core::{Done, FreePass, Gate, MAX_TURNS, Plan, Served, Session, Stop, Terms, Work};
+use serve_core::{
+    Counted, Done, FreePass, Gate, MAX_TURNS, Plan, Served, Session, Stop, Terms, Work,
+};
 use serve_test_kit::runs::table_of;
 use std::alloc::Allocator;
 use std::io::{self, Error, Read, Write};
@@ -157,7 +161,9 @@ fn counted<A: Allocator>(
 fn empty_table<R: Threads + Sync, A: Allocator + Copy + Send + Sync>(
     rt: &R,
     alloc: A,
-) -> Option<Table<A>> {
+) -> Option<Table<A>>
+    ensures { IfSome result (λ table. table.whole ≡ true) }
+{
     table_of(rt, alloc, alone(alloc, image(alloc, b"v", "").ok()?).ok()?)
 }
 
@@ -171,11 +177,14 @@ fn served<R: Threads + Sync, A: Allocator + Copy + Send + Sync, G: Gate + Sync>(
     readers: u32,
     plan: Plan,
     gate: &G,
-) -> Option<(End, (usize, u64))> {
+) -> Option<(End, (usize, u64))>
+    requires { table.now.whole ≡ true }
+{
     let terms = Terms {
         first: Session::Fresh,
         plan,
         turns: MAX_TURNS,
+        counted: Counted::AllNodes,
         gate,
     };
     let over = Served::held(table);
@@ -183,7 +192,7 @@ fn served<R: Threads + Sync, A: Allocator + Copy + Send + Sync, G: Gate + Sync>(
         return None;
     };
     let all = seats.as_mut_slice();
-    let before = serve_by_readers(rt, alloc, over, all, &terms, table.len());
+    let before = serve_by_readers(rt, alloc, over, all, &terms);
     Some((end_of_all(all), counted(&before, all)))
 }
 
@@ -195,7 +204,9 @@ fn seen_over<R: Threads + Sync, A: Allocator + Copy + Send + Sync, G: Gate + Syn
     readers: u32,
     fails: Fails,
     gate: &G,
-) -> Option<Seen> {
+) -> Option<Seen>
+    requires { table.now.whole ≡ true }
+{
     let plan = Plan::new(2, 3)?;
     let device = Device::new(fails);
     let (end, done) = served(rt, alloc, table, &device, readers, plan, gate)?;

@@ -1,5 +1,7 @@
 //! Runs that workers answer, with each request for memory refused in turn.
 
+ghost use Rattle.std.specs.Prelude.{◌≡◌, true};
+
 use serve_core::Stop;
 use serve_test_kit::runs::{by, long_table, ran, run_over};
 use stack_core::FreePass;
@@ -19,7 +21,9 @@ fn is_told_over<'a, R: Threads + Sync>(
     table: &Table<&'a Refusing<Global>>,
     plan: (u32, u32),
     streams: (&[u8], &[u8]),
-) -> bool {
+) -> bool
+    requires { table.now.whole ≡ true }
+{
     let (global, alloc) = (memories.global, &memories.refusing);
     let Some(seen) = run_over(rt, global, alloc, table, streams, by(plan), Some(alloc)) else {
         return false;

@@ -1,5 +1,7 @@
 //! The longest round takes no more memory than a short one.
 
+ghost use Rattle.std.specs.Prelude.{◌≡◌, true};
+
 use serve_test_kit::runs::{by, ran, table_of};
 use stack_core::FreePass;
 use std::alloc::Global;
@@ -16,7 +18,9 @@ fn ends_in_two_writes<'a, R: Threads + Sync>(
     global: Global,
     memory: &'a Refusing<Global>,
     table: &Table<&'a Refusing<Global>>,
-) -> Option<bool> {
+) -> Option<bool>
+    requires { table.now.whole ≡ true }
+{
     let stream = reads(global, &[262_047, 1 << 20]).ok()?;
     let run = by((1, 16));
     let ran = ran(rt, global, memory, table, &stream, run, None, &FreePass)?;

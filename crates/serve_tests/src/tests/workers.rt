@@ -1,5 +1,7 @@
 //! Streams whose rounds are worth workers: for every plan they give what one worker gives.
 
+ghost use Rattle.std.specs.Prelude.{◌≡◌, true};
+
 use serve_test_kit::runs::{Finished, by, long_table, ran};
 use stack_core::{FreePass, Gate, Work};
 use std::alloc::Global;
@@ -75,7 +77,9 @@ fn is_right<R: Threads + Sync, G: Gate + Sync>(
     plan: (u32, u32),
     writes: (u64, u64),
     gate: &G,
-) -> Option<bool> {
+) -> Option<bool>
+    requires { table.now.whole ≡ true }
+{
     let stream = stream(global, long, COUNT).ok()?;
     let alone = ran(
         rt,
@@ -93,7 +97,9 @@ fn is_right<R: Threads + Sync, G: Gate + Sync>(
 }
 
 /// The first kind of long reply that five workers do not give as one does.
-fn wrong_kind<R: Threads + Sync>(rt: &R, global: Global, table: &Table<Global>) -> Option<Long> {
+fn wrong_kind<R: Threads + Sync>(rt: &R, global: Global, table: &Table<Global>) -> Option<Long>
+    requires { table.now.whole ≡ true }
+{
     for (long, writes) in [(Long::Read, (34, 34)), (Long::Readdirplus, (32, 32))] {
         if is_right(rt, global, table, long, (5, 3), writes, &FreePass) != Some(true) {
             return Some(long);
@@ -118,7 +124,9 @@ fn wrong_plan<R: Threads + Sync>(
     rt: &R,
     global: Global,
     table: &Table<Global>,
-) -> Option<(u32, u32)> {
+) -> Option<(u32, u32)>
+    requires { table.now.whole ≡ true }
+{
     for plan in [(2, 1), (2, 3), (5, 1), (5, 3), (4, 16)] {
         let gate = Holding::new();
         let is_right = is_right(rt, global, table, Long::Readdir, plan, (34, 6), &gate);

@@ -1,5 +1,7 @@
 //! An answer, and what it moves: what stood before is as it was.
 
+ghost use Rattle.std.specs.Prelude.{◌≡◌, true};
+
 use super::jobs::{Job, jobs_of};
 use super::tables::sample_table;
 use fuse_answer::{Served, answer, moves};
@@ -35,7 +37,9 @@ pub fn appended<R: Threads + Sync>(
 }
 
 /// An answer behind the front; none where the front is refused, or isn't as it was.
-fn answered<A: Allocator>(alloc: A, table: &Table<A>, job: &Job<'_>) -> Option<Left> {
+fn answered<A: Allocator>(alloc: A, table: &Table<A>, job: &Job<'_>) -> Option<Left>
+    requires { table.now.whole ≡ true }
+{
     let mut out = Replies::new(alloc);
     out.append(&FRONT).ok()?;
     let told = answer(Served::held(table), job.0, &job.1, &mut out).is_ok();
@@ -60,7 +64,9 @@ fn appended_over<'a>(
     table: &Table<&'a Refusing<Global>>,
     index: usize,
     moves: bool,
-) -> Option<Left> {
+) -> Option<Left>
+    requires { table.now.whole ≡ true }
+{
     let stream = lookups(memories.global).ok()?;
     let jobs = jobs_of(memories.global, &stream).ok()?;
     let job = jobs.get(index)?;

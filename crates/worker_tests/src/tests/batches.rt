@@ -1,6 +1,8 @@
 //! Rounds of jobs by any plan: their replies, the sums of their moves, and the gates that they
 //! pass.
 
+ghost use Rattle.std.specs.Prelude.{◌≡◌, true};
+
 use super::jobs::{Job, jobs_of};
 use super::tables::sample_table;
 use node_table::Table;
@@ -69,7 +71,9 @@ fn round_over<'a, R: Threads + Sync>(
     table: &Table<&'a Refusing<Global>>,
     jobs: Jobs,
     plan: Plan,
-) -> Option<Result<(bool, (u64, u64, u64)), AllocError>> {
+) -> Option<Result<(bool, (u64, u64, u64)), AllocError>>
+    requires { table.now.whole ≡ true }
+{
     let stream = stream_of(memories.global, jobs).ok()?;
     let replies = script_replies(memories.global).ok()?;
     let requests = jobs_of(memories.global, &stream).ok()?;
@@ -83,7 +87,9 @@ fn round_to<'a, R: Threads + Sync>(
     table: &Table<&'a Refusing<Global>>,
     asked: (Jobs, &[Job<'_>], &[u8]),
     plan: Plan,
-) -> Result<(bool, (u64, u64, u64)), AllocError> {
+) -> Result<(bool, (u64, u64, u64)), AllocError>
+    requires { table.now.whole ≡ true }
+{
     let (jobs, requests, replies) = asked;
     let gate = Recording::new();
     let few = requests.len().min(256);

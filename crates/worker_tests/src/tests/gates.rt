@@ -1,5 +1,7 @@
 //! A batch is held until others have come, and workers are counted.
 
+ghost use Rattle.std.specs.Prelude.{◌≡◌, true};
+
 use super::jobs::{Job, jobs_of};
 use super::tables::sample_table;
 use super::threads::pieces_of;
@@ -22,7 +24,9 @@ fn is_given_up_over<R: Threads + Sync>(
     jobs: usize,
     plan: Plan,
     gate: &Holding,
-) -> Option<bool> {
+) -> Option<bool>
+    requires { table.now.whole ≡ true }
+{
     let stream = script(alloc).ok()?;
     let requests = jobs_of(alloc, &stream).ok()?;
     is_given_up_in(rt, alloc, table, requests.get(..jobs)?, plan, gate)
@@ -36,7 +40,9 @@ fn is_given_up_in<R: Threads + Sync>(
     jobs: &[Job<'_>],
     plan: Plan,
     gate: &Holding,
-) -> Option<bool> {
+) -> Option<bool>
+    requires { table.now.whole ≡ true }
+{
     if 256 < jobs.len() {
         return None;
     }
@@ -93,7 +99,9 @@ fn spreads<R: Threads + Sync>(
     table: &Table<Global>,
     plan: Plan,
     gate: &Crowd,
-) -> Result<bool, AllocError> {
+) -> Result<bool, AllocError>
+    requires { table.now.whole ≡ true }
+{
     let mut stream = script(alloc)?;
     let again = script(alloc)?;
     stream.extend_from_slice(&again)?;
@@ -101,7 +109,8 @@ fn spreads<R: Threads + Sync>(
     if 4096 < stream.len() {
         return Ok(false);
     }
-    let spread = spread_out(rt, alloc, table, &stream, Session::Fresh, 24, plan, gate);
+    let served = Served::held(table);
+    let spread = spread_out(rt, alloc, served, &stream, Session::Fresh, 24, plan, gate);
     Ok(spread.is_ok())
 }
 

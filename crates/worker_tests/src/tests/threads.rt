@@ -1,6 +1,6 @@
 //! Callers' own threads share a board, and each answers the batches that it draws.
 
-ghost use Rattle.std.specs.Prelude.{◌≡◌, ◌+◌, ◌≤◌};
+ghost use Rattle.std.specs.Prelude.{◌≡◌, ◌+◌, ◌≤◌, true};
 ghost use Rattle.std.specs.Thread.{IsSync};
 ghost use Rattle.draw_board.specs.Hands.{GivesBack, IsHandOf, KeepsShare, share, total_of};
 ghost use Rattle.reply_pool.specs.Batches.{batches};
@@ -69,7 +69,9 @@ fn pieces_over<R: Threads + Sync, G: Gate>(
     table: &Table<&Refusing<Global>>,
     jobs: usize,
     gate: &G,
-) -> Option<Result<(usize, u64), AllocError>> {
+) -> Option<Result<(usize, u64), AllocError>>
+    requires { table.now.whole ≡ true }
+{
     let stream = script(memories.global).ok()?;
     let requests = jobs_of(memories.global, &stream).ok()?;
     pieces_to(rt, memories, table, requests.get(..jobs)?, gate)
@@ -82,7 +84,9 @@ fn pieces_to<R: Threads + Sync, G: Gate>(
     table: &Table<&Refusing<Global>>,
     jobs: &[Job<'_>],
     gate: &G,
-) -> Option<Result<(usize, u64), AllocError>> {
+) -> Option<Result<(usize, u64), AllocError>>
+    requires { table.now.whole ≡ true }
+{
     if 12 < jobs.len() {
         return None;
     }
@@ -115,6 +119,7 @@ fn work_out<R: Threads + Sync>(
     board: &Board<Global>,
     mut hand: Hand,
 ) -> Done
+    requires whole { table.now.whole ≡ true }
     requires total { total_of board.now ≡ 4 }
     requires hand { IsHandOf board.now hand }
     ensures { KeepsShare board.now hand result.hand }
@@ -157,6 +162,7 @@ fn work_in_two<R: Threads + Wait + Sync>(
     hand: Hand,
     lent: Hand,
 ) -> Done
+    requires whole { table.now.whole ≡ true }
     requires total { total_of board.now ≡ 4 }
     requires hands { IsHandOf board.now hand × IsHandOf board.now lent }
     ensures of_board { IsHandOf board.now result.hand }
@@ -166,7 +172,7 @@ fn work_in_two<R: Threads + Wait + Sync>(
         thread::scope_env(),
         rt,
         move |scope| -> Done
-            requires { IsSync R.row × (total_of board.now ≡ 4)
+            requires { IsSync R.row × (table.now.whole ≡ true) × (total_of board.now ≡ 4)
                 × IsHandOf board.now hand × IsHandOf board.now lent }
             ensures of_board { IsHandOf board.entry.now result.hand }
             ensures share { share result.hand ≡ share hand + share lent }
@@ -174,7 +180,8 @@ fn work_in_two<R: Threads + Wait + Sync>(
             let thread = scope.spawn_with(
                 SameHand(Snapshot::of(&lent)),
                 move || -> Done
-                    requires { IsSync R.row × (total_of board.now ≡ 4) × IsHandOf board.now lent }
+                    requires { IsSync R.row × (table.now.whole ≡ true) × (total_of board.now ≡ 4)
+                        × IsHandOf board.now lent }
                     ensures { GivesBack lent result.hand }
                 { work_out(rt, alloc, table, stream, board, lent) },
             );
@@ -237,7 +244,9 @@ fn answered_by_two<R: Threads + Wait + Sync>(
     rt: &R,
     alloc: Global,
     table: &Table<Global>,
-) -> Result<(Vec<Piece<Global>>, u64), Fail> {
+) -> Result<(Vec<Piece<Global>>, u64), Fail>
+    requires { table.now.whole ≡ true }
+{
     let stream = script(alloc)?;
     let (board, mut first) = Board::start(alloc, 4, 2)?;
     let Ok(lent) = board.split(&mut first, 1) else {

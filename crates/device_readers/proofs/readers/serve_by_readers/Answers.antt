@@ -1,6 +1,6 @@
 use Rattle.std.proofs.Common.{◌≡◌, sym, subst, ℕ, List, map, slice_index_or, slice_set, Option}
 use Rattle.fuse_answer.specs.Puts.{sourced_by}
-use Rattle.serve_core.specs.Headline.{bounds}
+use Rattle.serve_core.specs.Headline.{bounds_over}
 use Rattle.device_readers.specs.Readers.{AreServedBy, HasOpened, shared}
 use Rattle.device_readers.specs.Seats.{SeatState, new_seat, seat_of}
 use Rattle.device_readers.proofs.Reading.{at_place, ready_all, ready_new, ready_on, served_by_all, served_by_one}
@@ -21,7 +21,7 @@ returns-in_err-session g c =
     let seat = seat_of {O = g.row.O.Denot} {A = g.row.A.Denot} g.I.Read.remaining in
     let first = c.args.terms.now.first in
     let by = sourced_by g.D.Contents.source c.args.served in
-    let within = bounds c.args.terms.now.turns c.args.counted in
+    let within = bounds_over c.args.terms.now.turns c.args.terms.now.counted by in
     let old = seat (slice_index_or c.args.seats.now 0 c.index-seats-0.result) in
     let opened = subst (λ r. HasOpened first (shared by within) old (seat c.open.new.self) r) c.in_err-session.was c.open.ensures in
     let all = map seat (slice_set c.args.seats.now 0 c.open.new.self) in
@@ -34,7 +34,7 @@ serve_together-requires-clause-ready g c = λ κs lives.
     let seat = seat_of {O = g.row.O.Denot} {A = g.row.A.Denot} g.I.Read.remaining in
     let first = c.args.terms.now.first in
     let by = sourced_by g.D.Contents.source c.args.served in
-    let within = bounds c.args.terms.now.turns c.args.counted in
+    let within = bounds_over c.args.terms.now.turns c.args.terms.now.counted by in
     let old = seat (slice_index_or c.args.seats.now 0 c.index-seats-0.result) in
     let new = seat c.open.new.self in
     let opened = subst (λ r. HasOpened first (shared by within) old new r) c.in_ok-session.was c.open.ensures in
@@ -47,7 +47,7 @@ returns g c =
     let seat = seat_of {O = g.row.O.Denot} {A = g.row.A.Denot} g.I.Read.remaining in
     let first = c.args.terms.now.first in
     let by = sourced_by g.D.Contents.source c.args.served in
-    let within = bounds c.args.terms.now.turns c.args.counted in
+    let within = bounds_over c.args.terms.now.turns c.args.terms.now.counted by in
     let old = seat (slice_index_or c.args.seats.now 0 c.index-seats-0.result) in
     let opened = subst (λ r. HasOpened first (shared by within) old (seat c.open.new.self) r) c.in_ok-session.was c.open.ensures in
     served_by_all first by within seat c.args.seats.now c.index-seats-0.result c.open.new.self c.in_ok-session.field-0

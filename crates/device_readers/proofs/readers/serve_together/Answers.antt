@@ -1,6 +1,6 @@
 use Rattle.std.proofs.Common.{rules, sym, subst, slice_index_or, arith}
 use Rattle.fuse_answer.specs.Puts.{sourced_by}
-use Rattle.serve_core.specs.Headline.{bounds}
+use Rattle.serve_core.specs.Headline.{bounds_over}
 use Rattle.serve_loop.specs.Serving.{AreReady}
 use Rattle.device_readers.specs.Readers.{HasServed}
 use Rattle.device_readers.specs.Seats.{SeatState, devices_of, seat_of}
@@ -20,7 +20,7 @@ for_each_mut-requires-clause-accepts g c = λ κs lives i p lt is.
 pub returns : goal.returns
 returns g c =
     let by = sourced_by g.D.Contents.source c.args.served in
-    let within = bounds c.args.terms.now.turns c.args.counted in
+    let within = bounds_over c.args.terms.now.turns c.args.terms.now.counted by in
     let seat = seat_of {O = g.row.O.Denot} {A = g.row.A.Denot} g.I.Read.remaining in
     let served = HasServed {A = g.row.A.Denot} c.args.terms.now.first by within in
     zipped served seat c.args.seats.now c.for_each_mut.new.s (omega (arith, c.for_each_mut.auto.s)) (λ i d lt.

@@ -6,17 +6,17 @@ use Rattle.table_reader.proofs.stamped_rows.stamp_node.Goals as goal
 
 pub bounds-layers-layer : goal.bounds-layers-layer
 bounds-layers-layer g c = layer_within c.args.rows.now c.args.layers.now c.args.node.now.place c.in-Some.position []
-    c.args.stamps.now.items c.requires (sym c.in-Some.ensures)
+    c.args.stamps.now.items c.requires.slim (sym c.requires.found ∙ c.in-Some.is)
 
 pub offset_bounds-layers-layer : goal.offset_bounds-layers-layer
 offset_bounds-layers-layer g c =
     let within : c.args.node.now.place.layer < length c.args.layers.now = layer_within c.args.rows.now c.args.layers.now
-    c.args.node.now.place c.in-Some.position [] c.args.stamps.now.items c.requires (sym c.in-Some.ensures) in
+    c.args.node.now.place c.in-Some.position [] c.args.stamps.now.items c.requires.slim (sym c.requires.found ∙ c.in-Some.is) in
     search rules
 
 pub set_stamp-requires : goal.set_stamp-requires
 set_stamp-requires g c = within c.args.rows.now c.args.layers.now c.args.node.now.place c.in-Some.position c.index-layers-layer.result
-    c.args.stamps.now.items c.requires (sym c.in-Some.ensures)
+    c.args.stamps.now.items c.requires.slim (sym c.requires.found ∙ c.in-Some.is)
 
 pub returns-in-Some-clause-stamps : goal.returns-in-Some-clause-stamps
 returns-in-Some-clause-stamps g c =
@@ -24,8 +24,8 @@ returns-in-Some-clause-stamps g c =
     let new = c.push.new.self.items in
     let rows = c.args.rows.now in
     let place = c.args.node.now.place in
-    let push = pushed rows place c.args.owner c.position_of-found.result c.row_at-row.result old new c.stamp_by.result c.of.result
-    c.position_of-found.ensures c.row_at-row.ensures c.stamp_by.ensures c.of.ensures c.in_ok-push.ensures.items in
+    let push = pushed rows place c.args.owner c.args.found c.row_at-row.result old new c.stamp_by.result c.of.result
+    c.requires.found c.row_at-row.ensures c.stamp_by.ensures c.of.ensures c.in_ok-push.ensures.items in
     once_set c.set_stamp.result c.len.result c.in-Some.position (slice_index_or c.args.layers.now place.layer c.index-layers-layer.result)
     c.set_stamp.new.self (new ≡ old ++ stamp_by (row_held rows c.args.node.now) c.args.owner ∷ []) (λ s. push) c.set_stamp.ensures
 
@@ -36,22 +36,22 @@ returns-in-Some-clause-slim g c =
     let rows = c.args.rows.now in
     let layers = c.args.layers.now in
     let place = c.args.node.now.place in
-    let push = pushed rows place c.args.owner c.position_of-found.result c.row_at-row.result old new c.stamp_by.result c.of.result
-    c.position_of-found.ensures c.row_at-row.ensures c.stamp_by.ensures c.of.ensures c.in_ok-push.ensures.items in
+    let push = pushed rows place c.args.owner c.args.found c.row_at-row.result old new c.stamp_by.result c.of.result
+    c.requires.found c.row_at-row.ensures c.stamp_by.ensures c.of.ensures c.in_ok-push.ensures.items in
     let number = c.len.ensures ∙ c.push.new.self.ok.0 in
     once_set c.set_stamp.result c.len.result c.in-Some.position (slice_index_or layers place.layer c.index-layers-layer.result)
     c.set_stamp.new.self (AreAllSlim new rows (slice_set layers place.layer c.set_stamp.new.self))
     (λ s. node_stamped rows layers place c.in-Some.position c.index-layers-layer.result old new c.args.owner c.len.result
-    c.set_stamp.new.self c.requires (sym c.in-Some.ensures) push number s) c.set_stamp.ensures
+    c.set_stamp.new.self c.requires.slim (sym c.requires.found ∙ c.in-Some.is) push number s) c.set_stamp.ensures
 
 pub returns-in-None-clause-stamps : goal.returns-in-None-clause-stamps
 returns-in-None-clause-stamps g c =
-    pushed c.args.rows.now c.args.node.now.place c.args.owner c.position_of-found.result c.row_at-row.result c.args.stamps.now.items
-    c.push.new.self.items c.stamp_by.result c.of.result c.position_of-found.ensures c.row_at-row.ensures c.stamp_by.ensures c.of.ensures
+    pushed c.args.rows.now c.args.node.now.place c.args.owner c.args.found c.row_at-row.result c.args.stamps.now.items
+    c.push.new.self.items c.stamp_by.result c.of.result c.requires.found c.row_at-row.ensures c.stamp_by.ensures c.of.ensures
     c.in_ok-push.ensures.items
 
 pub returns-in-None-clause-slim : goal.returns-in-None-clause-slim
 returns-in-None-clause-slim g c =
     let old = c.args.stamps.now.items in
     let new = c.push.new.self.items in
-    all_still old new (keeps_push old new c.of.result c.in_ok-push.ensures.items) c.args.rows.now c.args.layers.now c.requires
+    all_still old new (keeps_push old new c.of.result c.in_ok-push.ensures.items) c.args.rows.now c.args.layers.now c.requires.slim

@@ -27,5 +27,5 @@ returns-clause-stamps g c = c.loop-node.invariant.stamps
 pub returns-clause-slim : goal.returns-clause-slim
 returns-clause-slim g c = c.loop-node.invariant.slim
 
-pub stamp_node-requires : goal.stamp_node-requires
-stamp_node-requires g c = c.loop-node.invariant.slim
+pub stamp_node-requires-clause-slim : goal.stamp_node-requires-clause-slim
+stamp_node-requires-clause-slim g c = c.loop-node.invariant.slim

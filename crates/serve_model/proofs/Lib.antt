@@ -1,0 +1,14 @@
+pub mod Looks
+pub mod Layers
+pub mod Places
+pub mod Nodes
+pub mod Rows
+pub mod Replied
+pub mod Moving
+pub mod Telling
+pub mod Refused
+pub mod Stacking
+pub mod Answered
+pub mod Streams
+pub mod Themselves
+pub mod WorkedTrailer

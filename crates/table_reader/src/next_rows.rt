@@ -1,0 +1,54 @@
+//! Where the rows of attributes of nodes stand, of nodes that mostly come in the order of rows.
+
+ghost use Rattle.std.specs.Prelude.{◌≡◌};
+ghost use Rattle.table_reader.specs.Held.{position_held};
+
+use attribute_rows::Rows;
+use std::alloc::{AllocError, Allocator};
+use whiteout_tree::Place;
+
+/// For each layer the position behind the row that was found last: that row is looked at first, and
+/// rows are searched by halves only where it is another's.
+#[derive(Drop)]
+pub(crate) struct NextRows<A: Allocator> {
+    positions: Vec<u32, A>,
+}
+
+impl<A: Allocator> NextRows<A> {
+    /// The first row of each layer is next.
+    pub(crate) fn of<B: Allocator>(alloc: A, rows: &[Rows<B>]) -> Result<NextRows<A>, AllocError> {
+        let mut positions = Vec::with_capacity(alloc, rows.len())?;
+        for _layer in rows {
+            positions.push(0)?;
+        }
+        Ok(NextRows { positions })
+    }
+
+    /// Where the row of a place stands among those of its layer, counted from 0.
+    pub(crate) fn position<B: Allocator>(&mut self, rows: &[Rows<B>], place: Place) -> Option<u32>
+        ensures { result ≡ position_held rows.now place }
+    {
+        let layer = place.layer as usize;
+        let of_layer = rows.get(layer)?;
+        let found = of_layer.position(place.header, self.next(layer));
+        if let Some(position) = found {
+            self.pass(layer, position);
+        }
+        found
+    }
+
+    // The position to look at first.
+    fn next(&self, layer: usize) -> u32 {
+        match self.positions.get(layer) {
+            Some(next) => *next,
+            None => 0,
+        }
+    }
+
+    // Notes that a row was found.
+    fn pass(&mut self, layer: usize, position: u32) {
+        if let Some(next) = self.positions.get_mut(layer) {
+            *next = position.saturating_add(1);
+        }
+    }
+}

@@ -1,0 +1,120 @@
+"""Files and folders that are made. A file is written under a passing name, and gets its own when it
+is whole.
+
+    with new_file(folder, place, 0o644) as new:       folder: an open one, whose path is place
+        write_all(new.file, data)
+        new.keep(folder, "name")                      without this nothing stays
+"""
+import contextlib
+import errno
+import os
+import secrets
+
+from strata_format.refused import faults_below
+
+# how a stranger's file is opened: no link is followed, and no pipe is waited for
+READING = os.O_RDONLY | os.O_NOFOLLOW | os.O_NONBLOCK | os.O_CLOEXEC
+# so many bytes are copied at once
+PIECE = 1 << 26
+
+
+# --- folders ---
+
+def open_folder(name, above=None):
+    """An open folder; below an open one no link is followed."""
+    flags = os.O_RDONLY | os.O_DIRECTORY | os.O_CLOEXEC
+    return os.open(name, flags | (os.O_NOFOLLOW if above is not None else 0), dir_fd=above)
+
+
+def make_folder(name, above=None):
+    """The same, which is made where it isn't there."""
+    with contextlib.suppress(FileExistsError):
+        os.mkdir(name, dir_fd=above)
+    return open_folder(name, above)
+
+
+# --- new files ---
+
+class NewFile:
+    """A file, open for writing and reading without a buffer, in an open folder, where it stays only
+    under a name that it is given."""
+
+    def __init__(self, folder, mode, front, is_lasting):
+        self.folder, self.is_lasting = folder, is_lasting
+        self.passing = front + secrets.token_hex(8)
+        flags = os.O_RDWR | os.O_CREAT | os.O_EXCL | os.O_NOFOLLOW | os.O_CLOEXEC
+        self.file = os.fdopen(os.open(self.passing, flags, mode, dir_fd=folder), "w+b", 0)
+
+    def keep(self, folder, name):
+        """Gives the file, which is whole, its name in an open folder of the same file system, in
+        the place of what had this name. One that is lasting is on the disk before, and its name
+        behind."""
+        if self.is_lasting:
+            os.fsync(self.file.fileno())
+        os.rename(self.passing, name, src_dir_fd=self.folder, dst_dir_fd=folder)
+        if self.is_lasting:
+            os.fsync(folder)
+
+    def close(self):
+        """Closes the file, and takes it away where it got no name."""
+        self.file.close()
+        with contextlib.suppress(FileNotFoundError):
+            os.unlink(self.passing, dir_fd=self.folder)
+
+
+@contextlib.contextmanager
+def new_file(folder, place, mode, front="", is_lasting=False):
+    """A new file of a mode in an open folder, whose passing name begins with `front`; faults name
+    the folder's place."""
+    with faults_below(place):
+        new = NewFile(folder, mode, front, is_lasting)
+        try:
+            yield new
+        finally:
+            new.close()
+
+
+# --- bytes ---
+
+def write_all(file, data):
+    """Writes bytes to an open file without a buffer."""
+    left = memoryview(data)
+    while left:
+        left = left[file.write(left):]
+
+
+def write_at(number, data, at):
+    """Writes bytes over those at a place of an open file."""
+    while data:
+        count = os.pwrite(number, data, at)
+        at, data = at + count, data[count:]
+
+
+def data_parts(number, size):
+    """Where data of the first `size` bytes of an open file begin and end. Between them are holes."""
+    end = 0
+    while end < size:
+        try:
+            start = os.lseek(number, end, os.SEEK_DATA)
+        except OSError as fault:
+            if fault.errno != errno.ENXIO:
+                raise
+            return
+        end = min(os.lseek(number, start, os.SEEK_HOLE), size)
+        if start < end:
+            yield start, end
+
+
+def copy_front(source, out, size):
+    """Copies the first bytes of an open file into a new one, with their holes; an error where there
+    are fewer."""
+    os.ftruncate(out, size)
+    for at, end in data_parts(source, size):
+        os.lseek(out, at, os.SEEK_SET)
+        while at < end:
+            count = os.sendfile(out, source, at, min(PIECE, end - at))
+            if count == 0:
+                raise OSError(errno.EIO, os.strerror(errno.EIO))
+            at += count
+    if os.fstat(source).st_size < size:
+        raise OSError(errno.EIO, os.strerror(errno.EIO))

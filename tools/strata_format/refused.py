@@ -1,0 +1,86 @@
+"""Why something is refused, as one line, and how what strangers wrote is shown in one."""
+import contextlib
+import os
+
+SHOWN, LINE_MOST = 200, 4200
+
+
+# so many lines tell what is wrong with entries of one layer or folder
+TOLD_MOST = 10
+
+
+class Refused(Exception):
+    """Why something is refused, as one line; and lines of what else is wrong with it."""
+
+    def __init__(self, line, others=()):
+        super().__init__(line)
+        self.others = list(others)
+
+    def lines(self):
+        return [str(self), *self.others]
+
+    def of(self, words):
+        """The same, each line of it said of what the words name."""
+        line, *others = ("%s: %s" % (words, it) for it in self.lines())
+        return Refused(line, others)
+
+
+class BadEntry(Refused):
+    """Why one entry of a layer or folder is refused; the next ones can be looked at."""
+
+
+class NotHeld(BadEntry):
+    """What no image holds. Without this entry it can be made."""
+
+
+class Faults:
+    """What is wrong with entries, of which one must not hide which others there are."""
+
+    def __init__(self):
+        self.found, self.more = [], 0
+
+    def note(self, refused):
+        for line in refused.lines():
+            if len(self.found) < TOLD_MOST:
+                self.found.append(line)
+            else:
+                self.more += 1
+
+    def settle(self):
+        """Refused where something was noted."""
+        if self.found:
+            more = [".. and %d more" % self.more] * bool(self.more)
+            raise Refused(self.found[0], self.found[1:] + more)
+
+
+@contextlib.contextmanager
+def faults_below(place):
+    """Lets the faults of files that no whole path names, since they are opened below a folder, name that folder."""
+    try:
+        yield
+    except OSError as fault:
+        if isinstance(fault.filename, (str, bytes)) and os.path.isabs(fault.filename):
+            raise
+        raise OSError(fault.errno, fault.strerror, place) from None
+
+
+def bytes_of(text):
+    """The bytes of a text: a path's own, or, of what no path says, those of UTF-8."""
+    try:
+        return os.fsencode(text)
+    except UnicodeEncodeError:
+        return text.encode(errors="surrogatepass")
+
+
+def shown(words):
+    """Bytes or text of strangers: all but visible characters of ASCII, and the backslash, as a backslash and two digits,
+    as `list` prints them. Where that is long, its beginning."""
+    data = bytes_of(words) if isinstance(words, str) else words
+    text = "".join(chr(b) if 0x21 <= b <= 0x7e and b != 0x5c else "\\%02x" % b for b in data[:SHOWN])
+    return text + ".." * (len(data) > SHOWN)
+
+
+def one_line(text):
+    """Text in one line: what can't be seen stands there as `shown` has it. Where it is very long, its beginning."""
+    found = "".join(it if it.isprintable() else shown(it) for it in text[:LINE_MOST])
+    return found + ".." * (len(text) > LINE_MOST)

@@ -1,0 +1,94 @@
+"""The attribute trailer of a romfs image, as strata-attributes(5) describes it: mode, owner and time of its nodes.
+
+It stands behind the image's full size, where no reader of romfs looks. What a row says is 28 bytes here, all of it but
+the offset of the header that it is about.
+"""
+import os
+import struct
+
+from strata_format.files import write_at
+
+MAGIC = b"-attr01-"
+HEAD_SIZE, ROW_SIZE = 16, 32
+SAID = struct.Struct(">3Iq2I")
+PLACE = struct.Struct(">I")
+MODE_MOST, OWNER_MOST, SECOND = 0o7777, 2 ** 32 - 1, 10 ** 9
+# strata reads a trailer of an image in its file that ends below 2^32; all that stands there are multiples of 16
+END_MOST = 2 ** 32 - 16
+# a block device gives whole blocks only
+BLOCK_SIZE = 1024
+PIECE = 1 << 20
+
+
+def said(mode, uid, gid, seconds, nanoseconds):
+    """What a row says of a node: the low twelve bits of its mode, its owner, and when it was last changed."""
+    return SAID.pack(mode, uid, gid, seconds, nanoseconds, 0)
+
+
+def is_good(row):
+    """Whether a row keeps the rule, but for its offset."""
+    mode, _, _, _, nanoseconds, zero = SAID.unpack(row)
+    return mode <= MODE_MOST and nanoseconds < SECOND and zero == 0
+
+
+def place_of(full):
+    """Where the trailer of an image of this full size begins."""
+    return full + -full % 16
+
+
+def end_of(full, count):
+    """Where the trailer of an image of this full size ends, if it has so many rows."""
+    return place_of(full) + HEAD_SIZE + ROW_SIZE * count
+
+
+def words_sum(data):
+    pieces = (data[at:at + PIECE] for at in range(0, len(data), PIECE))
+    return sum(sum(struct.unpack(">%dI" % (len(piece) // 4), piece)) for piece in pieces)
+
+
+def trailer_of(rows):
+    """The trailer whose rows say this, by the offsets of headers."""
+    body = b"".join([PLACE.pack(at) + row for at, row in sorted(rows.items())])
+    begin = MAGIC + PLACE.pack(len(rows))
+    return begin + PLACE.pack(-words_sum(begin + body) & 0xffffffff) + body
+
+
+def write_trailer(number, full, rows):
+    """Writes the trailer of an image of this full size, in the place of what stood behind that. Its letters come last, so that
+    one that is written by half is none."""
+    data, place = memoryview(trailer_of(rows)), place_of(full)
+    end = place + len(data)
+    os.ftruncate(number, place)
+    os.ftruncate(number, end + -end % BLOCK_SIZE)
+    write_at(number, data[len(MAGIC):], place + len(MAGIC))
+    write_at(number, data[:len(MAGIC)], place)
+
+
+class Rows:
+    """The rows of an image, of all whose bytes and of whose full size these are. There are none where it has no trailer, or
+    one that is cut off."""
+
+    def __init__(self, data, full):
+        self.data, self.at, self.count = data, place_of(full) + HEAD_SIZE, 0
+        if data[self.at - HEAD_SIZE:self.at - HEAD_SIZE + len(MAGIC)] == MAGIC and self.at <= len(data):
+            count, = PLACE.unpack_from(data, self.at - 8)
+            self.count = count * (self.at + ROW_SIZE * count <= len(data))
+
+    def row(self, number):
+        at = self.at + ROW_SIZE * number
+        return PLACE.unpack_from(self.data, at)[0], self.data[at + 4:at + ROW_SIZE]
+
+    def said(self, header):
+        """What a good row says of the node whose header stands there, or None."""
+        low, high = 0, self.count
+        while low < high:
+            middle = (low + high) // 2
+            place, row = self.row(middle)
+            if place == header:
+                return row if is_good(row) else None
+            low, high = (middle + 1, high) if place < header else (low, middle)
+        return None
+
+    def every(self):
+        """What all rows say, by the offsets of headers."""
+        return dict(self.row(number) for number in range(self.count))

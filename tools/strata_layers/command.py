@@ -1,0 +1,102 @@
+"""Makes a romfs image of each layer of a container image: tools/layers.py LAYOUT[:TAG] FOLDER
+
+LAYOUT is an OCI image layout, as `skopeo copy docker://IMAGE oci:LAYOUT:TAG` or umoci writes it.
+FOLDER is created if necessary. It gets 00.romfs, 01.romfs and so on, the lowest layer first, or
+nothing; existing images are never overwritten. The command that mounts them is printed. What
+romfs cannot hold is reported on standard error, once for each kind. A layout that would lose data
+is refused with one line and status 1. Status 2 means a wrong command line.
+
+It needs no root and unpacks nothing: file data goes straight from the archive into the image.
+Modes, owners and times follow each image, as in strata-attributes(5).
+"""
+import os
+import re
+import shlex
+import signal
+import sys
+
+from strata_format import ends
+from strata_format.refused import Refused, shown
+from strata_format.version import command, version
+
+VERBS = ("image", "convert", "pull", "images", "verify", "remove", "prune", "config", "attributes")
+
+
+def say(line):
+    ends.write(line + "\n")
+
+
+def say_fault(line):
+    say("%s: %s" % (command("layers"), line))
+
+
+def help_text():
+    name = command("layers")
+    lines = ["usage: %s LAYOUT[:TAG] FOLDER" % name]
+    lines += ["       %s %s .. (each has a --help)" % (name, "|".join(VERBS)),
+              "       %s -h|--help|-V|--version" % name]
+    return "\n".join(lines) + "\n\n" + __doc__.split("\n\n", 1)[1].rstrip() + "\n"
+
+
+def wrong_words(words):
+    """What is wrong with words that neither begin with a verb nor are a layout and a folder; None where nothing is."""
+    if not words:
+        return "a verb or LAYOUT[:TAG] FOLDER is missing"
+    first, is_there = shown(os.fsencode(words[0])), os.path.lexists(words[0])
+    if first.startswith("-") and not is_there:
+        return "%s: an option before the verb" % first
+    # a path, or a name with a tag, is a layout's that isn't there
+    if not re.search("[:/]", words[0]) and not is_there:
+        return "%s: neither a directory nor a verb; the verbs are %s" % (first, ", ".join(VERBS))
+    if len(words) == 1:
+        return "FOLDER for the images of %s is missing" % first
+    return "%s: unexpected after LAYOUT[:TAG] FOLDER" % shown(os.fsencode(words[2])) if len(words) > 2 else None
+
+
+def images_of_layout(words):
+    """`LAYOUT[:TAG] FOLDER`."""
+    from strata_layers.image_folder import write_images
+    paths, lost = write_images(*words)
+    for line in lost.lines():
+        say(line)
+    line = " ".join([command("mount"), *(shlex.quote(path) for path in paths), "DIR"])
+    ends.put(os.fsencode(line) + b"\n")
+    return 0
+
+
+def run(words):
+    first = words[0] if words else None
+    if first in ("-V", "--version"):
+        ends.put(b"strata-layers %s\n" % version().encode())
+        return 0
+    if first in ("-h", "--help"):
+        ends.put(help_text().encode())
+        return 0
+    if first in VERBS:
+        from strata_layers import verbs
+        return verbs.run(words)
+    wrong = wrong_words(words)
+    if wrong is not None:
+        say_fault("%s; see --help" % wrong)
+        return 2
+    return images_of_layout(words)
+
+
+def main(words):
+    ends.begin()
+    # an end by a signal takes away what was begun
+    signal.signal(signal.SIGTERM, lambda *_: sys.exit(143))
+    try:
+        return run(words)
+    except Refused as refused:
+        for line in refused.lines():
+            say_fault(line)
+    except OSError as fault:
+        where = shown(fault.filename if isinstance(fault.filename, (str, bytes)) else words[-1])
+        say_fault("%s: %s" % (where, (fault.strerror or str(fault)).lower()))
+    except MemoryError:
+        # names are held, and a small archive may have very many
+        say_fault("out of memory")
+    except KeyboardInterrupt:
+        return 130
+    return 1

@@ -1,0 +1,137 @@
+"""`convert`: a layout whose layers are images of romfs, made of one whose layers are archives."""
+import hashlib
+import os
+
+from strata_format.progress import Progress
+from strata_format.refused import Refused, shown
+from strata_layers.layout_images import PACKED_ROMFS, PART, ROMFS, all_images, image_of
+from strata_layers.layout_writer import LayoutWriter, check_tag, split_new_name
+from strata_layers.layouts import INDEXES, MANIFESTS, digest_of
+from strata_layers.packing import packed_pieces
+from strata_layers.store import pieces_of
+from strata_layers.store_layers import Maker
+
+CONFIG = "application/vnd.oci.image.config.v1+json"
+# what a layer was made of stands in its annotations under this key
+SOURCE = "vnd.strata.layer.source"
+
+
+def checked_pieces(layer, number, where, heard):
+    """The bytes of an open layer, in pieces; Refused at the end where its digest is wrong."""
+    found = hashlib.sha256()
+    for data in pieces_of(number):
+        found.update(data)
+        heard(len(data))
+        yield data
+    if found.hexdigest() != layer.digits:
+        raise Refused("%s: the layer sha256:%s has the digest sha256:%s"
+                      % (where, layer.digits, found.hexdigest()))
+
+
+class Converter:
+    """Writes images of one layout into another, over a store that is locked."""
+
+    def __init__(self, maker, target, packing):
+        self.maker, self.target, self.packing, self.store = maker, target, packing, maker.store
+
+    def image(self, image, layers):
+        """Writes an image with its layers of the store, a list of images each; the descriptor of
+        its manifest."""
+        each = [(it, number) for number, found in enumerate(layers) for it in found]
+        rootfs = {**image.config["rootfs"], "diff_ids": ["sha256:" + it.digits for it, _ in each]}
+        described = self.target.document(CONFIG, {**image.config, "rootfs": rootfs})
+        found = [self.layer(it, source_of(image, number)) for it, number in each]
+        value = {"schemaVersion": 2, "mediaType": MANIFESTS[0], "config": described,
+                 "layers": found}
+        if isinstance(image.manifest.get("annotations"), dict):
+            value["annotations"] = image.manifest["annotations"]
+        return self.target.document(MANIFESTS[0], value, **platform_of(image))
+
+    def layer(self, layer, source):
+        """Writes a layer; its descriptor."""
+        digits, size = self.blob(layer)
+        media = ROMFS + ("+" + self.packing if self.packing else "")
+        notes = {SOURCE: source, **({PART: str(layer.part + 1)} if layer.part else {})}
+        return {"mediaType": media, "digest": "sha256:" + digits, "size": size,
+                "annotations": notes}
+
+    def blob(self, layer):
+        """Writes the blob of a layer; its digits and its size."""
+        number = self.store.open_layer(layer.digits)
+        if number is None:
+            raise Refused("%s: a layer has gone meanwhile" % self.store.name)
+        try:
+            if self.packing:
+                return self.packed_blob(layer, number)
+            self.target.copy_of(number, layer.digits, layer.size)
+            return layer.digits, layer.size
+        finally:
+            os.close(number)
+
+    def packed_blob(self, layer, number):
+        """The same packed; where it was packed once, and is in the layout still, it is not packed
+        again."""
+        found = self.maker.packed(layer, self.packing)
+        if found is not None and self.target.has(*found):
+            return found
+        with Progress("packed", layer.size) as progress:
+            pieces = checked_pieces(layer, number, self.store.name, progress.add)
+            found = self.target.blob(packed_pieces(pieces, self.packing))
+        self.maker.note_packed(layer, self.packing, found)
+        return found
+
+
+def source_of(image, number):
+    """The digest of what a layer was made of: its own, or what an image of romfs says."""
+    it = image.layers[number]
+    if it.media in PACKED_ROMFS:
+        notes = image.manifest["layers"][number].get("annotations", {})
+        return str(notes.get(SOURCE, digest_of(it)))
+    return digest_of(it)
+
+
+def platform_of(image):
+    """The platform of an image, as its configuration says it, or else the index that named it."""
+    named = dict(zip(("os", "architecture", "variant"), image.descriptor.platform))
+    found = {key: image.config.get(key) or named[key] for key in ("architecture", "os", "variant")}
+    found = {key: value for key, value in found.items() if isinstance(value, str) and value}
+    return {"platform": found} if "os" in found and "architecture" in found else {}
+
+
+def images_asked(layout, tag, platform):
+    """The images that are meant: the one of a platform, or all."""
+    if platform == "all":
+        return all_images(layout, tag)
+    return [image_of(layout, layout.descriptor(tag, platform), platform)]
+
+
+def new_name(layout, tag, word):
+    """The folder and the tag that an image is written to; without a tag it keeps its own."""
+    folder, new_tag = split_new_name(word)
+    own = layout.reference(tag)
+    new_tag = new_tag or own or "latest"
+    check_tag(new_tag)
+    if new_tag == own and os.path.isdir(folder) and os.path.samefile(folder, layout.folder):
+        raise Refused("%s: is what is to be converted" % shown(os.fsencode(word)))
+    return folder, new_tag
+
+
+def convert(store, layout, tag, word, options, lost):
+    """Writes the images of a layout that a tag and a platform mean into the layout of a word,
+    `LAYOUT[:TAG]`; its folder and tag. `options` has `platform` (None: this machine's) and
+    `packing`."""
+    folder, new_tag = new_name(layout, tag, word)
+    images = images_asked(layout, tag, options.platform)
+    with store.locked():
+        maker = Maker(store, lost, checks_archives=False)
+        size = sum(it.size for image in images for it in image.layers)
+        with Progress("layers", size) as progress:
+            layout.heard = progress.add
+            layers = [maker.layers(layout, image) for image in images]
+        converter = Converter(maker, LayoutWriter(folder), options.packing)
+        made = [converter.image(*both) for both in zip(images, layers)]
+        if options.platform == "all":
+            value = {"schemaVersion": 2, "mediaType": INDEXES[0], "manifests": made}
+            made = [converter.target.document(INDEXES[0], value)]
+        converter.target.put_index(made[0], new_tag)
+    return folder, new_tag

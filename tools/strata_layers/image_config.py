@@ -1,0 +1,104 @@
+"""What an image's configuration says of how it is run, for people and for the programs that run
+it."""
+import json
+import shlex
+
+from strata_format.refused import Refused
+
+
+def is_text(value):
+    """Whether a word of the system can say it: JSON may name halves of characters, too."""
+    try:
+        return isinstance(value, str) and b"\0" not in value.encode()
+    except UnicodeEncodeError:
+        return False
+
+
+def texts(value, name):
+    """A list of texts of a configuration; none where there is none."""
+    found = value.get(name)
+    if found is None:
+        return []
+    if not isinstance(found, list) or not all(is_text(it) for it in found):
+        raise Refused("the image's configuration has no good '%s'" % name)
+    return found
+
+
+def one_text(value, name):
+    found = value.get(name)
+    if found is None:
+        return ""
+    if not is_text(found):
+        raise Refused("the image's configuration has no good '%s'" % name)
+    return found
+
+
+class RunConfig:
+    """How an image is run."""
+
+    def __init__(self, config):
+        value = config.get("config")
+        value = value if isinstance(value, dict) else {}
+        self.entry_point, self.command = texts(value, "Entrypoint"), texts(value, "Cmd")
+        self.environment = texts(value, "Env")
+        self.folder, self.user = one_text(value, "WorkingDir") or "/", one_text(value, "User")
+
+    def words(self):
+        """The words of the program that the image starts."""
+        found = self.entry_point + self.command
+        if not found:
+            raise Refused("the image says neither an entry point nor a command")
+        return found
+
+
+def config_lines(config):
+    """Lines of the shell's words: what it is, and its words."""
+    it = RunConfig(config)
+    yield " ".join(["entrypoint", *map(shlex.quote, it.entry_point)])
+    yield " ".join(["command", *map(shlex.quote, it.command)])
+    for text in it.environment:
+        yield "env " + shlex.quote(text)
+    yield "folder " + shlex.quote(it.folder)
+    yield " ".join(["user", *([shlex.quote(it.user)] if it.user else [])])
+
+
+def become(user, caller):
+    """The words before bwrap by which the caller, a user's and a group's number, becomes the user;
+    refused where he may not."""
+    if (user.uid, user.gid) == caller:
+        return []
+    if caller[0] != 0:
+        raise Refused("the image's user is %d:%d, and you are %d:%d; root can run it as that user, and"
+                      " --as-caller runs it with your rights under that number"
+                      % (user.uid, user.gid, *caller))
+    groups = ["--groups", ",".join(map(str, user.groups))] if user.groups else ["--clear-groups"]
+    return ["setpriv", "--reuid", str(user.uid), "--regid", str(user.gid), *groups, "--inh-caps=-all"]
+
+
+def renumbered(user, caller):
+    """The words of bwrap by which the caller's own rights have the user's numbers in the sandbox."""
+    if caller[0] == 0:
+        raise Refused("--as-caller would give root's rights to the image's user; leave it out")
+    return ["--unshare-user", "--uid", str(user.uid), "--gid", str(user.gid)]
+
+
+def bwrap_words(it, user, caller, options, as_caller):
+    """A whole command of bwrap: these options, then environment, folder and program of the image,
+    run as its user. Where the image says none and the caller is not root, it is the caller. No word
+    of the image is taken as an option."""
+    user = user if it.user or caller[0] == 0 else user._replace(uid=caller[0], gid=caller[1])
+    words = [] if as_caller else become(user, caller)
+    words += ["bwrap", *options, *(renumbered(user, caller) if as_caller else []), "--clearenv"]
+    for text in it.environment:
+        name, _, value = text.partition("=")
+        words += ["--setenv", name, value]
+    return [*words, "--chdir", it.folder, "--", *it.words()]
+
+
+def podman_words(it):
+    """Words of podman run: all of it, so that only --rootfs follows."""
+    words = ["--entrypoint", json.dumps(it.words()), "--workdir", it.folder]
+    for text in it.environment:
+        # a name alone would mean the value that it has outside
+        words += ["--env", text if "=" in text else text + "="]
+    return words + (["--user", it.user] if it.user else [])

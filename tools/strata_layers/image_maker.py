@@ -1,0 +1,154 @@
+"""The maker of images: of a folder, of an archive of tar, and of a layer.
+
+    lost = Lost()
+    folder = open_folder("tree")
+    image_of_folder(folder, out, lost)      out: a new file, open for writing and reading
+    for line in lost.lines(): ..            what the image doesn't hold
+
+Whiteouts are OCI's files `.wh.NAME` and `.wh..wh..opq`, which stand in the image as they are. What
+an image can't hold is told of up to ten entries, or, where this is asked, left out.
+"""
+from strata_format import romfs
+from strata_format.image import Image
+from strata_format.progress import unheard
+from strata_format.refused import BadEntry, Faults, NotHeld, Refused, shown
+from strata_format.romfs import path_text
+from strata_layers import entries, tars
+from strata_layers.entries import MARKER, said_by
+from strata_layers.folder_entries import Folder
+
+# the volume's name of an image of which no digest is known when it begins
+VOLUME_NAME = b"strata"
+DEVICES = {entries.CHARACTER: romfs.CHARACTER, entries.BLOCK_DEVICE: romfs.BLOCK}
+SPECIALS = {entries.FIFO: romfs.FIFO, entries.SOCKET: romfs.SOCKET}
+
+
+def path_of(name):
+    """The names of a path: an absolute one begins at the layer's root, and `.` and empty names say
+    nothing."""
+    names = tuple(name.split(b"/"))
+    if b"" in names or b"." in names:
+        names = tuple(part for part in names if part not in (b"", b"."))
+    if not name or b".." in names:
+        raise BadEntry("%s: no path within a layer" % (shown(name) or "''"))
+    return names
+
+
+def is_marker(path):
+    return path != () and path[-1].startswith(MARKER)
+
+
+def is_about_layers_below(path):
+    """Whether something is a marker, or below one."""
+    return any(name.startswith(MARKER) for name in path)
+
+
+def put(image, path, entry):
+    """Puts an entry into an image."""
+    executable = entry.mode & 0o111 != 0
+    if entry.kind in entries.FILES:
+        image.file(path, executable, entry.size, entry.data).said = said_by(entry)
+    elif entry.kind == entries.DIRECTORY:
+        image.directory(path, executable).said = said_by(entry)
+    elif entry.kind == entries.SYMBOLIC:
+        image.symlink(path, entry.link).said = said_by(entry)
+    elif entry.kind == entries.HARD:
+        image.hard_link(path, path_of(entry.link))
+    elif entry.kind in DEVICES:
+        kind = DEVICES[entry.kind]
+        image.device(path, kind, entry.major, entry.minor).said = said_by(entry)
+    elif entry.kind in SPECIALS:
+        image.special(path, SPECIALS[entry.kind]).said = said_by(entry)
+    else:
+        raise BadEntry("%s: an entry of the unknown type '%s'"
+                       % (shown(entry.name), shown(entry.kind)))
+
+
+class Maker:
+    """Puts entries into an image. `lost` is told what the image doesn't hold of them, each named
+    behind the words `where`; it also has whether what no image holds is left out."""
+
+    def __init__(self, image, lost, where=""):
+        self.image, self.lost, self.where = image, lost, where
+        self.faults, self.left_out = Faults(), set()
+
+    def put_archive(self, source):
+        """All that is in an archive of tar, which is read to the end of the source."""
+        try:
+            for entry in tars.Tar(source).entries():
+                self.put_named(entry)
+        except Refused as refused:
+            self.faults.note(refused)
+        self.faults.settle()
+        # what stands behind the archive says nothing, but a packed one has its checksum at the end
+        while source.read(tars.PIECE):
+            pass
+
+    def put_named(self, entry):
+        """An entry of an archive, whose path its name says."""
+        try:
+            path = path_of(entry.name)
+            if entry.wrong is not None:
+                raise entry.wrong
+        except BadEntry as bad:
+            self.faults.note(bad)
+            return
+        # where a file replaces a directory, umoci also says that what was in the directory is gone
+        if not is_marker(path) or not self.image.is_barred(path):
+            self.put(path, entry)
+
+    def put_folder(self, folder):
+        """All that is in a folder; its files are read when the image is finished."""
+        for path, entry in folder.entries(self.faults):
+            self.put(path, entry)
+        self.faults.settle()
+
+    def put(self, path, entry):
+        try:
+            if self.is_left_out(entry):
+                self.leave_out(path)
+                return
+            put(self.image, path, entry)
+        except NotHeld as refused:
+            if not self.lost.leaves_out:
+                self.faults.note(refused)
+            else:
+                self.leave_out(path)
+        except BadEntry as bad:
+            self.faults.note(bad)
+        else:
+            if not is_marker(path):
+                self.lost.note_entry(self.where, path, entry)
+
+    def is_left_out(self, entry):
+        """Whether an entry is a hard link to what was left out."""
+        return entry.kind == entries.HARD and self.left_out and path_of(entry.link) in self.left_out
+
+    def leave_out(self, path):
+        self.left_out.add(path)
+        self.lost.note("entries", self.where + path_text(path))
+
+
+def image_of_archive(source, out, lost):
+    """Makes the image of an archive of tar; `source.read(n)` gives at most n bytes of it, and none
+    at its end."""
+    image = Image(lambda: out, VOLUME_NAME)
+    Maker(image, lost).put_archive(source)
+    image.finish()
+
+
+def image_of_folder(number, out, lost, name=b".", is_upper=False, progress=None):
+    """Makes the image of an open folder, which faults call `name`. `is_upper` says that it is the
+    upper one of a mount of overlayfs, whose whiteouts become those of layers. `progress` is told
+    how many bytes there are, and of those that are read. Refused where the folder is changed
+    meanwhile."""
+    image = Image(lambda: out, VOLUME_NAME)
+    folder = Folder(number, name, out, is_upper, progress.add if progress else unheard)
+    try:
+        Maker(image, lost).put_folder(folder)
+        if progress:
+            progress.total = folder.size
+        image.finish()
+        folder.check()
+    finally:
+        folder.close()

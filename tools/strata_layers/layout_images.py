@@ -1,0 +1,84 @@
+"""The images of a layout as convert and pull read them: manifest, configuration and layers
+together.
+
+    image = image_of(layout, descriptor)
+    image.layers[0]      the lowest layer
+    image.archives[0]    the digest of what it was before it was packed
+"""
+import collections
+import re
+
+from strata_format.refused import Refused, shown
+from strata_layers.layouts import INDEXES, LAYERS_MOST, MANIFESTS, NESTED_MOST, PACKED, descriptor_of, field
+
+ROMFS = "application/vnd.strata.layer.v1.romfs"
+# media types of layers that are images of romfs, each with how it is packed
+PACKED_ROMFS = {ROMFS: "", ROMFS + "+gzip": "gzip", ROMFS + "+zstd": "zstd"}
+
+# where a layer takes several images, the higher ones say their place among them, from 2 on
+PART = "vnd.strata.layer.part"
+PARTS = re.compile("[2-9]|[1-9][0-9]{1,2}")
+
+Image = collections.namedtuple("Image", "descriptor manifest config media layers archives parts")
+
+
+def layers_in(manifest, where):
+    """The descriptors of a manifest's layers, the lowest first."""
+    found = [descriptor_of(it, where) for it in field(manifest, "layers", list, where)]
+    if not 1 <= len(found) <= LAYERS_MOST:
+        raise Refused("%s: %d layers, allowed 1 to %d" % (where, len(found), LAYERS_MOST))
+    for it in found:
+        if it.media not in PACKED and it.media not in PACKED_ROMFS:
+            raise Refused("%s: no layer of files, but %s" % (where, shown(it.media)))
+    return found
+
+
+def archives_in(config, count, where):
+    """The digests that a configuration names its layers by, as they were before they were
+    packed."""
+    found = field(field(config, "rootfs", dict, where), "diff_ids", list, where)
+    if len(found) != count or not all(isinstance(it, str) for it in found):
+        raise Refused("%s: no digest for each of %d layers in 'diff_ids'" % (where, count))
+    return found
+
+
+def parts_in(manifest):
+    """Of each layer of a manifest which part of a layer it is, from 0 on; what is no image of romfs
+    has no parts."""
+    found = []
+    for it in manifest["layers"]:
+        said = it.get("annotations", {}).get(PART) if it["mediaType"] in PACKED_ROMFS else None
+        found.append(int(said) - 1 if isinstance(said, str) and PARTS.fullmatch(said) else 0)
+    return found
+
+
+def image_of(layout, descriptor, asked=None):
+    """The image of a manifest; where a platform is asked for, it must be of it."""
+    manifest, where = layout.document(descriptor)
+    layers = layers_in(manifest, where)
+    described = descriptor_of(field(manifest, "config", dict, where), where)
+    config, where = layout.document(described, is_config=True)
+    if asked and config.get("architecture", asked[0]) != asked[0]:
+        raise Refused("%s: is for %s" % (where, shown(str(config["architecture"]))))
+    archives = archives_in(config, len(layers), where)
+    parts = parts_in(manifest)
+    return Image(descriptor, manifest, config, described.media, layers, archives, parts)
+
+
+def all_images(layout, tag):
+    """The images of all platforms, through nested indexes; what builders attest is left out."""
+    todo, where = layout.found(tag)
+    found = {}
+    for _ in range(NESTED_MOST + 1):
+        images = [it for it in todo if it.media in MANIFESTS and not it.is_note]
+        for it in images:
+            found.setdefault((it.digits, it.size, it.media, it.platform, str(it.reference)), it)
+        # an index that is named many times is read once
+        indexes = {it.digits: it for it in todo if it.media in INDEXES}
+        inner = [layout.manifests(*layout.document(it)) for it in indexes.values()]
+        todo = [below for found_there in inner for below in found_there]
+        if not todo:
+            break
+    if not found:
+        raise Refused("%s: no image" % where)
+    return [image_of(layout, it) for it in found.values()]

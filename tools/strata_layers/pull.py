@@ -1,0 +1,68 @@
+"""`pull`: brings an image into a store, from a layout or from a registry."""
+import contextlib
+import os
+
+from strata_format.progress import Progress
+from strata_format.refused import Refused, shown
+from strata_layers.fetch import TAG, TRANSPORT, fetched, split_reference
+from strata_layers.layout_images import image_of
+from strata_layers.layouts import digest_of
+from strata_layers.open_layout import open_layout
+from strata_layers.store_images import LATEST, StoredImage, count_of, put_image, split_image
+from strata_layers.store_layers import Maker
+
+LAYOUT = "oci:"
+
+
+def name_of(source, tag):
+    """The name that an image gets where none is said: the last name of the layout's path, with its
+    tag; of an image of a registry its name there, without the host."""
+    if source.startswith(TRANSPORT):
+        name, rest = split_reference(source[len(TRANSPORT):])
+        _, slash, path = name.partition("/")
+        return "%s:%s" % (path if slash else name, rest[1:] if rest.startswith(":") else LATEST)
+    return "%s:%s" % (os.path.basename(os.path.realpath(source)), tag or LATEST)
+
+
+def checked_name(word):
+    name, tag = split_image(word)
+    return "%s:%s" % (name, tag or LATEST)
+
+
+@contextlib.contextmanager
+def opened(maker, source, platform):
+    """The layout that an image is read from, its descriptor there, and the digest that it is known
+    by."""
+    if source.startswith(TRANSPORT):
+        reference = source[len(TRANSPORT):]
+        with fetched(maker.store, reference, platform, maker.has_made) as (layout, digest):
+            yield layout, layout.descriptor(TAG, platform), digest
+        return
+    layout, tag = open_layout(source[len(LAYOUT):])
+    found = layout.descriptor(tag, platform)
+    yield layout, found, digest_of(found)
+
+
+def pull(store, source, name, platform, lost):
+    """Brings an image into a store under a name; its whole name, how many layers it has, and how
+    many of them are new."""
+    if not source.startswith((LAYOUT, TRANSPORT)):
+        raise Refused("%s: oci:LAYOUT[:TAG] or docker://HOST/NAME[:TAG] is wanted"
+                      % shown(os.fsencode(source)))
+    name = checked_name(name or name_said(source))
+    with store.locked():
+        maker = Maker(store, lost, checks_archives=True)
+        with opened(maker, source, platform) as (layout, found, digest):
+            image = image_of(layout, found, platform)
+            with Progress("layers", sum(it.size for it in image.layers)) as progress:
+                layout.heard = progress.add
+                layers = [it for found in maker.layers(layout, image) for it in found]
+        put_image(store, name, StoredImage(source, digest, layers, image.config))
+    return name, count_of(layers), maker.made_count
+
+
+def name_said(source):
+    if source.startswith(TRANSPORT):
+        return name_of(source, None)
+    layout, tag = open_layout(source[len(LAYOUT):])
+    return name_of(layout.folder, layout.reference(tag))

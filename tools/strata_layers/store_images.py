@@ -1,0 +1,184 @@
+"""The images of a store by their names, and the layers of an image for a mount."""
+import collections
+import fcntl
+import json
+import os
+import re
+
+from strata_format.progress import Progress
+from strata_format.refused import Refused, shown
+from strata_layers.store import Store, default_place, digits_of, file_digits
+
+NAME = re.compile(r"[A-Za-z0-9][A-Za-z0-9._-]*(/[A-Za-z0-9][A-Za-z0-9._-]*)*")
+TAG = re.compile(r"[A-Za-z0-9_][A-Za-z0-9._-]*")
+NAME_MOST, TAG_MOST = 120, 128
+LATEST = "latest"
+
+# what is known of an image: where it came from, its manifest's digest there, its layers from the
+# lowest up, and its configuration
+StoredImage = collections.namedtuple("StoredImage", "source manifest layers config")
+# an image of a layer; where a layer takes several, the higher ones are its parts from 1 on
+StoredLayer = collections.namedtuple("StoredLayer", "digits size part", defaults=(0,))
+
+
+def split_image(word):
+    """The name and the tag of `NAME[:TAG]`; the tag is None where there is none."""
+    name, colon, tag = word.partition(":")
+    is_name = NAME.fullmatch(name) and ".." not in name and len(name) <= NAME_MOST
+    if not is_name or colon and not (TAG.fullmatch(tag) and len(tag) <= TAG_MOST):
+        raise Refused("%s: no name of an image; NAME[:TAG] is wanted, of letters, digits, `.`, `_`"
+                      " and `-`, and `/` within NAME" % shown(word))
+    return name, tag if colon else None
+
+
+def file_name(name, tag):
+    return "%s:%s" % (name.replace("/", "%"), tag)
+
+
+def names(store):
+    """The names of all images, as NAME:TAG, in order."""
+    found = [it.replace("%", "/") for it in os.listdir(store.images)]
+    return sorted(it for it in found if ":" in it)
+
+
+def full_name(store, word):
+    """The whole name that is meant: without a tag `latest`, or the only tag that there is."""
+    name, tag = split_image(word)
+    there = [it.rpartition(":")[2] for it in names(store) if it.rpartition(":")[0] == name]
+    if tag is None and len(there) > 1 and LATEST not in there:
+        raise Refused("%s: which tag? There is %s" % (word, ", ".join(there)))
+    if tag is None:
+        tag = there[0] if len(there) == 1 else LATEST
+    if tag not in there:
+        raise Refused("%s: no such image in %s" % (word, store.name))
+    return "%s:%s" % (name, tag)
+
+
+def image_in(store, word):
+    """The image of a name."""
+    name, tag = split_image(full_name(store, word))
+    value = store.small_json(store.images, file_name(name, tag))
+    if value is None:
+        raise Refused("%s: no such image in %s" % (word, store.name))
+    return image_of_json(value, "%s: %s:%s" % (store.name, name, tag))
+
+
+def image_of_json(value, where):
+    layers, config = value.get("layers"), value.get("config")
+    if not isinstance(layers, list) or not layers or not isinstance(config, dict):
+        raise Refused("%s: no good description of an image" % where)
+    found = [layer_of_json(it, where) for it in layers]
+    return StoredImage(str(value.get("source")), str(value.get("manifest")), found, config)
+
+
+def layer_of_json(value, where):
+    said = value if isinstance(value, dict) else {}
+    size, part = said.get("size"), said.get("part", 0)
+    if not isinstance(size, int) or not isinstance(part, int):
+        raise Refused("%s: no good description of a layer" % where)
+    return StoredLayer(digits_of(said.get("digest"), where), size, part)
+
+
+def layer_json(layer):
+    value = {"digest": "sha256:" + layer.digits, "size": layer.size}
+    return {**value, "part": layer.part} if layer.part else value
+
+
+def count_of(layers):
+    """How many layers these images are of."""
+    return sum(it.part == 0 for it in layers)
+
+
+def put_image(store, word, image):
+    """Gives an image its name in the store; one of this name that was there is replaced."""
+    name, tag = split_image(word)
+    value = {**image._asdict(), "layers": [layer_json(it) for it in image.layers]}
+    data = json.dumps(value, indent=1).encode()
+    store.write_small(store.images, file_name(name, tag or LATEST), data)
+
+
+def remove_image(store, word):
+    name, tag = split_image(full_name(store, word))
+    os.unlink(file_name(name, tag), dir_fd=store.images)
+
+
+# --- mounts ---
+
+def held_layer(store, layer, word, heard):
+    """An open file of a layer, with a lock on it that lasts as long as any process has this file
+    open. Its digest is looked at where `heard` is given."""
+    number = store.open_layer(layer.digits)
+    missing = "%s: its layer sha256:%s is missing; pull it again" % (word, layer.digits)
+    if number is None:
+        raise Refused(missing)
+    try:
+        fcntl.flock(number, fcntl.LOCK_SH)
+        found = os.fstat(number)
+        # prune may have taken it away before it was locked
+        if found.st_nlink == 0:
+            raise Refused(missing)
+        if found.st_size != layer.size or heard and file_digits(number, heard) != layer.digits:
+            where = shown(os.fsencode(store.path_of(layer.digits)))
+            raise Refused("%s: its layer %s has other bytes than its digest says; run `strata-layers"
+                          " verify`, and pull it again" % (word, where))
+    except BaseException:
+        os.close(number)
+        raise
+    return number
+
+
+def layers_of(store, word, is_verified=False):
+    """The paths of an image's layers, the lowest first, and open files of them: prune leaves a
+    layer as long as any process has such a file, which the server of a mount is given."""
+    image, marks = image_in(store, word), []
+    with Progress("verified", sum(it.size for it in image.layers)) as progress:
+        for layer in image.layers:
+            marks.append(held_layer(store, layer, word, progress.add if is_verified else None))
+    return [store.path_of(it.digits) for it in image.layers], marks
+
+
+def is_file(word):
+    """Whether a word names something that is there, but no folder."""
+    return os.path.lexists(word) and not os.path.isdir(word)
+
+
+def image_meant(word, store):
+    """The image that a word of a mount means, or None where it is a file. `image:NAME:TAG` always
+    is an image; else a file that is there comes before an image."""
+    if word.startswith("image:"):
+        return word.partition(":")[2]
+    if store is None or is_file(word):
+        return None
+    try:
+        return full_name(store, word)
+    except Refused:
+        return None
+
+
+def store_for(words, place):
+    """The store at a place, where words of a mount may mean one of its images; else None."""
+    is_asked = any(word.startswith("image:") for word in words)
+    if not is_asked and (all(map(is_file, words)) or not os.path.isdir(place)):
+        return None
+    try:
+        return Store(place)
+    except (Refused, OSError):
+        if is_asked:
+            raise
+        return None
+
+
+def mounted_words(words, place=None, is_verified=False):
+    """The paths that the words of a mount mean, files and images of the store at a place, and the
+    open files that mark layers of the store as in use. OSError where an image can't be had."""
+    paths, marks = [], []
+    try:
+        store = store_for(words, place or default_place())
+        for word in words:
+            image = image_meant(word, store)
+            found, held = ([word], []) if image is None else layers_of(store, image, is_verified)
+            paths, marks = paths + found, marks + held
+    except Refused as refused:
+        where, _, why = str(refused).partition(": ")
+        raise OSError(0, why, where) from None
+    return paths, marks

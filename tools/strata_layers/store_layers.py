@@ -1,0 +1,243 @@
+"""Brings the layers of an image into a store: what is there already is neither read nor made
+again. A layer is an image of romfs, or, if one can't hold it, several that lie on one another."""
+import collections
+import contextlib
+import json
+import os
+
+from strata_format import romfs, trailer
+from strata_format.files import copy_front, write_all
+from strata_format.read_romfs import ReadImage
+from strata_format.refused import Refused, shown
+from strata_layers.below import Below
+from strata_layers.layer_images import LayerWriter, read_blob
+from strata_layers.layout_images import PACKED_ROMFS
+from strata_layers.layouts import LAYERS_MOST, PACKED, digest_of
+from strata_layers.packing import Unpacked
+from strata_layers.store import SMALL_MOST, digits_of, file_digits
+from strata_layers.store_images import StoredLayer, layer_json, layer_of_json
+
+# a layer that was made by other rules is made anew
+MAKER = 3
+# above what an image of romfs can have, with all that stands behind it
+UNPACKED_MOST = 1 << 33
+BROKEN = "%s: the layer sha256:%s is broken"
+PIECE = 1 << 20
+
+
+def record_name(it):
+    return "%s-%s" % (it.algorithm, it.digits)
+
+
+# what is known of a blob: the images that were made of it, the lowest first, or None; the digest of
+# what it unpacks to, or None; the paths of the folders that it implies without an entry, which have
+# the rows of the layers below, whichever these were; and whether something was left out
+Made = collections.namedtuple("Made", "images archive implied is_less")
+NOTHING = Made(None, None, [], False)
+
+
+class Maker:
+    """Makes layers of the blobs of layouts, in a store that is locked. Where `checks_archives` says
+    so, an archive must have the digest that the image's configuration says of it; its blob's always
+    is checked."""
+
+    def __init__(self, store, lost, checks_archives):
+        self.store, self.lost, self.checks_archives = store, lost, checks_archives
+        self.made_count = 0
+
+    # --- what is there ---
+
+    def stored(self, layer):
+        """Whether an image is there with its size."""
+        return self.store.size_of(layer.digits) == layer.size
+
+    def made_of(self, it, part=0):
+        """What is known of a blob."""
+        if PACKED_ROMFS.get(it.media) == "" and it.algorithm == "sha256":
+            images = [StoredLayer(it.digits, it.size, part)]
+            is_there = self.stored(images[0])
+            return Made(images if is_there else None, "sha256:" + it.digits, [], False)
+        value = self.store.small_json(self.store.records, record_name(it))
+        if value is None or value.get("maker") != MAKER:
+            return NOTHING
+        where = "%s: %s" % (self.store.name, record_name(it))
+        images = layers_said(value.get("layers"), where)
+        if it.media in PACKED_ROMFS:
+            images = [images[0]._replace(part=part)]
+        is_less = value.get("is_less") is not False
+        is_there = all(map(self.stored, images)) and (self.lost.leaves_out or not is_less)
+        return Made(images if is_there else None, value.get("archive"),
+                    paths_said(value.get("implied"), where), is_less)
+
+    def has_made(self, it):
+        """Whether the layer of a blob is there. Over other layers it may need other rows."""
+        return self.made_of(it).images is not None
+
+    @staticmethod
+    def hold_unpacked(it, unpacked, archive):
+        """Sees that what a blob unpacks to, where that is known, is what an image says of it."""
+        if unpacked not in (None, archive):
+            raise Refused("blob %s: unpacked its digest is %s, and the image's configuration says"
+                          " %s" % (digest_of(it), shown(str(unpacked)), shown(archive)))
+
+    def note(self, name, made):
+        """Notes what is known of the blob that a record is named by. What is very long is not
+        noted, and its layer made anew each time."""
+        if made.implied is None:
+            return
+        value = {"maker": MAKER, "layers": [layer_json(it) for it in made.images],
+                 "archive": made.archive, "is_less": made.is_less,
+                 "implied": [b"/".join(path).decode("latin-1") for path in made.implied]}
+        data = json.dumps(value).encode()
+        if len(data) < SMALL_MOST:
+            self.store.write_small(self.store.records, name, data)
+
+    def packed(self, layer, packing):
+        """The digits and the size of a layer as it was packed before; or None."""
+        value = self.store.small_json(self.store.records, "sha256-%s.%s" % (layer.digits, packing))
+        if value is None or not isinstance(value.get("size"), int):
+            return None
+        return digits_of(value.get("digest"), self.store.name), value["size"]
+
+    def note_packed(self, layer, packing, found):
+        """Notes how a layer was packed, and that the blob unpacks to the layer."""
+        digits, size = found
+        value = {"digest": "sha256:" + digits, "size": size}
+        name = "sha256-%s.%s" % (layer.digits, packing)
+        self.store.write_small(self.store.records, name, json.dumps(value).encode())
+        self.note("sha256-" + digits, Made([layer], "sha256:" + layer.digits, [], False))
+
+    # --- what is made ---
+
+    def layer(self, layout, image, number, below):
+        """The images of a layer, over those below; they are brought into the store where they
+        aren't there."""
+        it, archive = image.layers[number], image.archives[number]
+        found = self.made_of(it, image.parts[number])
+        if found.images is not None:
+            self.hold_unpacked(it, found.archive, archive)
+            layout.heard(it.size)
+            return self.fitted(it, found, below) if found.implied else found.images
+        left_out = self.lost.count("entries")
+        with contextlib.ExitStack() as opened:
+            files = []
+
+            def new_file():
+                files.append(opened.enter_context(self.store.new_file()))
+                return files[-1].file
+
+            if it.media in PACKED:
+                writer = LayerWriter(layout, number, it, archive, self.checks_archives)
+                implied = writer.write(new_file, self.lost, below)
+                archive = archive if self.checks_archives else None
+                digits = [file_digits(new.file.fileno()) for new in files]
+            else:
+                digits, implied = [unpack_layer(layout, number, it, new_file())], []
+                self.hold_unpacked(it, "sha256:" + digits[0], archive)
+            images = [self.kept(*both, image.parts[number] + at)
+                      for at, both in enumerate(zip(files, digits))]
+        is_less = self.lost.count("entries") > left_out
+        self.note(record_name(it), Made(images, archive, implied, is_less))
+        return images
+
+    def kept(self, new, digits, part):
+        """The image in a new file that is whole, which is kept where it isn't there. A layer is
+        counted by its lowest image."""
+        layer = StoredLayer(digits, os.fstat(new.file.fileno()).st_size, part)
+        if not self.stored(layer):
+            self.store.keep_layer(new, digits)
+            self.made_count += part == 0
+        return layer
+
+    def fitted(self, it, found, below):
+        """The images of a blob's layer over those below: those that are there, or, where folders
+        that it implies have other rows in the layers below, copies with these."""
+        read, images = set(), []
+        for layer in found.images:
+            number = self.opened(layer)
+            try:
+                images.append(self.fitted_image(layer, number, found.implied, below, read))
+            finally:
+                os.close(number)
+        if len(read) < len(found.implied):
+            raise Refused(BROKEN % (self.store.name, found.images[0].digits))
+        if images != found.images:
+            self.note(record_name(it), found._replace(images=images))
+        return images
+
+    def fitted_image(self, layer, number, implied, below, read):
+        """One of them, in an open file; the paths of its folders among those that are implied are
+        noted as read."""
+        try:
+            image = ReadImage(number)
+            there = {path: image.found(path) for path in implied}
+        except Refused:
+            raise Refused(BROKEN % (self.store.name, layer.digits)) from None
+        wanted = {place: below.said(path) for path, place in there.items() if place is not None}
+        read.update(path for path, place in there.items() if place is not None)
+        if all(image.said(place) == row for place, row in wanted.items()):
+            return layer
+        rows = {**image.rows.every(), **wanted}
+        with self.store.new_file() as new:
+            copy_front(number, new.file.fileno(), image.full)
+            trailer.write_trailer(new.file.fileno(), image.full,
+                                  {at: row for at, row in rows.items() if row is not None})
+            return self.kept(new, file_digits(new.file.fileno()), layer.part)
+
+    def opened(self, layer):
+        number = self.store.open_layer(layer.digits)
+        if number is None:
+            raise Refused("%s: a layer has gone meanwhile" % self.store.name)
+        return number
+
+    def layers(self, layout, image):
+        """The images of all layers of an image, a list for each of its blobs, the lowest first."""
+        below, found = Below(), []
+        for at in range(len(image.layers)):
+            found.append(self.layer(layout, image, at, below))
+            for layer in found[-1]:
+                number = self.opened(layer)
+                try:
+                    below.add(number)
+                finally:
+                    os.close(number)
+        count = sum(map(len, found))
+        if count > LAYERS_MOST:
+            raise Refused("its layers take %d images, and %d can be stacked" % (count, LAYERS_MOST))
+        return found
+
+
+def layers_said(value, where):
+    """The images that a record says."""
+    if not isinstance(value, list) or not value:
+        raise Refused("%s: no good images of a layer" % where)
+    return [layer_of_json(it, where) for it in value]
+
+
+def paths_said(value, where):
+    """The paths of folders that a record says."""
+    if not isinstance(value, list) or not all(isinstance(it, str) for it in value):
+        raise Refused("%s: no good paths of folders" % where)
+    return [tuple(it.encode("latin-1", "replace").split(b"/")) if it else () for it in value]
+
+
+def unpack_layer(layout, number, it, file):
+    """Writes an image of romfs as it was before it was packed; the digits of its digest."""
+    return read_blob(layout, number, it, lambda blob: write_unpacked(blob, it, file))
+
+
+def write_unpacked(blob, it, file):
+    # what is not packed is hashed as the blob
+    is_hashed = PACKED_ROMFS[it.media] != "" or it.algorithm != "sha256"
+    source, size = Unpacked(blob, PACKED_ROMFS[it.media], is_hashed, UNPACKED_MOST), 0
+    try:
+        for data in iter(lambda: source.read(PIECE), b""):
+            if size == 0 and not data.startswith(romfs.MAGIC):
+                raise Refused("no image of romfs")
+            size += len(data)
+            write_all(file, data)
+    finally:
+        source.close()
+    if size == 0:
+        raise Refused("no image of romfs")
+    return source.digest().partition(":")[2] if is_hashed else it.digits

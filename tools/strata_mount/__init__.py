@@ -1,0 +1,1 @@
+"""Mounts images: strata-mount, and mount.strata for mount(8)."""

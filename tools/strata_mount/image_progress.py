@@ -1,0 +1,25 @@
+"""How far strata is with the images of a mount, as one line on a terminal, from a second on."""
+from strata_format.image_files import size_of
+from strata_format.progress import Progress
+
+STEP = 0.2
+
+
+def read_by(process):
+    """The bytes that a process has read."""
+    try:
+        with open("/proc/%d/io" % process, encoding="ascii") as it:
+            return int(it.readline().split()[1])
+    except (OSError, IndexError, ValueError):
+        return 0
+
+
+def watch(asking, server, images):
+    """Tells how far a server is until a thread has ended, which asks whether the mount answers. Of images that are read whole
+    it is known how many bytes there are; else, with None, how many were read is all that is told."""
+    total = sum(map(size_of, images)) if images else None
+    with Progress("images", total) as progress:
+        while asking.is_alive():
+            count = read_by(server)
+            progress.add((count if total is None else min(count, total)) - progress.count)
+            asking.join(STEP)

@@ -1,0 +1,52 @@
+"""What is mounted where, and how."""
+import argparse
+import os
+
+from strata_format import ends, version
+from strata_format.refused import one_line
+
+WORDS = ("ro", "nosuid", "nodev", "default_permissions")
+# the most that is read at once where a relay passes replies on in packets
+RELAYED_READ = "max_read=131072"
+
+
+class Plan(argparse.Namespace):
+    """What the words of strata-mount say, or those of the mount helper."""
+
+    # who is called, in messages; what `findmnt` shows as the source
+    name, source = "strata-mount", "strata"
+    # strata's own program, unless another is named
+    program, images, folder = None, (), None
+    words, owner, workers, readers = (), None, None, None
+    background = strict = whole = modeless = replace = debug = verify = False
+    may_replace, store = True, None
+    # the name of the file in which requests are counted
+    stats = None
+    # open files that mark layers of the store as in use while strata runs
+    marks = ()
+
+    def say(self, line):
+        ends.write("%s: %s\n" % (self.name, line))
+
+    def say_fault(self, fault):
+        """Says what failed, and of which file where one is to blame."""
+        where = [] if fault.filename is None else [one_line(os.fsdecode(fault.filename))]
+        self.say(": ".join([*where, fault.strerror or str(fault)]))
+
+    def is_relayed(self):
+        return self.debug or self.stats is not None
+
+    def settle(self, options):
+        """Takes over what -o says."""
+        is_said = any(word.partition("=")[0] == "max_read" for word in options.mount)
+        relayed = [RELAYED_READ] * (self.is_relayed() and not is_said)
+        self.words = [*WORDS, *relayed, *options.mount]
+        self.strict = self.strict or "strict" in options.strata
+        self.whole = "whole" in options.strata
+        # whether it is meant that others see images that keep no modes
+        self.modeless = "modeless" in options.strata
+        self.workers = options.strata.get("workers")
+        self.readers = options.strata.get("readers")
+        self.owner = options.owner()
+        if self.program is None:
+            self.program = version.program()

@@ -1,0 +1,114 @@
+"""What must hold before a mount: the folder is there, the images can be named, and strata needs
+nothing below the folder."""
+import os
+
+from strata_format.version import PACKAGES, TOP
+from strata_mount import dead_mounts
+from strata_mount.device import take_away
+
+# what strata opens when it begins, besides its program and its libraries: the loader and its lists,
+# the standard ends, and what tells how many processors there are; python looks for open files in
+# the last folder
+OPENED = ("/lib64/ld-linux-x86-64.so.2", "/etc/ld.so.preload", "/etc/ld.so.cache", "/dev/null",
+          "/sys/devices/system/cpu/online", "/sys/fs/cgroup/cpu.max", "/proc/self/fd")
+# as many links as the kernel follows on the way to a file
+LINKS_MOST = 40
+
+
+def hold_here(names):
+    """Looks that this folder is there still, where a name begins at it."""
+    try:
+        if not all(name.startswith(("/", "image:")) for name in names):
+            os.getcwd()
+    except OSError as fault:
+        raise OSError(fault.errno, fault.strerror, "the working folder") from None
+
+
+def has_lost_server(folder):
+    """Whether a mount stands at a folder whose server has ended; OSError where the folder is not
+    there. It is statvfs that asks, since the kernel keeps a root's attributes."""
+    try:
+        os.statvfs(os.path.join(folder, ""))
+        return False
+    except OSError as fault:
+        if fault.errno not in dead_mounts.GONE:
+            raise
+        return True
+
+
+def hold_folder(plan):
+    """Looks whether a folder is there, and whether a mount stands there whose server has ended."""
+    if has_lost_server(plan.folder):
+        folder = os.path.realpath(plan.folder)
+        if not plan.replace or not dead_mounts.replace(folder, take_away):
+            raise OSError(0, dead_mounts.told(folder, plan.may_replace), plan.folder)
+
+
+def find_images(plan):
+    """Puts the layers of images of the store in the place of their names."""
+    if plan.store is None and not plan.verify and all(map(os.path.lexists, plan.images)):
+        return
+    from strata_layers import store_images
+    plan.images, plan.marks = store_images.mounted_words(plan.images, plan.store, plan.verify)
+
+
+def hold_names(plan):
+    """Looks that strata, which takes text alone, can be told the images' names."""
+    for image in plan.images:
+        try:
+            os.fsencode(os.path.abspath(image)).decode("utf-8")
+        except UnicodeDecodeError:
+            why = "no name in UTF-8, and strata takes no other; a link with another name will do"
+            raise OSError(0, why, image) from None
+
+
+def way_to(path):
+    """What the kernel looks at on the way to a file, links among it, each without links above it."""
+    place, names, links = "/", os.path.abspath(path).split("/"), 0
+    while names:
+        name = names.pop(0)
+        if name == "..":
+            place = os.path.dirname(place)
+        elif name not in ("", "."):
+            found = os.path.join(place, name)
+            yield found
+            if links < LINKS_MOST and os.path.islink(found):
+                links += 1
+                target = os.readlink(found)
+                names = target.split("/") + names
+                place = "/" if target.startswith("/") else place
+            else:
+                place = found
+
+
+def lies_in(path, folder):
+    """Whether the way to a file leads through a folder."""
+    above = os.path.join(os.path.realpath(folder), "")
+    return any(found.startswith(above) for found in way_to(path))
+
+
+def libraries():
+    """The files of this process, among which are those that strata begins with."""
+    try:
+        with open("/proc/self/maps", "rb") as lines:
+            found = [line.split(None, 5) for line in lines]
+    except OSError:
+        return set()
+    return {os.fsdecode(it[5].strip()) for it in found if len(it) == 6 and it[5].startswith(b"/")}
+
+
+def packages():
+    """A file of each of these packages, whose modules are loaded when they are needed."""
+    return [os.path.join(TOP, package, "__init__.py") for package in PACKAGES]
+
+
+def hold_images(plan):
+    """Looks that no image lies below the folder, nor strata itself: it would wait for itself to
+    open it."""
+    for image in plan.images:
+        if lies_in(image, plan.folder):
+            raise OSError(0, "this image lies in the folder that it would be mounted on", image)
+    for path in (plan.program, *packages(), *sorted(libraries()), *OPENED):
+        if lies_in(path, plan.folder):
+            why = "strata needs this file, which lies in the folder that it would mount on"
+            raise OSError(0, why, path)
