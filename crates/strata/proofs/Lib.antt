@@ -3,6 +3,8 @@ pub mod Printed
 pub mod Served
 pub mod Ended
 pub mod Opened
+pub mod Small
+pub mod Shared
 pub mod Rules
 pub mod InTurn
 pub mod AtSocket

@@ -13,7 +13,7 @@ use Rattle.fuse_device.specs.Taps.{buffered_of, tap_gone}
 use Rattle.serve_core.specs.declared.stop.Stop.TheVariants as stops
 use Rattle.strata.specs.declared.faults.Fault.{Fault}
 use Rattle.strata.specs.declared.faults.Fault.TheVariants.{Usage, ImageFile, RequestsFile, RepliesFile, BalancesFile, Bind, Accept, Broken, InSession, Stopped}
-use Rattle.strata.specs.Faults.{status_of, out_of_memory}
+use Rattle.strata.specs.Faults.{status_of}
 use Rattle.strata.specs.Sessions.{status_at}
 use Rattle.strata.specs.Ending.{IsDone, EndsInFault, EndsWith, IsOfSessions, IsOver, IsOverWith}
 use Rattle.strata.specs.Mounts.{is_taken_away, mounted, status_on_device, StopsWhere, IsRunOnDevice, IsTakenAway}
@@ -126,10 +126,3 @@ pub new_ends : {R A W : Type 0} (remaining : R → Option (List ℕ)) (tap : Mes
     → sink_state None spout.counts ≡ sink_state None no_pushes → spout_gone spout ≡ false
     → ends remaining tap spout ≡ mounted left
 new_ends remaining tap spout left s a k x = same_ends s k a x
-
--- where there was no memory for them the run ends with that
-pub refused_there : (A : Type 0) (words : List (List ℕ)) (left : Option (List ℕ)) (status : ℕ) (fault : Fault) → fault ≡ out_of_memory
-    → status ≡ status_of fault → IsRunOnDevice A words status (mounted left) (mounted left)
-refused_there A words left status fault f e =
-    has_stopped_there A words (mounted left) (mounted left) status out_of_memory
-    (inl (record { kept = refl; which = inr (inr refl) })) (e ∙ ap status_of f)

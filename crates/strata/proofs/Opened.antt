@@ -1,8 +1,8 @@
--- The images of a line. `are_sources` says of images that were taken apart what their data are read from,
--- `stacked_sources` that their stack has the same; `whole_held` that nothing is where a line asks for all bytes, and
--- `held_whole` that a stack without sources is held. `seen_as` lends their files. `one_held` is the step of the loop
--- that holds images whole; `whole_ones` and `gathered_ones` say what is held of images for a line.
-use Rattle.std.proofs.Common.{◌≡◌, ◌≤◌, ◌⊎◌, ◌||◌, ◌∙◌, sym, ap, subst, refl, ℕ, suc, inl, inr, true, false, true≢false, List, [], ◌∷◌, ◌++◌, append_assoc, length, map, All, Bool, Option, Some, Vec, arith}
+-- The images of a line. `are_sources` says of images that were taken apart what their data are read from, `no_sources` of
+-- those that are read whole, `stacked_sources` that their stack has the same; `read_held` and `whole_held` that nothing is
+-- where they are read whole, and `held_whole` that a stack without sources is held. `seen_as` lends their files. `one_held`
+-- is the step of the loop that holds images whole; `whole_ones` and `gathered_ones` say what is held of images for a line.
+use Rattle.std.proofs.Common.{◌≡◌, ◌≤◌, ◌⊎◌, ◌||◌, ◌∙◌, sym, ap, subst, refl, ℕ, suc, inl, inr, true, false, true≢false, List, [], ◌∷◌, ◌++◌, append_assoc, length, map, All, Bool, Option, Some, Vec, vec_len, arith}
 use Rattle.std.specs.List.{AllByRecursion}
 use Rattle.std.proofs.lemmas.List.Elements.{All-map, All-same, All-weaker, recursion_from_All}
 use Rattle.image_bytes.specs.Sources.{Source}
@@ -17,7 +17,7 @@ use Rattle.image_files.specs.Opened.{Opened, AreApart, IsFaithful, WasGathered}
 use Rattle.command_line.specs.declared.options.Line.{Line}
 use Rattle.stack_model.specs.Listing.{Stacked}
 use Rattle.reply_model.specs.Readings.{Sourced, in_memory, sourced}
-use Rattle.strata.specs.Images.{AreDataOf, AreHeldFor, AreHeldWhole, ArePrepared, HaveSources, IsDataOf, sources_of, trailers_of}
+use Rattle.strata.specs.Images.{AreDataOf, AreHeldFor, AreHeldWhole, ArePrepared, AreReadWhole, HaveSources, IsDataOf, sources_of, stay_in_files, trailers_of}
 
 -- the data of an image that is open, of which these bytes are known
 is_data : {F A : Type 0} (trailers : Trailers) (image : Opened) (file : ImageData F A) → known_bytes file ≡ image.known
@@ -44,18 +44,33 @@ are_data trailers (image ∷ images) (d ∷ files) known read faithful =
 
 -- the sources of images that were taken apart, of a line whose images are not read whole
 pub are_sources : {F A B C : Type 0} (line : Line) (images : List Opened) (kept : Vec (List ℕ) B) (files : Vec (ImageData F A) C)
-    → (whole : Bool) → whole ≡ false → (line.whole ≡ true → whole ≡ true)
+    (told : List (Option ℕ)) → length told ≡ vec_len line.images → (AreReadWhole line told → ⊥)
     → All (λ (image : Opened). image.trailers ≡ trailers_of line) images → AreApart images kept.items files.items
     → HaveSources line false kept.items (sources_of files)
-are_sources line images kept files whole left asked read apart =
+are_sources line images kept files told each left read apart =
     let are = subst (λ held. AreDataOf (trailers_of line) held (sources_of files)) (sym apart.kept_are)
     (are_data (trailers_of line) images files.items apart.known_are
     (recursion_from_All (λ (image : Opened). image.trailers ≡ trailers_of line) images read)
     (recursion_from_All IsFaithful images apart.gathered)) in
     record {
-      asked = λ all. absurd (true≢false (sym (asked all) ∙ left));
-      opened = λ _ _. are;
+      told = told;
+      each = each;
+      read = λ all. absurd (left all);
+      left = λ _. are;
       either = inr are;
+    }
+
+-- the data of images that are read whole are read from nothing
+pub no_sources : {F A B : Type 0} (line : Line) (images : List (List ℕ)) (files : Vec (ImageData F A) B) (told : List (Option ℕ))
+    → length told ≡ vec_len line.images → AreReadWhole line told → files.items ≡ [] → HaveSources line true images (sources_of files)
+no_sources line images files told each all none =
+    let held : AreHeldWhole true (sources_of files) = (refl, ap (map source_of) none) in
+    record {
+      told = told;
+      each = each;
+      read = λ _. held;
+      left = λ kept. absurd (kept all);
+      either = inl held;
     }
 
 -- what images have their data from where they are held whole, a stack that is whole has too
@@ -64,8 +79,10 @@ pub stacked_sources : (line : Line) (whole stacked : Bool) (images : List (List 
 stacked_sources line whole stacked images sources same have =
     let held : AreHeldWhole whole sources → AreHeldWhole stacked sources = λ all. (same all.0, all.1) in
     record {
-      asked = λ all. held (have.asked all);
-      opened = have.opened;
+      told = have.told;
+      each = have.each;
+      read = λ all. held (have.read all);
+      left = have.left;
       either = by_either have.either held;
     }
   where
@@ -75,10 +92,15 @@ stacked_sources line whole stacked images sources same have =
     by_either (inl all) held = inl (held all)
     by_either (inr are) held = inr are
 
--- the stack of a line that asks for all bytes is held
+-- the stack of images that are read whole is held
+pub read_held : (line : Line) (images : List (List ℕ)) (by : Sourced) (p : ArePrepared line images by) → AreReadWhole line p.sources.told
+    → by ≡ in_memory by.stack
+read_held line images by p all = ap (λ sources. sourced by.stack sources) (p.sources.read all).1
+
+-- as where a line asks for all bytes
 pub whole_held : (line : Line) (images : List (List ℕ)) (by : Sourced) → line.whole ≡ true → ArePrepared line images by
     → by ≡ in_memory by.stack
-whole_held line images by whole p = ap (λ sources. sourced by.stack sources) (p.sources.asked whole).1
+whole_held line images by whole p = read_held line images by p (inl whole)
 
 -- a stack whose data are read from nothing is held whole
 pub held_whole : (line : Line) (images : List (List ℕ)) (by : Sourced) → by.sources ≡ [] → ArePrepared line images by
@@ -99,16 +121,26 @@ as_many trailers [] (s ∷ sources) a = absurd a
 as_many trailers (image ∷ images) [] a = absurd a
 as_many trailers (image ∷ images) (s ∷ sources) a = ap suc (as_many trailers images sources a.1)
 
-stays : (in_files device : Bool) → (in_files ≡ true) ⊎ (device ≡ true) → (in_files || device) ≡ true
+-- one of the two options that leave images in their files
+pub stays : (in_files device : Bool) → (in_files ≡ true) ⊎ (device ≡ true) → (in_files || device) ≡ true
 stays true device said = refl
 stays false device (inl said) = absurd (true≢false (sym said))
 stays false device (inr said) = said
+
+-- each image that is not read whole has a source
+pub left_in_files : (line : Line) (images : List (List ℕ)) (by : Sourced) (p : ArePrepared line images by)
+    → (AreReadWhole line p.sources.told → ⊥) → length by.sources ≡ length images
+left_in_files line images by p left = as_many (trailers_of line) images by.sources (p.sources.left left)
+
+not_whole : (line : Line) (told : List (Option ℕ)) → line.whole ≡ false → stay_in_files line ≡ true → AreReadWhole line told → ⊥
+not_whole line told left stay (inl whole) = true≢false (sym whole ∙ left)
+not_whole line told left stay (inr small) = true≢false (sym stay ∙ small.0)
 
 -- and so it is over a device, and where a line says `--in-files`
 pub in_their_files : (line : Line) (images : List (List ℕ)) (by : Sourced) → line.whole ≡ false
     → (line.in_files ≡ true) ⊎ (line.device ≡ true) → ArePrepared line images by → length by.sources ≡ length images
 in_their_files line images by left said p =
-    as_many (trailers_of line) images by.sources (p.sources.opened left (stays line.in_files line.device said))
+    left_in_files line images by p (not_whole line p.sources.told left (stays line.in_files line.device said))
 
 -- the next image goes from those that are left to those that are held
 pub one_held : {X Y : Type 0} (w : Y → X) (all done : List X) (left rest : List Y) (y : Y) → all ≡ done ++ map w left → left ≡ y ∷ rest

@@ -1,6 +1,6 @@
 -- The images of a line, as they are held: all bytes of each, or what the rules look at, with zeros
 -- where nothing is held.
-use Rattle.std.specs.Prelude.{◌≡◌, ◌⊎◌, ◌||◌, ℕ, Bool, true, false, List, [], ◌∷◌, Option, Some, All, ⊤, length, map, vec_len, if◌then◌else◌}
+use Rattle.std.specs.Prelude.{◌≡◌, ◌≤◌, ◌^◌, ◌⊎◌, ◌||◌, ℕ, Bool, true, false, List, [], ◌∷◌, Option, Some, All, ⊤, length, map, sum, vec_len, if◌then◌else◌}
 use Rattle.std.specs.declared.vec.Vec.{Vec}
 use Rattle.romfs_format.specs.declared.rule.Profile.{Profile}
 use Rattle.romfs_format.specs.Profiles.{profile_with}
@@ -75,13 +75,25 @@ stay_in_files line = line.in_files || line.device
 abbrev pub AreHeldWhole : Bool → List Source → Type 0
 AreHeldWhole whole sources = (whole ≡ true) × (sources ≡ [])
 
--- what the data of the images of a line are read from: from nothing, where all bytes are held, as
--- where it says `--whole`; or each from a source of its own
+-- files have told their sizes: all are regular, and have at most 32 MiB together
+pub record AreSmall (told : List (Option ℕ)) : Type 0 where
+  pub sizes : List ℕ
+  pub told_is : told ≡ map Some sizes
+  pub few : sum sizes ≤ 2 ^ 25
+
+-- images are read whole: where their line says so, and where they are small by what their files
+-- told and the line leaves no image in its file
+abbrev pub AreReadWhole : Line → List (Option ℕ) → Type 0
+AreReadWhole line told = (line.whole ≡ true) ⊎ ((stay_in_files line ≡ false) × AreSmall told)
+
+-- what the data of the images of a line are read from, by what the file of each has told of its
+-- size: from nothing, where they are read whole; else each from a source of its own
 pub record HaveSources (line : Line) (whole : Bool) (images : List (List ℕ))
     (sources : List Source) : Type 0 where
-  pub asked : line.whole ≡ true → AreHeldWhole whole sources
-  pub opened : line.whole ≡ false → stay_in_files line ≡ true
-      → AreDataOf (trailers_of line) images sources
+  pub told : List (Option ℕ)
+  pub each : length told ≡ vec_len line.images
+  pub read : AreReadWhole line told → AreHeldWhole whole sources
+  pub left : ¬ AreReadWhole line told → AreDataOf (trailers_of line) images sources
   pub either : AreHeldWhole whole sources ⊎ AreDataOf (trailers_of line) images sources
 
 -- the images of a line are good, and this is their stack with the sources of their data

@@ -3,6 +3,7 @@ pub mod Texts
 pub mod Images
 pub mod Sessions
 pub mod Ending
+pub mod Ends
 pub mod Readers
 pub mod Laws
 pub mod Mounts

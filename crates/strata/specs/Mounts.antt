@@ -1,7 +1,7 @@
 -- fuse(4): what a command leaves behind that was run over an open /dev/fuse, or over other streams.
 use Rattle.std.specs.Prelude.{◌≡◌, ◌≢◌, ◌<◌, ◌≤◌, ◌⊎◌, ◌||◌, ℕ, Bool, true, false, List, Option, None, Result, MatchResult, if◌then◌else◌}
 use Rattle.devices.specs.Counting.{no_pulls, no_pushes}
-use Rattle.devices.specs.States.{Devices, SinkState, devices, source_state, sink_state}
+use Rattle.devices.specs.States.{Devices, devices, source_state, sink_state}
 use Rattle.fuse_device.specs.Ends.{MountEnds}
 use Rattle.command_line.specs.declared.options.Line.{Line}
 use Rattle.command_line.specs.declared.options.NoLine.{NoLine}
@@ -11,8 +11,9 @@ use Rattle.serve_core.specs.declared.stop.Stop.{Stop}
 use Rattle.serve_core.specs.declared.stop.Stop.TheVariants.{Read, Write}
 use Rattle.strata.specs.declared.faults.Fault.{Fault}
 use Rattle.strata.specs.declared.faults.Fault.TheVariants.{Stopped}
-use Rattle.strata.specs.Faults.{status_of, line_told_of}
+use Rattle.strata.specs.Faults.{status_of, line_told_of, out_of_memory}
 use Rattle.strata.specs.Ending.{IsDone, IsRunOf, EndsInFault, TellsVersion}
+use Rattle.strata.specs.Ends.{EndStates, Given, device, streams, unused}
 use Rattle.strata.specs.Readers.{IsRunByReaders}
 
 -- a fault is that the mount was taken away: a pull failed and the input is gone, or a push failed
@@ -66,28 +67,40 @@ mounted left = record {
   output_gone = false;
 }
 
--- the program ran over a reader that has this left and a writer that holds this: as an open
--- /dev/fuse where the line says device, by one reader or several, and as other streams where it
--- does not
-pub record IsRunBy (A : Type 0) (words : List (List ℕ)) (status : ℕ)
-    (left held : Option (List ℕ)) (line : Line) : Type 0 where
-  pub device : line.device ≡ true → line.readers ≤ 1
-      → (new : MountEnds) × IsRunOnDevice A words status (mounted left) new
-  pub readers : line.device ≡ true → 1 < line.readers → IsRunByReaders A status line
-  pub streams : line.device ≡ false
-      → (new : Devices) × IsRunOf A words status (new_devices left held) new
+-- over an open /dev/fuse by one reader, whose two devices are left; or there was no memory for them
+abbrev pub IsRunMounted : (A : Type 0) → List (List ℕ) → ℕ → Option (List ℕ) → EndStates A → Type 0
+IsRunMounted A words status left (device new) = IsRunOnDevice A words status (mounted left) new
+IsRunMounted A words status left unused = status ≡ status_of out_of_memory
+IsRunMounted A words status left _ = ⊥
 
--- the words have no line: the program told its version to a new output over a writer that holds
--- this, if they ask for it, or ended with their fault
-abbrev pub EndsWithoutLine : NoLine → ℕ → Option (List ℕ) → Type 0
-EndsWithoutLine none.Version status held =
-    (new : SinkState) × TellsVersion status (sink_state held no_pushes) new
-EndsWithoutLine (none.Fault fault) status held = status ≡ status_of (line_told_of fault)
+-- over the streams that are left, which were these before
+abbrev pub IsRunStreamed : (A : Type 0) → List (List ℕ) → ℕ → Devices → EndStates A → Type 0
+IsRunStreamed A words status old (streams new) = IsRunOf A words status old new
+IsRunStreamed A words status old _ = ⊥
+
+-- the program ran by a line over what it was given, and left these ends: an open /dev/fuse where
+-- the line says device, by one reader or several, and other streams where it does not
+pub record IsRunBy (A : Type 0) (words : List (List ℕ)) (line : Line) (given : Given) (status : ℕ)
+    (ends : EndStates A) : Type 0 where
+  pub device : line.device ≡ true → line.readers ≤ 1 → IsRunMounted A words status given.left ends
+  pub readers : line.device ≡ true → 1 < line.readers
+      → IsRunByReaders A status line given.shared ends
+  pub streams : line.device ≡ false
+      → IsRunStreamed A words status (new_devices given.left given.held) ends
+
+-- the words have no line: the program told its version to a new output over the writer, if they ask
+-- for it, and did not touch the input; or it ended with their fault
+abbrev pub EndsWithoutLine : {A : Type 0} → NoLine → Given → ℕ → EndStates A → Type 0
+EndsWithoutLine none.Version given status (streams new) =
+    (new.source ≡ source_state given.left no_pulls)
+    × TellsVersion status (sink_state given.held no_pushes) new.sink
+EndsWithoutLine (none.Fault fault) given status unused = status ≡ status_of (line_told_of fault)
+EndsWithoutLine _ given status _ = ⊥
 
 -- the words were read, as a line by which the program then ran; or they have none
-pub record IsRunAsSaid (A : Type 0) (words : List (List ℕ)) (status : ℕ)
-    (left held : Option (List ℕ)) : Type 0 where
+pub record IsRunAsSaid (A : Type 0) (words : List (List ℕ)) (given : Given) (status : ℕ)
+    (ends : EndStates A) : Type 0 where
   pub read : Result Line NoLine
   pub by : MatchResult read
-      (λ line. IsLineOf words line × IsRunBy A words status left held line)
-      (λ no_line. IsNoLine words no_line × EndsWithoutLine no_line status held)
+      (λ line. IsLineOf words line × IsRunBy A words line given status ends)
+      (λ no_line. IsNoLine words no_line × EndsWithoutLine no_line given status ends)

@@ -13,6 +13,7 @@ use Rattle.strata.specs.declared.faults.Fault.{Fault}
 use Rattle.strata.specs.declared.faults.Fault.TheVariants as faults
 use Rattle.strata.specs.Faults.{out_of_memory, status_of, stop_status}
 use Rattle.strata.specs.Ending.{AreNotStacked, first_of}
+use Rattle.strata.specs.Ends.{EndStates, readers, unused}
 use Rattle.strata.specs.Images.{ArePrepared, NamesAsMany, profile_of}
 
 -- the exit status of the end that is told of readers
@@ -21,19 +22,17 @@ status_of_end (Stopped stop) = stop_status stop
 status_of_end TakenAway = 0
 status_of_end AtEnd = 0
 
--- the images that the line names are good, as many readers as it says, all over the same reader,
--- served their stack and counted no lookups, and this is told of them
-pub record IsShared (A : Type 0) (line : Line) (end : End) : Type 0 where
+-- the images that the line names are good, and these readers, as many as it says, all over a reader
+-- that has this left, served their stack and counted no lookups
+pub record AreShared (A : Type 0) (line : Line) (left : Option (List ℕ))
+    (seats : List (SeatState A)) : Type 0 where
   pub images : List (List ℕ)
   pub named : NamesAsMany line images
   pub by : Sourced
   pub prepared : ArePrepared line images by
-  pub left : Option (List ℕ)
   pub before : Option (Done A)
-  pub readers : List (SeatState A)
   pub served : AreServedBy (first_of line) (shared by (bounds MAX_TURNS 0))
-      (replicate line.readers (new_seat left)) readers before
-  pub end_is : end ≡ end_of_all readers
+      (replicate line.readers (new_seat left)) seats before
 
 -- one of the images that the line names could not be read, or they are not stacked, or memory ran
 -- out
@@ -43,9 +42,11 @@ IsNotShared line fault =
     ⊎ (((images : List (List ℕ)) × NamesAsMany line images
     × AreNotStacked (profile_of line) images fault) ⊎ (fault ≡ out_of_memory))
 
--- readers served what the line says and their end has this status; or a fault that came before has
--- it
-abbrev pub IsRunByReaders : (A : Type 0) → ℕ → Line → Type 0
-IsRunByReaders A status line =
-    ((end : End) × (status ≡ status_of_end end) × IsShared A line end)
-    ⊎ ((fault : Fault) × (status ≡ status_of fault) × IsNotShared line fault)
+-- readers over a reader that has this left served what the line says, and the end that is told of
+-- them has this status; or there are none, and a fault has it that came before
+abbrev pub IsRunByReaders : (A : Type 0) → ℕ → Line → Option (List ℕ) → EndStates A → Type 0
+IsRunByReaders A status line left (readers seats) =
+    (status ≡ status_of_end (end_of_all seats)) × AreShared A line left seats
+IsRunByReaders A status line left unused =
+    (fault : Fault) × (status ≡ status_of fault) × IsNotShared line fault
+IsRunByReaders A status line left _ = ⊥

@@ -1,15 +1,18 @@
 //! The command `serve` over an open `/dev/fuse`, by several readers.
 
-ghost use Rattle.std.specs.Prelude.{◌≡◌, IfOk, IfErr};
+ghost use Rattle.std.specs.Prelude.{◌≡◌, map, IfOk, IfErr};
 ghost use Rattle.command_line.specs.CommandLine.{IsInLimits};
-ghost use Rattle.strata.specs.Readers.{IsNotShared, IsRunByReaders, IsShared, status_of_end};
+ghost use Rattle.device_readers.specs.Seats.{seat_of};
+ghost use Rattle.strata.specs.Ends.{end_states};
+ghost use Rattle.strata.specs.Readers.{AreShared, IsNotShared, IsRunByReaders, status_of_end};
 
+use crate::ends::{Ends, Ran};
 use crate::faults::Fault;
 use crate::images::open_all;
 use crate::preparing::prepare;
 use crate::settings::{first_of, plan_of};
 use command_line::Line;
-use device_readers::{End, end_of_all, seats_over, serve_by_readers};
+use device_readers::{End, Seat, end_of_all, seats_over, serve_by_readers};
 use serve_core::{Counted, FreePass, MAX_TURNS, Served, Terms};
 use std::alloc::Allocator;
 use std::fs::Files;
@@ -18,43 +21,54 @@ use std::os::unix::fs::FileExt;
 use std::thread::Threads;
 
 /// Serves an open `/dev/fuse` over the images of a line by as many readers as it says, all of which
-/// use this reader and this writer, and gives the exit status.
+/// use this reader and this writer, and gives the exit status, with the seats of the readers as
+/// they left them; none where a fault came before.
 ///
-/// It is 0 where each of them came to its stream's end or found the mount taken away. Else it is
-/// that of the first of their faults in the table of faults, whose line goes to `faults` once all
-/// have ended.
+/// The status is 0 where each of them came to its stream's end or found the mount taken away. Else
+/// it is that of the first of their faults in the table of faults, whose line goes to `faults` once
+/// all have ended.
 pub fn mount_by_readers<
     R: Files + Threads + Sync,
     A: Allocator + Copy + Send + Sync,
-    I: Read + Copy + Send + Drop,
-    O: Write + Copy + Send + Drop,
+    I: Read + Drop,
+    O: Write + Drop,
+    X: Read + Copy + Send + Drop,
+    Y: Write + Copy + Send + Drop,
     E: Write,
->(rt: &R, alloc: A, line: &Line<'_>, reader: I, writer: O, faults: &mut E) -> u8
+>(rt: &R, alloc: A, line: &Line<'_>, reader: X, writer: Y, faults: &mut E) -> Ran<I, O, X, Y, A>
 where
     R::File: FileExt + Send + Sync,
     R::Dir: Send,
     requires { IsInLimits line.now }
-    ensures { IsRunByReaders A result line.now }
+    ensures { IsRunByReaders A result.status line.now (X.remaining reader)
+        (end_states I.remaining O.contents X.remaining result.ends) }
 {
     match serve_shared(rt, alloc, line, reader, writer) {
-        Ok(end) => tell_end(end, faults),
-        Err(fault) => fault.end(faults),
+        Ok(seats) => Ran {
+            status: tell_end(end_of_all(seats.as_slice()), faults),
+            ends: Ends::Readers(seats),
+        },
+        Err(fault) => Ran {
+            status: fault.end(faults),
+            ends: Ends::Unused,
+        },
     }
 }
 
-// Opens, checks and stacks the images, serves their table by the line's readers, and gives the end
-// that is told of them.
+// Opens, checks and stacks the images, serves their table by the line's readers, and gives their
+// seats.
 fn serve_shared<
     R: Files + Threads + Sync,
     A: Allocator + Copy + Send + Sync,
     I: Read + Copy + Send + Drop,
     O: Write + Copy + Send + Drop,
->(rt: &R, alloc: A, line: &Line<'_>, reader: I, writer: O) -> Result<End, Fault>
+>(rt: &R, alloc: A, line: &Line<'_>, reader: I, writer: O) -> Result<Vec<Seat<I, O, A>, A>, Fault>
 where
     R::File: FileExt + Send + Sync,
     R::Dir: Send,
     requires { IsInLimits line.now }
-    ensures served { IfOk result (IsShared A line.now) }
+    ensures served { IfOk result (λ seats. AreShared A line.now (I.remaining reader)
+        (map (seat_of I.remaining) seats.items)) }
     ensures stopped { IfErr result (IsNotShared line.now) }
 {
     let images = open_all(rt, alloc, line)?;
@@ -72,9 +86,8 @@ where
         gate: &FreePass,
     };
     let mut seats = seats_over(alloc, line.readers, reader, writer)?;
-    let all = seats.as_mut_slice();
-    let _before = serve_by_readers(rt, alloc, served, all, &terms);
-    Ok(end_of_all(all))
+    let _before = serve_by_readers(rt, alloc, served, seats.as_mut_slice(), &terms);
+    Ok(seats)
 }
 
 // The exit status of an end, of which a fault has its line.

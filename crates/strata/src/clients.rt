@@ -8,11 +8,13 @@ ghost use Rattle.devices.specs.Counting.{no_accepts};
 ghost use Rattle.devices.specs.declared.counts.Accepts.{Accepts};
 ghost use Rattle.fuse_answer.specs.Puts.{sourced_by};
 ghost use Rattle.reply_model.specs.Readings.{in_memory};
-ghost use Rattle.serve_loop.specs.Serving.{Trace};
+ghost use Rattle.devices.specs.States.{devices};
+ghost use Rattle.serve_loop.specs.Serving.{Does};
+ghost use Rattle.strata.specs.Ending.{AreNew};
 ghost use Rattle.strata.specs.Sessions.{accepting, fault_of, status_at, EndWith, IsSession, ServedSession};
 
 use crate::faults::Fault;
-use devices::{Clients, Listening, Spout, Tap};
+use devices::{Clients, Listening, Sink, Source, Spout, Tap};
 use image_bytes::Contents;
 use serve_core::{
     Counted, Done, FreePass, MAX_TURNS, Plan, Served, Session, Stop, Terms, run_from,
@@ -24,7 +26,8 @@ use std::thread::Threads;
 use table_reader::Table;
 
 /// Serves `count` sessions over a table of images that are held whole to the clients of a listener,
-/// one after another, and gives the exit status. Each begins in a fresh session, and has at most 2^40 pulls.
+/// one after another, and gives the exit status. Each begins in a fresh session, and has at most
+/// 2^40 pulls.
 ///
 /// Where a session stops before its stream's end, its fault is told in a line of `faults`, with its
 /// number, from 1 on, and the next one follows. The status is that of the first such fault, and 0
@@ -93,7 +96,7 @@ pub fn sessions_from<
     status
 }
 
-// Serves the session with this number, and gives its status.
+// Serves the session with this number to a client, closes the connection, and gives the status.
 fn serve_session<
     R: Threads + Sync,
     A: Allocator + Copy + Send + Sync,
@@ -112,7 +115,9 @@ fn serve_session<
     ensures { (s : ServedSession A first (sourced_by D.source served.entry))
         × (result ≡ status_at (fault_of session s.result)) }
 {
-    let ended = serve_client(rt, alloc, served, first, client, plan);
+    let mut source = Tap::new(&client);
+    let mut sink = Spout::new(&client);
+    let ended = serve_client(rt, alloc, served, first, &mut source, &mut sink, plan);
     end_session(session, &ended, faults)
 }
 
@@ -133,19 +138,28 @@ fn end_session<A: Allocator, E: Write>(
     }
 }
 
-// Serves a client until its stream ends or stops, and closes the connection.
-fn serve_client<R: Threads + Sync, A: Allocator + Copy + Send + Sync, D: Contents + Sync>(
+// Serves a client until its stream ends or stops, between a source and a sink that were not used
+// before.
+fn serve_client<
+    R: Threads + Sync,
+    A: Allocator + Copy + Send + Sync,
+    D: Contents + Sync,
+    S: Source,
+    K: Sink,
+>(
     rt: &R,
     alloc: A,
     served: Served<'_, A, D>,
     first: Session,
-    client: UnixStream,
+    source: &mut S,
+    sink: &mut K,
     plan: Plan,
 ) -> Result<Done<A>, Stop>
-    ensures { (t : Trace) × IsSession first (sourced_by D.source served.entry) 0 t result }
+    requires { AreNew (devices (S.state source.old) (K.state sink.old)) }
+    ensures { Does (λ t. IsSession first (sourced_by D.source served.entry) 0 t result)
+        (devices (S.state source.old) (K.state sink.old))
+        (devices (S.state source.new) (K.state sink.new)) }
 {
-    let mut source = Tap::new(&client);
-    let mut sink = Spout::new(&client);
     let terms = Terms {
         first,
         plan,
@@ -154,5 +168,5 @@ fn serve_client<R: Threads + Sync, A: Allocator + Copy + Send + Sync, D: Content
         counted: Counted::NoNodes,
         gate: &FreePass,
     };
-    run_from(rt, alloc, served, &mut source, &mut sink, &terms)
+    run_from(rt, alloc, served, source, sink, &terms)
 }

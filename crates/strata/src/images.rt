@@ -1,9 +1,9 @@
 //! The images of a line, as they are read: whole, or what the rules look at.
 
-ghost use Rattle.std.specs.Prelude.{◌≡◌, false, true, map, vec_len, IfOk, IfErr};
+ghost use Rattle.std.specs.Prelude.{◌≡◌, ◌↔◌, ℕ, List, Option, length, map, vec_len, IfOk, IfErr, IsTrue};
 ghost use Rattle.image_files.specs.declared.opening.HeldImage.TheVariants.{Whole};
 ghost use Rattle.strata.specs.Faults.{AreUnread};
-ghost use Rattle.strata.specs.Images.{AreHeldFor, NamesAsMany, HaveSources, are_whole, bytes_of, sources_of, stay_in_files, trailers_of};
+ghost use Rattle.strata.specs.Images.{AreHeldFor, AreReadWhole, AreSmall, NamesAsMany, HaveSources, are_whole, bytes_of, sources_of, trailers_of};
 
 use crate::faults::Fault;
 use command_line::Line;
@@ -109,8 +109,8 @@ fn all_whole<A: Allocator + Copy>(
 // Whether the images of a line are read whole: where it asks for that; and where they are small
 // together, and need not stay in their files.
 fn are_read_whole<R: Files>(rt: &R, line: &Line<'_>) -> bool
-    ensures asked { line.now.whole ≡ true → result ≡ true }
-    ensures left { line.now.whole ≡ false → stay_in_files line.now ≡ true → result ≡ false }
+    ensures { (told : List (Option ℕ)) × (length told ≡ vec_len line.now.images)
+        × (IsTrue result ↔ AreReadWhole line.now told) }
 {
     if line.whole {
         return true;
@@ -118,17 +118,26 @@ fn are_read_whole<R: Files>(rt: &R, line: &Line<'_>) -> bool
     if line.in_files || line.device {
         return false;
     }
-    rest_of_small(rt, line.images.as_slice()).is_some()
+    are_small(rt, line.images.as_slice())
 }
 
-// How many bytes less than [`SMALL_STACK`] these files have together; none where they have more, or
-// where one is no regular file.
-fn rest_of_small<R: Files>(rt: &R, paths: &[&str]) -> Option<u64> {
+// Whether these are regular files of at most [`SMALL_STACK`] bytes together. Those behind the first
+// that is none, or too large, are not asked.
+fn are_small<R: Files>(rt: &R, paths: &[&str]) -> bool
+    ensures { (told : List (Option ℕ)) × (length told ≡ length paths.now)
+        × (IsTrue result ↔ AreSmall told) }
+{
     let mut rest = SMALL_STACK;
     for path in paths {
-        rest = rest.checked_sub(regular_len(rt, path)?)?;
+        let Some(len) = regular_len(rt, path) else {
+            return false;
+        };
+        if rest < len {
+            return false;
+        }
+        rest -= len;
     }
-    Some(rest)
+    true
 }
 
 // How many bytes a regular file has.

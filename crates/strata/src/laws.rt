@@ -20,7 +20,7 @@ ghost use Rattle.stack_prepare.specs.Preparing.{AreStacked};
 ghost use Rattle.serve_loop.specs.declared.done.Done.{Done};
 ghost use Rattle.serve_loop.specs.Serving.{Trace};
 ghost use Rattle.fuse_device.specs.Ends.{MountEnds};
-ghost use Rattle.strata.specs.Images.{ArePrepared, profile_of, trailers_of};
+ghost use Rattle.strata.specs.Images.{ArePrepared, AreReadWhole, profile_of, trailers_of};
 ghost use Rattle.strata.specs.Readers.{status_of_end};
 ghost use Rattle.serve_core.specs.declared.stop.Stop.{Stop};
 ghost use Rattle.device_readers.specs.Ends.{end_of_stop};
@@ -105,22 +105,29 @@ pub fn devices_are_served_lastingly()
         first_of line ≡ Fresh }
 {}
 
-/// Of a line that asks for all bytes of its images the data are read from nothing: what is promised
-/// over its stack is what is promised over a stack that is held. And only of a stack whose bytes
-/// are all held are they read from nothing.
-#[tactic(auto, using(crate::proofs::Opened::whole_held, crate::proofs::Opened::held_whole))]
+/// Of images that are read whole the data are read from nothing, as where a line asks for all bytes:
+/// what is promised over their stack is what is promised over a stack that is held, and a READ is
+/// answered with their bytes. And only of a stack whose bytes are all held are they read from
+/// nothing.
+#[tactic(auto, using(crate::proofs::Opened::read_held, crate::proofs::Opened::whole_held, crate::proofs::Opened::held_whole))]
 pub fn whole_images_are_held()
+    ensures read { (line : Line) (images : List (List ℕ)) (by : Sourced)
+        (p : ArePrepared line images by) → AreReadWhole line p.sources.told →
+        by ≡ in_memory by.stack }
     ensures asked { (line : Line) (images : List (List ℕ)) (by : Sourced) → line.whole ≡ true →
         ArePrepared line images by → by ≡ in_memory by.stack }
     ensures held { (line : Line) (images : List (List ℕ)) (by : Sourced) → by.sources ≡ [] →
         ArePrepared line images by → by.stack.whole ≡ true }
 {}
 
-/// Over a device, and where a line says `--in-files`, the data of each image are read from a source
-/// of its own, if the line does not ask for all bytes.
-#[tactic(auto, using(crate::proofs::Opened::in_their_files))]
+/// Of images that are not read whole the data of each are read from a source of its own, as over a
+/// device, and where a line says `--in-files`, if it does not ask for all bytes.
+#[tactic(auto, using(crate::proofs::Opened::left_in_files, crate::proofs::Opened::in_their_files))]
 pub fn images_stay_in_their_files()
-    ensures { (line : Line) (images : List (List ℕ)) (by : Sourced) → line.whole ≡ false →
+    ensures left { (line : Line) (images : List (List ℕ)) (by : Sourced)
+        (p : ArePrepared line images by) → (AreReadWhole line p.sources.told → ⊥) →
+        length by.sources ≡ length images }
+    ensures said { (line : Line) (images : List (List ℕ)) (by : Sourced) → line.whole ≡ false →
         (line.in_files ≡ true) ⊎ (line.device ≡ true) → ArePrepared line images by →
         length by.sources ≡ length images }
 {}

@@ -1,10 +1,11 @@
 //! The program `strata`: FUSE requests answered over a stack of romfs images.
 //!
 //! [`command`] is the whole program over its command line and its three standard streams: it reads
-//! the line once, and runs it by [`command_on_device`] where that says that the streams are an open
-//! `/dev/fuse`, else by [`command_on_streams`]. [`sessions`] serves the clients of a Unix socket
-//! that is already bound, one after another, and [`sessions_from`] those of anything that gives
-//! clients. [`faults`] has a line and an exit status for each thing that can go wrong.
+//! the line once, runs it by [`command_on_device`] where that says that the streams are an open
+//! `/dev/fuse`, else by [`command_on_streams`], and gives back the [`Ends`] that it ran between.
+//! [`sessions`] serves the clients of a Unix socket that is already bound, one after another, and
+//! [`sessions_from`] those of anything that gives clients. [`faults`] has a line and an exit status
+//! for each thing that can go wrong.
 //!
 //! Images stay in their files: what the rules look at is read of them, and all else when a client
 //! asks for it. With `--whole`, and of a small stack that no mount shows, all their bytes are read
@@ -23,6 +24,7 @@ mod balances;
 mod by_readers;
 mod checking;
 mod clients;
+mod ends;
 pub mod faults;
 mod files;
 mod images;
@@ -38,5 +40,6 @@ mod version;
 
 pub use clients::{sessions, sessions_from};
 pub use command_line::{Line, LineFault, NoLine, line};
+pub use ends::{Ends, Ran};
 pub use faults::Fault;
 pub use program::{command, command_on_device, command_on_streams};

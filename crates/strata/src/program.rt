@@ -9,12 +9,14 @@
 ghost use Rattle.std.specs.Prelude.{◌≡◌, ℕ, List, map, true, false, Ok, Err, IfOk, IfErr, MatchResult};
 ghost use Rattle.command_line.specs.CommandLine.{IsInLimits, IsLineOf, NamesSocket};
 ghost use Rattle.devices.specs.States.{devices};
-ghost use Rattle.fuse_device.specs.Ends.{ends, MountEnds};
+ghost use Rattle.fuse_device.specs.Ends.{ends};
 ghost use Rattle.strata.specs.Ending.{AreNew, EndsInFault, IsOverWith, IsRunOf};
-ghost use Rattle.strata.specs.Mounts.{mounted, status_on_device, IsRunAsSaid, IsRunBy, IsRunOnDevice};
+ghost use Rattle.strata.specs.Ends.{end_states, given};
+ghost use Rattle.strata.specs.Mounts.{status_on_device, IsRunAsSaid, IsRunBy, IsRunMounted, IsRunOnDevice};
 
 use crate::by_readers::mount_by_readers;
 use crate::checking::check;
+use crate::ends::{Ends, Ran};
 use crate::faults::Fault;
 use crate::images::{gather_all, open_all};
 use crate::listening::listen;
@@ -35,11 +37,11 @@ use std::os::unix::fs::FileExt;
 use std::thread::Threads;
 
 /// Runs the program on the words after its name, over a reader and a writer that were not used
-/// before, and gives its exit status. They are the two ends of an open `/dev/fuse` where the line
-/// says `--device`, and nowhere else; then `shared` are both ends once more, as several readers use
-/// them, where the line says more than one. A fault of the words, or memory that is refused as they
-/// are read, ends it before either is touched. Words that ask for the version are answered by its
-/// line.
+/// before, and gives its exit status, with the ends that it ran between as it left them. The reader
+/// and the writer are the two ends of an open `/dev/fuse` where the line says `--device`, and
+/// nowhere else; then `shared` are both ends once more, as several readers use them, where the line
+/// says more than one. A fault of the words, or memory that is refused as they are read, ends it
+/// before either is touched. Words that ask for the version are answered by its line.
 ///
 /// What it then does is said of [`command_on_device`] and [`command_on_streams`], and of several
 /// readers in `device_readers`. Memory comes from `alloc`, but for the command line: `clap` takes
@@ -62,17 +64,28 @@ pub fn command<
     writer: O,
     shared: (X, Y),
     faults: &mut E,
-) -> u8
+) -> Ran<I, O, X, Y, A>
 where
     R::File: FileExt + Send + Sync,
     R::Dir: Send,
-    ensures { IsRunAsSaid A (map S.text words.now) result
-        (I.remaining reader) (O.contents writer) }
+    ensures { IsRunAsSaid A (map S.text words.now)
+        (given (I.remaining reader) (O.contents writer) (X.remaining shared.0))
+        result.status (end_states I.remaining O.contents X.remaining result.ends) }
 {
     match line(global, words) {
         Ok(line) => command_of_line(rt, alloc, &line, reader, writer, shared, faults),
-        Err(NoLine::Version) => tell_version(alloc, &mut Spout::new(writer), faults),
-        Err(NoLine::Fault(fault)) => Fault::from(fault).end(faults),
+        Err(NoLine::Version) => {
+            let mut output = Spout::new(writer);
+            let status = tell_version(alloc, &mut output, faults);
+            Ran {
+                status,
+                ends: Ends::Streams(Tap::new(reader), output),
+            }
+        }
+        Err(NoLine::Fault(fault)) => Ran {
+            status: Fault::from(fault).end(faults),
+            ends: Ends::Unused,
+        },
     }
 }
 
@@ -85,14 +98,23 @@ fn command_of_line<
     X: Read + Copy + Send + Drop,
     Y: Write + Copy + Send + Drop,
     E: Write,
->(rt: &R, alloc: A, line: &Line<'_>, reader: I, writer: O, shared: (X, Y), faults: &mut E) -> u8
+>(
+    rt: &R,
+    alloc: A,
+    line: &Line<'_>,
+    reader: I,
+    writer: O,
+    shared: (X, Y),
+    faults: &mut E,
+) -> Ran<I, O, X, Y, A>
 where
     R::File: FileExt + Send + Sync,
     R::Dir: Send,
     requires limits { IsInLimits line.now }
     requires socket { NamesSocket line.now }
-    ensures { (words : List (List ℕ)) → IsLineOf words line.now →
-        IsRunBy A words result (I.remaining reader) (O.contents writer) line.now }
+    ensures { (words : List (List ℕ)) → IsLineOf words line.now → IsRunBy A words line.now
+        (given (I.remaining reader) (O.contents writer) (X.remaining shared.0))
+        result.status (end_states I.remaining O.contents X.remaining result.ends) }
 {
     if line.device {
         if line.readers == 1 {
@@ -101,8 +123,13 @@ where
         let (reader, writer) = shared;
         return mount_by_readers(rt, alloc, line, reader, writer, faults);
     }
+    let mut input = Tap::new(reader);
     let mut output = Spout::new(writer);
-    command_on_streams(rt, alloc, line, &mut Tap::new(reader), &mut output, faults)
+    let status = command_on_streams(rt, alloc, line, &mut input, &mut output, faults);
+    Ran {
+        status,
+        ends: Ends::Streams(input, output),
+    }
 }
 
 // Runs the program over an open `/dev/fuse`, once there is room for a message.
@@ -111,8 +138,10 @@ fn mount<
     A: Allocator + Copy + Send + Sync,
     I: Read + Drop,
     O: Write + Drop,
+    X: Read + Drop,
+    Y: Drop,
     E: Write,
->(rt: &R, alloc: A, line: &Line<'_>, reader: I, writer: O, faults: &mut E) -> u8
+>(rt: &R, alloc: A, line: &Line<'_>, reader: I, writer: O, faults: &mut E) -> Ran<I, O, X, Y, A>
 where
     R::File: FileExt + Send + Sync,
     R::Dir: Send,
@@ -120,14 +149,22 @@ where
     requires limits { IsInLimits line.now }
     requires socket { NamesSocket line.now }
     ensures { (words : List (List ℕ)) → IsLineOf words line.now →
-        (new : MountEnds) × IsRunOnDevice A words result (mounted (I.remaining reader)) new }
+        IsRunMounted A words result.status (I.remaining reader)
+        (end_states I.remaining O.contents X.remaining result.ends) }
 {
     match MessageTap::new(alloc, reader) {
         Ok(mut input) => {
             let mut output = ReplySpout::new(writer);
-            command_on_device(rt, alloc, line, &mut input, &mut output, faults)
+            let status = command_on_device(rt, alloc, line, &mut input, &mut output, faults);
+            Ran {
+                status,
+                ends: Ends::Device(input, output),
+            }
         }
-        Err(refused) => Fault::from(refused).end(faults),
+        Err(refused) => Ran {
+            status: Fault::from(refused).end(faults),
+            ends: Ends::Unused,
+        },
     }
 }
 

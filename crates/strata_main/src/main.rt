@@ -44,16 +44,19 @@ fn main(rt: HostRuntime) -> ExitCode {
     let status = match words(&rt) {
         Ok(words) => match unfit_input(&rt, alloc, words.as_slice(), input.is_terminal()) {
             Some(fault) => fault.end(&mut faults),
-            None => command(
-                &rt,
-                alloc,
-                alloc,
-                words.as_slice(),
-                input,
-                rt.stdout(),
-                (input, rt.stdout()),
-                &mut faults,
-            ),
+            None => {
+                let ran = command(
+                    &rt,
+                    alloc,
+                    alloc,
+                    words.as_slice(),
+                    input,
+                    rt.stdout(),
+                    (input, rt.stdout()),
+                    &mut faults,
+                );
+                ran.status
+            }
         },
         Err(fault) => Fault::from(fault).end(&mut faults),
     };

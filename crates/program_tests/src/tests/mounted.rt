@@ -70,7 +70,7 @@ where
     let input = Messages(&REQUESTS);
     let mut faults = Vec::new(global);
     let shared = (io::empty(), io::sink());
-    let status = command(
+    let ran = command(
         rt,
         alloc,
         global,
@@ -80,6 +80,7 @@ where
         shared,
         &mut faults,
     );
+    let status = ran.status;
     let told: &[u8] = if status == 0 { &[] } else { line };
     (faults.as_slice() == told).then_some(status)
 }

@@ -25,7 +25,8 @@ where
 {
     let mut faults = Vec::new(global);
     let shared = (io::empty(), io::sink());
-    let status = command(rt, alloc, global, words, input, output, shared, &mut faults);
+    let ran = command(rt, alloc, global, words, input, output, shared, &mut faults);
+    let status = ran.status;
     let told: &[u8] = if status == 0 { &[] } else { line };
     (faults.as_slice() == told).then_some(status)
 }

@@ -2,6 +2,6 @@ use Rattle.strata.proofs.clients.serve_session.Goals as goal
 
 pub returns : goal.returns
 returns g c = (
-  record { trace = c.serve_client-ended.ensures.0; result = c.serve_client-ended.result; is = c.serve_client-ended.ensures.1 },
+  record { trace = _; result = c.serve_client-ended.result; is = c.serve_client-ended.ensures.4 },
   c.end_session.ensures,
 )

@@ -19,16 +19,13 @@ returns-then-line g c = λ words is. record {
 
 pub returns : goal.returns
 returns g c = λ words is.
-    let input = c.command_on_streams.new.input in
-    let output = c.command_on_streams.new.output in
+    let input = c.command_on_streams-status.new.input in
+    let output = c.command_on_streams-status.new.output in
     let new = devices (source_state (g.I.Read.remaining input.reader) input.counts)
     (sink_state (g.O.Write.contents output.writer) output.counts) in
     record {
       device = λ e one. absurd (true≢false (sym e ∙ c.if-line.false));
       readers = λ e more. absurd (true≢false (sym e ∙ c.if-line.false));
-      streams = λ e. (
-        new,
-        subst (λ d. IsRunOf g.row.A.Denot words c.command_on_streams.result d new) (ap₂ devices c.new.ensures c.new-output.ensures)
-            (c.command_on_streams.ensures words is),
-      );
+      streams = λ e. subst (λ d. IsRunOf g.row.A.Denot words c.command_on_streams-status.result d new)
+          (ap₂ devices c.new-input.ensures c.new-output.ensures) (c.command_on_streams-status.ensures words is);
     }

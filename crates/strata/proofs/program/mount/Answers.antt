@@ -1,7 +1,8 @@
-use Rattle.std.proofs.Common.{subst}
+use Rattle.std.proofs.Common.{◌∙◌, ap, subst}
 use Rattle.fuse_device.specs.Ends.{ends}
-use Rattle.strata.specs.Mounts.{mounted, IsRunOnDevice}
-use Rattle.strata.proofs.Mounts.{new_ends, refused_there}
+use Rattle.strata.specs.Faults.{status_of}
+use Rattle.strata.specs.Mounts.{IsRunOnDevice}
+use Rattle.strata.proofs.Mounts.{new_ends}
 use Rattle.strata.proofs.program.mount.Goals as goal
 
 pub returns-in-Ok : goal.returns-in-Ok
@@ -9,10 +10,9 @@ returns-in-Ok g c = λ words is.
     let left = g.I.Read.remaining c.args.reader in
     let new = new_ends g.I.Read.remaining c.in-Ok.input c.new-output.result left c.in-Ok.ensures.state c.in-Ok.ensures.there
     c.new-output.ensures.state c.new-output.ensures.there in
-    let after = ends g.I.Read.remaining c.command_on_device.new.input c.command_on_device.new.output in
-    (after, subst (λ m. IsRunOnDevice g.row.A.Denot words c.command_on_device.result m after) new (c.command_on_device.ensures words is))
+    let after = ends g.I.Read.remaining c.command_on_device-status.new.input c.command_on_device-status.new.output in
+    subst (λ m. IsRunOnDevice g.row.A.Denot words c.command_on_device-status.result m after) new
+    (c.command_on_device-status.ensures words is)
 
 pub returns-in-Err : goal.returns-in-Err
-returns-in-Err g c = λ words is.
-    let left = g.I.Read.remaining c.args.reader in
-    (mounted left, refused_there g.row.A.Denot words left c.end.result c.from.result c.from.ensures c.end.ensures.status)
+returns-in-Err g c = λ words is. c.end.ensures.status ∙ ap status_of c.from.ensures

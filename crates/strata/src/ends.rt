@@ -1,0 +1,28 @@
+//! What a run of the program leaves: its exit status, and the ends that it ran between.
+
+use device_readers::Seat;
+use devices::{Spout, Tap};
+use fuse_device::{MessageTap, ReplySpout};
+use std::alloc::Allocator;
+
+/// The ends that the program ran between, by its line, as the run left them: over the reader `I`
+/// and the writer `O`, or over those that several readers share, `X` and `Y`.
+#[derive(Drop)]
+pub enum Ends<I, O, X, Y, A: Allocator> {
+    /// There were none: the words have a fault, or a fault came before they were made.
+    Unused,
+    /// Streams that are no device.
+    Streams(Tap<I>, Spout<O>),
+    /// An open `/dev/fuse`, served by one reader.
+    Device(MessageTap<I, A>, ReplySpout<O>),
+    /// An open `/dev/fuse`, served by the readers of these seats.
+    Readers(Vec<Seat<X, Y, A>, A>),
+}
+
+/// What a run of the program leaves.
+#[derive(Drop)]
+pub struct Ran<I, O, X, Y, A: Allocator> {
+    /// The exit status.
+    pub status: u8,
+    pub ends: Ends<I, O, X, Y, A>,
+}
