@@ -9,8 +9,8 @@ import os
 import subprocess
 import threading
 
-from strata_mount.dead_mounts import mounts
 from strata_mount.device import answers, mounted_by_kernel, take_away
+from strata_mount.mount_table import mounts
 from strata_mount.mounting import serve_words
 from strata_mount.plan import Plan
 from strata_snapshotter.faults import Unavailable
@@ -50,7 +50,7 @@ def is_served(place):
 
 def clear(place):
     """Takes away the mounts that stand at a place. Their servers are not asked: one may hang."""
-    for _ in range(sum(it == place for it, _ in mounts())):
+    for _ in range(sum(it.place == place for it in mounts())):
         take_away(place)
 
 
