@@ -1,9 +1,12 @@
 //! `romfs_image`: one image.
 
+ghost use Rattle.std.specs.Prelude.{◌≡◌, true};
 ghost use Rattle.romfs_image.specs.Rules.{IsSound};
 
 pub use romfs_image::sample::{BuildFault, Item, What, build, seal};
-pub use romfs_image::{Check, CheckFault, Head, Image, ImageFault, Kind, Members, Profile, Rule};
+pub use romfs_image::{
+    Check, CheckFault, Head, HeldImage, Image, ImageFault, Kind, Members, Profile, Rule,
+};
 use std::alloc::Allocator;
 
 /// An image that is checked by the usual rules, or by those of a profile.
@@ -22,7 +25,7 @@ pub fn checked<A: Allocator + Copy>(
 pub fn sound<A: Allocator>(bytes: Vec<u8, A>) -> Image<A>
     requires { IsSound Profile.Usual bytes.items }
 {
-    Image::of_sound(bytes)
+    Image::of_sound(HeldImage::Whole(bytes))
 }
 
 /// The rule that an image breaks, and the place of the fault.
@@ -38,8 +41,11 @@ pub fn root_members<A: Allocator>(image: &Image<A>) -> Members<'_> {
     image.members(&image.root())
 }
 
-/// The name and the data of an image's root, and where its hard link ends.
-pub fn root_parts<A: Allocator>(image: &Image<A>) -> (&[u8], &[u8], Head) {
+/// The name and the data of an image's root, and where its hard link ends, of an image that is held
+/// whole.
+pub fn root_parts<A: Allocator>(image: &Image<A>) -> (&[u8], &[u8], Head)
+    requires { image.now.whole ≡ true }
+{
     let root: Head = image.root();
     (image.name(&root), image.body(&root), image.target(&root))
 }

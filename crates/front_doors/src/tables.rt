@@ -1,40 +1,28 @@
 //! `stack_prepare`: images to a table.
 
 pub use stack_prepare::{
-    FreePass, Gate, Kept, Owner, Profile, Refusal, SharedAllocator, Table, Work, prepare,
-    prepare_as, prepare_kept, prepare_owned,
+    FreePass, Gate, HeldImage, Kept, Owner, Profile, Refusal, SharedAllocator, Table, Work,
+    prepare, whole_images,
 };
 use std::thread::Threads;
 
-/// Images that are checked by the usual rules, or by those of a profile, and made a table.
+/// Images that are checked by the rules of a profile, and made a table that belongs to an owner.
 pub fn prepared<R: Threads + Sync, A: SharedAllocator>(
     rt: &R,
     alloc: A,
-    images: Vec<Vec<u8, A>, A>,
-    profile: Option<Profile>,
+    images: Vec<HeldImage<A>, A>,
+    profile: Profile,
+    owner: Owner,
 ) -> Result<Table<A>, Refusal> {
-    match profile {
-        Some(profile) => prepare_as(rt, alloc, images, profile, &FreePass),
-        None => prepare(rt, alloc, images, &FreePass),
-    }
+    prepare(rt, alloc, images, profile, owner, &FreePass)
 }
 
-/// The same of an owner, by the usual rules.
-pub fn prepared_for<R: Threads + Sync, A: SharedAllocator>(
+/// The same of all bytes of images, by the usual rules.
+pub fn prepared_whole<R: Threads + Sync, A: SharedAllocator>(
     rt: &R,
     alloc: A,
     images: Vec<Vec<u8, A>, A>,
-    owner: Owner,
 ) -> Result<Table<A>, Refusal> {
-    prepare_owned(rt, alloc, images, Profile::Usual, owner, &FreePass)
-}
-
-/// The same of what is kept of images that stay in their files.
-pub fn prepared_from<R: Threads + Sync, A: SharedAllocator>(
-    rt: &R,
-    alloc: A,
-    images: Vec<Kept<A>, A>,
-    owner: Owner,
-) -> Result<Table<A>, Refusal> {
-    prepare_kept(rt, alloc, images, Profile::Usual, owner, &FreePass)
+    let images = whole_images(alloc, images)?;
+    prepared(rt, alloc, images, Profile::Usual, Owner::ROOT)
 }

@@ -1,13 +1,14 @@
 //! `layer_tree`, `stack_core` and `node_table`: layers, their stack, and its nodes by number.
 
 ghost use Rattle.std.specs.Prelude.{◌≡◌, ◌≤◌, ◌∷◌, [], length, true, IfOk};
+ghost use Rattle.romfs_image.specs.Images.{all_whole, bytes_of};
 ghost use Rattle.layer_tree.specs.Trees.{IsTreeOf};
 ghost use Rattle.node_table.specs.Stacked.{IsTableOf, IsTableWith};
 ghost use Rattle.stack_core.specs.Trees.{IsTreeOf as IsTreeOfAll};
 ghost use Rattle.stack_model.specs.declared.limits.TheConstants.{MAX_LAYERS};
 
 pub use layer_tree::{Child, Entry, OfLayer, Place, Tree, lay};
-pub use node_table::{Attr, Attributes, Node, OfTree, Owner, Row, Table};
+pub use node_table::{Attr, Attributes, Node, OfTree, Owner, Row, Table, table_of_layers};
 use romfs_image::Image;
 pub use stack_core::{FreePass, Gate, Work, shown, stack};
 use std::alloc::{AllocError, Allocator};
@@ -19,7 +20,7 @@ pub fn tree_of<A: Allocator + Copy>(
     image: &Image<A>,
     layer: u16,
 ) -> Result<Tree<A>, AllocError>
-    ensures { IfOk result (λ tree. IsTreeOf layer (image.now ∷ []) tree) }
+    ensures { IfOk result (λ tree. IsTreeOf layer (image.now.bytes ∷ []) tree) }
 {
     Tree::of(alloc, image, layer)
 }
@@ -32,7 +33,7 @@ pub fn stacked<R: Threads + Sync, A: Allocator + Copy + Send + Sync>(
 ) -> Result<Tree<A>, AllocError>
     requires some { 1 ≤ length images.now }
     requires few { length images.now ≤ MAX_LAYERS }
-    ensures { IfOk result (λ tree. IsTreeOfAll 0 images.now tree) }
+    ensures { IfOk result (λ tree. IsTreeOfAll 0 (bytes_of images.now) tree) }
 {
     stack(rt, alloc, images, &FreePass)
 }
@@ -45,8 +46,8 @@ pub fn tabled<R: Threads + Sync, A: Allocator + Copy + Send + Sync>(
 ) -> Result<Table<A>, AllocError>
     requires some { 1 ≤ length images.items }
     requires few { length images.items ≤ MAX_LAYERS }
-    ensures stack { IfOk result (λ table. IsTableOf images.items table) }
-    ensures whole { IfOk result (λ table. table.whole ≡ true) }
+    ensures stack { IfOk result (λ table. IsTableOf (bytes_of images.items) table) }
+    ensures whole { IfOk result (λ table. table.whole ≡ all_whole images.items) }
 {
     let tree = stack(rt, alloc, &images, &FreePass)?;
     Table::of(rt, alloc, tree, images)
@@ -61,13 +62,13 @@ pub fn owned<R: Threads + Sync, A: Allocator + Copy + Send + Sync>(
 ) -> Result<Table<A>, AllocError>
     requires some { 1 ≤ length images.items }
     requires few { length images.items ≤ MAX_LAYERS }
-    ensures stack { IfOk result (λ table. IsTableWith images.items [] owner table) }
-    ensures whole { IfOk result (λ table. table.whole ≡ true) }
+    ensures stack { IfOk result (λ table. IsTableWith (bytes_of images.items) [] owner table) }
+    ensures whole { IfOk result (λ table. table.whole ≡ all_whole images.items) }
 {
     let tree = stack(rt, alloc, &images, &FreePass)?;
     let mut attributes = Attributes::none(alloc);
     attributes.owner = owner;
-    Table::with_attributes(rt, alloc, tree, images, attributes)
+    table_of_layers(rt, alloc, tree, images, attributes)
 }
 
 /// What a tree tells of a path.
