@@ -76,7 +76,7 @@ where
         global,
         words,
         input,
-        replies,
+        &mut *replies,
         shared,
         &mut faults,
     );
