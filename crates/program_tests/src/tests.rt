@@ -4,7 +4,6 @@ mod clients;
 mod failing;
 mod memory;
 mod messages;
-mod mounted;
 mod plans;
 mod program;
 mod replies;
