@@ -134,10 +134,10 @@ def test_refused(room):
         status, output, told = added(folder, image)
         expect((status, output, told) == (1, "", [line]), "told %r, and %r is wanted" % (told, line))
         expect(read(image) == data, "the image has changed")
-    refuse("%s: something else than a trailer stands behind its full size" % image, data + bytes(2000) + b"x")
-    refuse("%s: no image of romfs" % image, b"\x1f\x8b" + bytes(100))
-    refuse("%s: no image of romfs" % image, b"")
-    refuse("%s: no image of romfs" % image, data[:100])
+    refuse("%s: something other than a trailer follows its full size" % image, data + bytes(2000) + b"x")
+    refuse("%s: not a romfs image" % image, b"\x1f\x8b" + bytes(100))
+    refuse("%s: not a romfs image" % image, b"")
+    refuse("%s: not a romfs image" % image, data[:100])
     write(folder + "/d/closed/x", b"12")
     refuse("%s: %s/d/closed/x: has 2 bytes, and 700 in the image" % (image, folder))
     write(folder + "/d/closed/x", bytes(700))
@@ -182,5 +182,5 @@ def test_more_in_the_folder(room):
     write(image, laid_out(b"v", items_of(folder)))
     write(folder + "/d/new", b"")
     status, _, told = added(folder, image)
-    expect((status, told) == (0, ["what stands in the folder alone is not in the image: 1 entry", "  %s/d/new" % folder]),
+    expect((status, told) == (0, ["files that only the folder has are not in the image: 1 entry", "  %s/d/new" % folder]),
            "status %d, told %r" % (status, told))

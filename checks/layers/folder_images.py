@@ -280,10 +280,10 @@ def test_refused_images(room):
     folder, image, none = made_folder(room), room.name(), room.path + "/none"
     refuse_image(room, (none, image), none + ": no such file or directory")
     refuse_image(room, (folder + "/su", image), "%s/su: not a directory" % folder)
-    refuse_image(room, (folder, folder), "%s: is there, and no file" % folder)
-    refuse_image(room, (folder, "/dev/null"), "/dev/null: is there, and no file")
+    refuse_image(room, (folder, folder), "%s: exists and is not a file" % folder)
+    refuse_image(room, (folder, "/dev/null"), "/dev/null: exists and is not a file")
     refuse_image(room, (folder, none + "/x"), none + ": no such file or directory")
-    line = "an image can't be made within the folder that it is made of"
+    line = "the image must be outside the folder that it is made from"
     refuse_image(room, (folder, folder + "/d1/x.romfs"), line)
     expect({*os.listdir(folder + "/d1")} == {"large", "s", "closed", "su2"}, "something was left")
     if os.geteuid() != 0:
@@ -318,7 +318,7 @@ def test_what_no_image_holds(room):
     refuse_image(room, (folder, image), *(line for line in lines if "to nothing" not in line))
     image, told = image_of(room, "--leave-out", folder)
     names = [line.partition(":")[0] for line in lines]
-    wanted = ["what no image holds is left out: %d entries" % len(names)]
+    wanted = ["entries that romfs cannot hold are left out: %d entries" % len(names)]
     expect(told == wanted + ["  " + name for name in names], "told %r" % told)
     shown = shown_of(image)
     expect((b"d",) * 512 in shown, "too much was left out")

@@ -201,7 +201,7 @@ def test_what_was_left_out(room):
     place = room.name()
     made = archive([file("a", b"1"), character("c", 1, 65536), hard("c2", "c")])
     source = "oci:" + layout_of(room.name(), [made]).path
-    wanted = ["what no image holds is left out: 2 entries", "  layer 0: c", "  layer 0: c2"]
+    wanted = ["entries that romfs cannot hold are left out: 2 entries", "  layer 0: c", "  layer 0: c2"]
     line = "layer 0: c: a device of minor number 65536, at most 65535 is held"
     for words, status, told in ((["--leave-out"], 0, wanted), ([], 1, [line]), (["--leave-out"], 0, [])):
         got = run_tool("pull", "--store", place, *words, source, "x:1")

@@ -85,7 +85,7 @@ def test_times(room):
     hold("told", [], told)
     got, told = shown_far(room)
     hold("far times", [2 ** 63 - 1, -2 ** 63], [got[name][3] for name in "ab"])
-    hold("told", ["times that 64 bits don't hold are kept as the nearest that they hold: 2 entries", "  layer 0: a", "  layer 0: b"],
+    hold("told", ["times beyond 64 bits are kept as the nearest that fit: 2 entries", "  layer 0: a", "  layer 0: b"],
          told)
     for text in ("1e5", "x", "1.5.5", "-", "+1", "1 ", "1.x", "9" * 19, ".5"):
         room.refuse("layer 0: the archive is broken: time '%s'" % text.replace(" ", "\\20"),
@@ -106,7 +106,7 @@ def test_owners(room):
         got, told = shown(room, archive([file("a", uid=MOST, gid=MOST - 1), file("b", uid=MOST + 1, gid=1),
                                          file("c", uid=1, gid=3 << 40), file("d", uid=2097152, gid=2097151)], form))
         hold("owners", [(MOST, MOST - 1), (65534, 1), (1, 65534), (2097152, 2097151)], [got[name][1:3] for name in "abcd"])
-        hold("told", ["owners that are no numbers from 0 to 4294967295 are kept as 65534: 2 entries", "  layer 0: b",
+        hold("told", ["owners that are not numbers from 0 to 4294967295 are kept as 65534: 2 entries", "  layer 0: b",
                       "  layer 0: c"], told)
 
 

@@ -86,8 +86,8 @@ def check_unlike_configuration(room):
         source.index(made.tagged(source.image_of([source.blob(media, blob)], wrong[:1]), "1"))
         room.refused("blob sha256:..: unpacked its digest is %s, and the image's configuration says %s" % (
             made.digest(data), wrong[0]), "pull", "oci:" + source.path)
-    for media, blob, why in ((made.ROMFS, b"no romfs", "no image of romfs"), (made.ROMFS, b"", "no image of romfs"),
-                             (made.ROMFS + "+gzip", gzip.compress(data)[:-9], "the packed data are broken: ..")):
+    for media, blob, why in ((made.ROMFS, b"no romfs", "not a romfs image"), (made.ROMFS, b"", "not a romfs image"),
+                             (made.ROMFS + "+gzip", gzip.compress(data)[:-9], "the compressed data is broken: ..")):
         source.index(made.tagged(source.image_of([source.blob(media, blob)], wrong[:1]), "1"))
         room.refused("layer 0: " + why, "pull", "oci:" + source.path)
     source.index(made.tagged(source.image_of([source.blob(made.ROMFS, data)], []), "1"))
@@ -109,7 +109,7 @@ def escaping(room):
     for name in ("../out", "/../out", "a/../../out"):
         yield made.layout(room.name(), [made.archive(made.entry(name, b"x"))]).path, "no path within a layer"
     through = made.archive(made.link("d", room.path), made.entry("d/out", b"x"))
-    yield made.layout(room.name(), [through]).path, "no directory, and something stands below it"
+    yield made.layout(room.name(), [through]).path, "not a directory, but has files below it"
     for target in ("blob", "index.json", "oci-layout"):
         for line, replace in (("is a symbolic link", lambda place: os.symlink(place + "x", place)), ("no ", os.mkfifo)):
             it = made.layout(room.name())

@@ -147,17 +147,12 @@ def picture(lines):
                       % (WIDTH, HEIGHT), '<rect width="100%" height="100%" fill="white"/>', *parts, "</svg>", ""])
 
 
-def main(words):
-    parser = argparse.ArgumentParser(description=__doc__.partition("\n")[0])
-    parser.add_argument("program")
-    parser.add_argument("--runs", type=int, default=3)
-    parser.add_argument("--most", type=int, default=max(NODES))
-    parser.add_argument("--drawn")
-    asked = parser.parse_args(words)
-    nodes = [size for size in NODES if size <= asked.most]
+def measure(program, times, most):
+    """Measures all kinds of images, up to so many nodes; prints each line with its slope."""
+    nodes = [size for size in NODES if size <= most]
 
     def line(name, colour, make, sizes, way="--whole"):
-        return line_of([asked.program, "serve", way], name, colour, make, sizes, asked.runs)
+        return line_of([program, "serve", way], name, colour, make, sizes, times)
 
     lines = [line("directories of 1,000 files", "#1f77b4", tree, nodes),
              line("the same, left in the file", "#9467bd", tree, nodes, "--in-files"),
@@ -166,9 +161,24 @@ def main(words):
     lines.append(stacks._replace(points=[it._replace(size=it.size * (EACH + 2)) for it in stacks.points]))
     for it in lines:
         print("%-28s %s, %s" % (it.name, slope_text(it.points), each_text(it.points)))
+    return lines
+
+
+def draw(path, lines):
+    with open(path, "w", encoding="utf-8") as file:
+        file.write(picture(lines))
+
+
+def main(words):
+    parser = argparse.ArgumentParser(description=__doc__.partition("\n")[0])
+    parser.add_argument("program")
+    parser.add_argument("--runs", type=int, default=3)
+    parser.add_argument("--most", type=int, default=max(NODES))
+    parser.add_argument("--drawn")
+    asked = parser.parse_args(words)
+    lines = measure(asked.program, asked.runs, asked.most)
     if asked.drawn:
-        with open(asked.drawn, "w", encoding="utf-8") as file:
-            file.write(picture(lines))
+        draw(asked.drawn, lines)
 
 
 if __name__ == "__main__":

@@ -104,7 +104,7 @@ class Tree:
                 self.begun(below, path[:depth + 1])
                 self.set_member(node, name, below)
             if not isinstance(below, Directory):
-                raise BadEntry("%s: no directory, and something stands below it"
+                raise BadEntry("%s: not a directory, but has files below it"
                                % path_text(path[:depth + 1]))
             node = below
         self.last, self.last_path = node, path

@@ -46,7 +46,7 @@ def check_aim(path):
     """Sees that nothing but a file would be replaced."""
     with contextlib.suppress(FileNotFoundError):
         if not stat.S_ISREG(os.lstat(path).st_mode):
-            raise Refused("%s: is there, and no file" % shown(os.fsencode(path)))
+            raise Refused("%s: exists and is not a file" % shown(os.fsencode(path)))
 
 
 def write_image_file(source, path, lost, is_upper=False):

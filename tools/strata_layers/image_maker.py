@@ -66,7 +66,7 @@ def put(image, path, entry):
 
 class Maker:
     """Puts entries into an image. `lost` is told what the image doesn't hold of them, each named
-    behind the words `where`; it also has whether what no image holds is left out."""
+    behind the words `where`; it also has whether entries that romfs cannot hold are left out."""
 
     def __init__(self, image, lost, where=""):
         self.image, self.lost, self.where = image, lost, where

@@ -36,7 +36,7 @@ def split_new_name(word):
 
 def check_tag(tag):
     if not has_type(tag, str) or not TAG.fullmatch(tag) or len(tag) > 128:
-        raise Refused("%s: no good tag" % shown(str(tag)))
+        raise Refused("%s: not a valid tag" % shown(str(tag)))
 
 
 def copy_file(source, out):
@@ -167,7 +167,7 @@ class LayoutWriter:
         there = value.get("manifests", [])
         notes = [it.get("annotations") or {} for it in there if has_type(it, dict)] if has_type(there, list) else [None]
         if len(notes) != len(there) or not all(has_type(it, dict) for it in notes):
-            raise Refused("%s: no good 'manifests'" % name)
+            raise Refused("%s: no valid 'manifests'" % name)
         others = [it for it, its_notes in zip(there, notes) if its_notes.get(REFERENCE) != tag]
         named = {**descriptor, "annotations": {REFERENCE: tag}}
         with self.new_file() as new:

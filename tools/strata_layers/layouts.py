@@ -61,7 +61,7 @@ def field(value, name, kind, where, default=None):
     """A field of an object; it must have this type, and stand there where there is no default."""
     found = value.get(name, default)
     if not has_type(found, kind):
-        raise Refused("%s: no good '%s'" % (where, name))
+        raise Refused("%s: no valid '%s'" % (where, name))
     return found
 
 
@@ -99,7 +99,7 @@ def descriptor_of(value, where):
     own = field(value, "platform", dict, where, {})
     words = [own.get(name, "") for name in ("os", "architecture", "variant")]
     if not all(has_type(word, str) for word in words):
-        raise Refused("%s: no good 'platform'" % where)
+        raise Refused("%s: no valid 'platform'" % where)
     # what a builder attests stands beside the images, under a platform that is none
     is_note = words[0] == "unknown"
     media = field(value, "mediaType", str, where)

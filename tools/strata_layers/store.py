@@ -48,7 +48,7 @@ def are_digits(text):
 def digits_of(digest, where):
     """The digits of a digest that a file of the store says."""
     if not isinstance(digest, str) or not digest.startswith(DIGEST) or not are_digits(digest[len(DIGEST):]):
-        raise Refused("%s: no good digest of a layer" % where)
+        raise Refused("%s: not a valid digest of a layer" % where)
     return digest.partition(":")[2]
 
 

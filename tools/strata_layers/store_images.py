@@ -81,7 +81,7 @@ def image_in(store, word):
 def image_of_json(value, where):
     layers, config = value.get("layers"), value.get("config")
     if not isinstance(layers, list) or not layers or not isinstance(config, dict):
-        raise Refused("%s: no good description of an image" % where)
+        raise Refused("%s: not a valid description of an image" % where)
     found = [layer_of_json(it, where) for it in layers]
     return StoredImage(str(value.get("source")), str(value.get("manifest")), found, config)
 
@@ -90,7 +90,7 @@ def layer_of_json(value, where):
     said = value if isinstance(value, dict) else {}
     size, part = said.get("size"), said.get("part", 0)
     if not isinstance(size, int) or not isinstance(part, int):
-        raise Refused("%s: no good description of a layer" % where)
+        raise Refused("%s: not a valid description of a layer" % where)
     parent = digits_of(said["parent"], where) if "parent" in said else None
     return StoredLayer(digits_of(said.get("digest"), where), size, part, parent)
 

@@ -61,7 +61,7 @@ def clear(plan):
         take_away(plan.folder)
         found = mount_at(plan.folder)
         if found is not None and found.number == before:
-            raise OSError(0, "the mount that stands here could not be taken away", plan.folder)
+            raise OSError(0, "the mount here could not be unmounted", plan.folder)
 
 
 def find_images(plan):
@@ -86,7 +86,7 @@ def hold_names(plan):
         try:
             os.fsencode(os.path.abspath(image)).decode("utf-8")
         except UnicodeDecodeError:
-            why = "no name in UTF-8, and strata takes no other; a link with another name will do"
+            why = "the name is not UTF-8, which strata needs; a link with another name will do"
             raise OSError(0, why, image) from None
 
 
@@ -155,8 +155,8 @@ def hold_images(plan):
         images, needed = plan.images, [plan.program, *packages(), *sorted(libraries()), *OPENED]
     for image in images:
         if lies_in(image, plan.folder):
-            raise OSError(0, "this image lies in the folder that it would be mounted on", image)
+            raise OSError(0, "this image is in the directory that it would be mounted on", image)
     for path in needed:
         if lies_in(path, plan.folder):
-            why = "strata needs this file, which lies in the folder that it would mount on"
+            why = "strata needs this file, which is in the directory that it would mount on"
             raise OSError(0, why, path)

@@ -195,7 +195,7 @@ def hold_unshared(plan):
     if plan.is_printed:
         for image in plan.images:
             if not stat.S_ISREG(os.stat(image).st_mode):
-                raise OSError(0, "is no file, and cannot be shared", image)
+                raise OSError(0, "is not a file and cannot be shared", image)
 
 
 def attempt(plan):

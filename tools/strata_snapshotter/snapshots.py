@@ -275,7 +275,7 @@ class Snapshots:
         with self.lock:
             snapshot = self.found(name)
             if self.state.has_children(snapshot):
-                raise FailedPrecondition("snapshot %s: others stand on it" % name)
+                raise FailedPrecondition("snapshot %s: has children" % name)
             with self.state.transaction():
                 self.state.delete(snapshot)
             aside = None
