@@ -150,7 +150,7 @@ def test_refused(room):
 
 
 def test_lost(room):
-    """Extended attributes are told with the names of the files."""
+    """Extended attributes are reported with the names of the files."""
     folder, image = room.name(), room.name()
     make_folder(folder)
     write(image, laid_out(b"v", items_of(folder)))
@@ -164,7 +164,7 @@ def test_lost(room):
 
 
 def test_no_extended_attributes(room):
-    """A folder whose file system knows no extended attributes, as a mount of strata, has none; another fault is told."""
+    """A folder whose file system knows no extended attributes, as a mount of strata, has none; another fault is reported."""
     folder, image = room.name(), room.name()
     make_folder(folder)
     write(image, laid_out(b"v", items_of(folder)))
@@ -176,7 +176,7 @@ def test_no_extended_attributes(room):
 
 
 def test_more_in_the_folder(room):
-    """What stands in the folder alone is told with its name."""
+    """Files that only the folder has are reported by name."""
     folder, image = room.name(), room.name()
     make_folder(folder)
     write(image, laid_out(b"v", items_of(folder)))

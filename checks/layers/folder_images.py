@@ -109,7 +109,7 @@ def shown_of(image):
 
 
 def image_of(room, *words):
-    """Makes an image; its path, and the lines that were told."""
+    """Makes an image; its path, and the lines that were printed."""
     image = room.name() + " '.romfs"
     status, output, told = run_tool("image", *words, image)
     expect(status == 0, "status %d: %s" % (status, told))
@@ -140,7 +140,7 @@ def test_image_of_a_folder(room):
 
 
 def test_image_is_replaced(room):
-    """The same folder gives the same bytes, in the place of an image that is there."""
+    """The same folder gives the same bytes, instead of an existing image."""
     folder = made_folder(room)
     image, _ = image_of(room, folder)
     before = read(image)
@@ -255,7 +255,7 @@ CHANGES = ((grown, "d1/large"), (shrunk, "d1/large"), (other, "d1"), (link, "non
 
 
 def test_folder_that_changes(room):
-    """What is changed meanwhile is told, and what a link leads to is not read in its place."""
+    """What is changed meanwhile is reported, and what a link leads to is not read instead of it."""
     for change, name in CHANGES:
         folder = made_folder(room)
         line = None
@@ -295,7 +295,7 @@ def test_refused_images(room):
 
 
 def test_what_no_image_holds(room):
-    """Files above 4 GiB, large numbers and deep paths are told by name, or left out."""
+    """Files above 4 GiB, large numbers and deep paths are reported by name, or left out."""
     folder, image = made_folder(room), room.name()
     with open(folder + "/huge", "wb") as out:
         out.truncate(2 ** 32)
@@ -392,7 +392,7 @@ def test_upper_folder(room):
     refuse_image(room, ("--upper", upper, room.name()),
                  ".wh.name: a layer takes a name that begins with .wh. as a whiteout",
                  "a: overlayfs shows another folder of the layers below there, which a layer"
-                 " can't say")
+                 " cannot express")
 
 
 def test_full_disk(room):

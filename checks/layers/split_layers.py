@@ -160,7 +160,7 @@ def test_stores_of_many_images(room):
     layers = hold_stored(room, other, "z:1", [LOW, HIGH], [0] + [1] * 9)
     expect([it.part for it in layers] == [0, *range(len(layers) - 1)], "parts: %r" % layers)
     good("remove", "--store", other, "y:1")
-    expect(good("prune", "--store", other).startswith("0 layers"), "a layer of an image was taken away")
+    expect(good("prune", "--store", other).startswith("0 layers"), "a layer of an image was removed")
     hold_stored(room, other, "y:2", [LOW, HIGH], [0] + [1] * 9)
 
 

@@ -160,7 +160,7 @@ def check_links_in_store(room):
 
 
 def check_left_over(room):
-    """What a killed run has left is taken away by the next one, and is no layer meanwhile."""
+    """What a killed run has left is removed by the next one, and is no layer meanwhile."""
     source, new = made.layout(room.name()), os.path.join(room.store, "new")
     room.layers("pull", "oci:" + source.path, "a:1")
     os.makedirs(os.path.join(new, "fetched", "blobs"))
@@ -279,7 +279,7 @@ def check_full_disk(room):
 
 
 def check_progress(room):
-    """A line of progress on a terminal, which is taken away at the end; no word of it elsewhere."""
+    """A line of progress on a terminal, which is erased at the end; no trace of it elsewhere."""
     source = made.layout(room.name(), large_layers(2))
     code = ("import sys; sys.path.insert(0, %r); from strata_format import progress;"
             "progress.FIRST_AFTER = progress.NEXT_AFTER = 0;"

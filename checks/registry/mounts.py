@@ -80,7 +80,7 @@ def check_one_file(room):
 
 
 def check_used_layers(room):
-    """prune leaves the layers of a mount, and takes them away when it has ended."""
+    """prune leaves the layers of a mount, and removes them when it has ended."""
     source = made.layout(room.name())
     room.layers("pull", "oci:" + source.path, "a:1")
     at = mounted(room, "a:1")

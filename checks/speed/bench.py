@@ -35,7 +35,7 @@ MOST_WORKERS = 3
 MOST_OF_PIPES, SESSIONS = 4, 20000
 HOSTILE = ("check", "stacks", "streams", "pulls")
 COMMANDS = ("check", "list", "serve")  # what is timed over stacks
-# `sockets` comes last: it holds its streams itself, and what a run is told to have had counts what stood when it was forked
+# `sockets` comes last: it holds its streams itself, and the memory reported for a run counts what its parent had at the fork
 PARTS = ("serve", "lookups", *HOSTILE, "workers", "sockets")
 # what the sizes are divided by for the gate
 QUICK = 4

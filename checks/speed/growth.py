@@ -2,7 +2,7 @@
 
 Measures `serve` over an empty stream, which is reading, checking and stacking the images, and tells for each size the least
 processor time of N runs (3), user and system, and the most memory at one moment, of which some 18 MiB are not told apart.
-Images are read whole, and once more one kind of them is left in its file. They lie in memory (/dev/shm where it is there).
+Images are read in full, and once more one kind of them is left in its file. They are in memory (/dev/shm if it exists).
 With --drawn it draws what it measured as a picture (SVG), both axes by powers of ten, with the slope of each line of times:
 the exponent of the size that fits its last points best. A slope of 1 is linear, and n log n has one of about 1.1 at these
 sizes. Of memory it tells the bytes a node between the last two points.
@@ -101,7 +101,7 @@ WIDTH, HEIGHT, LEFT, TOP, ACROSS, DOWN = 900, 380, 60, 40, 340, 280
 
 
 def panel(left, title, unit, lines, value, told):
-    """One panel, with its axes by powers of ten, its lines, and what is told of each."""
+    """One panel, with its axes by powers of ten, its lines, and a text for each."""
     sizes = [it.size for line in lines for it in line.points]
     values = [value(it) for line in lines for it in line.points]
     low_x, high_x = math.floor(math.log10(min(sizes))), math.ceil(math.log10(max(sizes)))

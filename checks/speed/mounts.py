@@ -203,8 +203,8 @@ def measured(folder, program, runs, is_quick):
 
 
 def two_digits(value):
-    """A number in two digits: 0.037, 0.12, 2.6, 12, 130."""
-    return format(float("%.2g" % value), ".10g") if value < 10 else "%.0f" % float("%.2g" % value)
+    """A number in two digits: 0.037, 0.40, 2.6, 12, 130."""
+    return "%#.2g" % value if value < 9.95 else "%d" % float("%.2g" % value)
 
 
 def table(names, rows):

@@ -39,7 +39,7 @@ def table(head, rows):
 
 
 def seconds(value):
-    return two_digits(value) + " s"
+    return two_digits(value) + " s" if value >= 0.1 else two_digits(value * 1000) + " ms"
 
 
 def memory(value):

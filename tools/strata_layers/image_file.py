@@ -16,7 +16,7 @@ LETTERS, FRONT = {"gzip": b"\x1f\x8b", "zstd": b"\x28\xb5\x2f\xfd"}, 512
 
 
 class Heard:
-    """What is read from an open file, of which progress is told; its first bytes were read to see
+    """What is read from an open file, with its progress reported; its first bytes were read to see
     how it is packed."""
 
     def __init__(self, file, progress):

@@ -44,7 +44,7 @@ class ImageFolder:
         return [os.path.join(self.path, name) for name in names]
 
     def close(self):
-        """Takes away what got no name."""
+        """Removes what got no name."""
         self.files.close()
         os.close(self.place)
         if self.is_new:

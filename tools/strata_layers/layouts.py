@@ -40,7 +40,7 @@ REFERENCE = "org.opencontainers.image.ref.name"
 JSON_MOST, NESTED_MOST, LAYERS_MOST = 4 << 20, 16, 128
 # so deep may JSON be, and so large a file
 DEPTH_MOST, SIZE_MOST = 100, 2 ** 63 - 1
-# so many names are told
+# at most this many names are printed
 TOLD_MOST = 20
 # the machines' names as OCI says them, each with its variants, the best one first
 MACHINES = {
@@ -117,7 +117,7 @@ def why_not(fault):
 
 
 class Blob:
-    """The bytes of a blob, which are counted and hashed as they are read; `heard` is told how many."""
+    """The bytes of a blob, which are counted and hashed as they are read; `heard` gets how many."""
 
     def __init__(self, path, it, heard=unheard):
         self.descriptor, self.count, self.heard = it, 0, heard

@@ -152,7 +152,7 @@ class Maker:
         return layer
 
     def fitted(self, it, found, below):
-        """The images of a blob's layer over those below: those that are there, or, where folders
+        """The images of a blob's layer over those below: those that exist, or, where folders
         that it implies have other rows in the layers below, copies with these."""
         read, images = set(), []
         for layer in found.images:

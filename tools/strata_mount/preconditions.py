@@ -41,7 +41,7 @@ def has_lost_server(folder):
 
 def hold_folder(plan):
     """Looks whether a folder is there, and whether a mount of strata stands there. With --replace a
-    dead one is taken away, and one that lives later, when all else is known to be right."""
+    dead one is unmounted, and one that lives later, when all else is known to be right."""
     is_dead, folder = has_lost_server(plan.folder), os.path.realpath(plan.folder)
     if is_dead:
         if not plan.replace or not dead_mounts.replace(folder, take_away):
@@ -65,7 +65,7 @@ def clear(plan):
 
 
 def find_images(plan):
-    """Puts the layers of images of the store in the place of their names, and says where one lies
+    """Puts the layers of the store's images instead of their names, and says where one lies
     on another than it was made for."""
     parents = {}
     if plan.store is not None or plan.verify or not all(map(os.path.lexists, plan.images)):

@@ -287,8 +287,8 @@ class Snapshots:
     # --- what nothing stands on ---
 
     def tidy(self):
-        """Takes away the mounts that nothing stands on, and removes the folders of images. What
-        can't be taken away now is logged, and found at the next start: what was asked for is
+        """Unmounts the mounts that nothing stands on, and removes the folders of images. What
+        can't be removed now is logged, and found at the next start: what was asked for is
         done."""
         try:
             with self.lock:
