@@ -25,8 +25,12 @@ PHRASES = {
     r"comes only where": "only if",
     r"want of memory": "lack of memory",
     r"in whichever": "in any",
+    r"gathered of": "gathered from",
+    r"in (the )?place of": "instead of",
+    r"stands? on": "is on, uses",
 }
-SOURCES = {phrase: better for phrase, better in PHRASES.items() if phrase != r"of which no"}
+OF_PAGES = r"of which no", r"in (the )?place of", r"stands? on"
+SOURCES = {phrase: better for phrase, better in PHRASES.items() if phrase not in OF_PAGES}
 # what tools print is quoted as it is
 QUOTED = re.compile(r"^\.EX\n.*?^\.EE$|^```.*?^```$|`[^`]*`", re.M | re.S)
 NOT_ROOT = re.compile("users who are not root", re.I)
