@@ -9,8 +9,9 @@
 //! It takes some 4 bytes for every four blocks, at most 8 where they do not lie evenly, and is made
 //! in one step for each of them and one for each stretch.
 //!
-//! Most blocks are found before: where all up to one are kept, it stands where its number says, and
-//! of a stretch the first eight numbers are looked at one by one.
+//! Most blocks are found before: where all up to one, or all from one on, are kept, as those of a
+//! trailer are, it stands where its number says, and of a stretch the first eight numbers are looked
+//! at one by one.
 
 ghost use Rattle.std.specs.Prelude.{◌≡◌, ◌<◌, ◌≤◌, ◌^◌, length, slice_index, IsTrue, IfSome};
 ghost use Rattle.held_image.specs.Blocks.{Rises, IsRank, HoldsRank};
@@ -52,7 +53,8 @@ impl<'a> Numbers<'a> {
         rank_within(self.all, within, block)
     }
 
-    // Where the block stands, if all up to it are kept, or it is among the first of its stretch.
+    // Where the block stands, if all up to it or all from it on are kept, or it is among the first
+    // of its stretch.
     #[inline(always)]
     fn found_soon(&self, block: u32) -> Option<usize>
         ensures { IfSome result (λ at. (at < length self.now.all.now)
@@ -62,6 +64,9 @@ impl<'a> Numbers<'a> {
         let first = block as usize;
         if first < all.len() && all[first] == block {
             return Some(first);
+        }
+        if let Some(position) = from_end(all, block) {
+            return Some(position);
         }
         let low = self.noted(block)?.low;
         let high = all.len().min(low.saturating_add(NEAR));
@@ -182,6 +187,20 @@ impl Parts {
     fn of_number(&self, number: u32) -> usize {
         self.first
             .saturating_add(without(number, self.shift) & self.last)
+    }
+}
+
+// Where a block stands, if all numbers from its own to the last are there.
+#[inline(always)]
+fn from_end(all: &[u32], block: u32) -> Option<usize>
+    ensures { IfSome result (λ at. (at < length all.now) × (slice_index all.now at ≡ block)) }
+{
+    let behind = all.last()?.checked_sub(block)? as usize;
+    let position = all.len().checked_sub(behind + 1)?;
+    if all[position] == block {
+        Some(position)
+    } else {
+        None
     }
 }
 
