@@ -83,6 +83,7 @@ fn run<'a>(blocks: &Numbers<'_>, bytes: &'a [u8], at: u32) -> &'a [u8]
 }
 
 /// The kept bytes from a place on, up to the end of its block; none where that is not kept.
+#[inline(always)]
 fn rest_of_block<'a>(blocks: &Numbers<'_>, bytes: &'a [u8], at: u32) -> &'a [u8]
     requires { IsKept blocks.now.all.now bytes.now }
     ensures { (i : ℕ) → i < length result.now →
@@ -103,10 +104,16 @@ fn byte_in(blocks: &Numbers<'_>, bytes: &[u8], at: u32) -> u8
     requires { IsKept blocks.now.all.now bytes.now }
     ensures { result ≡ byte_of blocks.now.all.now bytes.now at }
 {
-    match run(blocks, bytes, at).first() {
-        Some(byte) => *byte,
-        None => 0,
+    let block = at / 16;
+    let position = blocks.rank(block);
+    let all = blocks.all;
+    if position == all.len() {
+        return 0;
     }
+    if all[position] != block {
+        return 0;
+    }
+    bytes[position * BLOCK_SIZE + at as usize % BLOCK_SIZE]
 }
 
 /// The big-endian word at a place.
