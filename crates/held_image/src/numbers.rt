@@ -134,7 +134,9 @@ impl<A: Allocator> Stretches<A> {
         self.starts.clear();
         note_starts(&mut self.starts, numbers, self.shift)?;
         self.parts = self.starts.len();
-        note_parts(&mut self.starts, numbers, self.shift)
+        note_parts(&mut self.starts, numbers, self.shift)?;
+        self.starts.shrink_to_fit();
+        Ok(())
     }
 
     /// Numbers, with what is noted.
