@@ -7,7 +7,7 @@ import sys
 
 from strata_format import ends
 from strata_format.refused import one_line
-from strata_mount import preconditions, privileges
+from strata_mount import preconditions, privileges, read_ahead
 from strata_mount.device import DEVICE, answers, mounted, take_away
 from strata_mount.options import Options
 from strata_mount.processes import Bell, found_program, hold_descriptors, start
@@ -166,9 +166,11 @@ def run(plan, counts=None, heard=None):
     signal.pthread_sigmask(signal.SIG_BLOCK, stopping())
     hear(interrupt)
     bell, confinement = Bell(), confinement_of(plan)
+    cold = [] if plan.whole else read_ahead.cold_ones(plan.images)
     device = mounted(plan)
     try:
         server = served(plan, device, errors, counts, confinement)
+        read_ahead.ask(cold)
         status = waited(plan, server, errors, bell)
         if status == 0 and plan.background and heard is not None:
             heard(server)
