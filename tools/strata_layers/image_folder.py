@@ -1,15 +1,18 @@
-"""`LAYOUT[:TAG] FOLDER`: images of a layout's layers in a folder, 00.romfs the lowest."""
+"""`LAYOUT[:TAG] FOLDER`: images of a layout's layers in a folder, 00.romfs the lowest. A file
+beside them says their digests, and which image each was made to lie on."""
 import contextlib
 import os
 import re
 
-from strata_format.files import new_file, open_folder
+from strata_format.files import new_file, open_folder, write_all
 from strata_format.progress import Progress
 from strata_format.refused import Refused, shown
 from strata_layers.below import Below
 from strata_layers.layer_images import LayerWriter
-from strata_layers.lost import Lost
+from strata_layers.layer_order import BESIDE, beside_text
 from strata_layers.open_layout import open_layout
+from strata_layers.store import file_digits
+from strata_layers.store_images import StoredLayer
 
 PASSING = "."
 
@@ -33,13 +36,15 @@ class ImageFolder:
         self.new.append(self.files.enter_context(new_file(self.place, self.path, 0o666, PASSING)))
         return self.new[-1].file
 
-    def keep(self):
+    def keep(self, layers):
         """Gives the images their names, of as many digits as the last one needs, so that their
-        order is that of names; their paths."""
+        order is that of names, and the file beside them its own; their paths."""
         digits = max(2, len(str(len(self.new) - 1)))
         names = ["%0*d.romfs" % (digits, number) for number in range(len(self.new))]
-        for new, name in zip(self.new, names):
-            new.keep(self.place, name)
+        with new_file(self.place, self.path, 0o666, PASSING) as beside:
+            write_all(beside.file, beside_text(names, layers))
+            for new, name in zip([beside, *self.new], [BESIDE, *names]):
+                new.keep(self.place, name)
         self.is_new = False
         return [os.path.join(self.path, name) for name in names]
 
@@ -51,10 +56,16 @@ class ImageFolder:
             os.rmdir(self.path)
 
 
-def write_images(word, path):
-    """Makes the images of a layout's layers; their paths, and what they don't hold."""
+def stored_layer(number, part, below):
+    """The image in an open file, a part of a layer, which lies on others."""
+    parent = below[-1].digits if below else None
+    return StoredLayer(file_digits(number), os.fstat(number).st_size, part, parent)
+
+
+def write_images(word, path, lost):
+    """Makes the images of a layout's layers; their paths. `lost` is told what they don't hold."""
     layout, tag = open_layout(word)
-    lost, below = Lost(), Below()
+    below, layers = Below(), []
     descriptors = layout.layers(tag)
     folder = ImageFolder(path)
     try:
@@ -63,9 +74,11 @@ def write_images(word, path):
             for number, descriptor in enumerate(descriptors):
                 made = len(folder.new)
                 LayerWriter(layout, number, descriptor).write(folder.new_file, lost, below)
-                for new in folder.new[made:]:
+                for part, new in enumerate(folder.new[made:]):
                     below.add(new.file.fileno())
+                    layers.append(stored_layer(new.file.fileno(), part, layers))
                     new.file.close()
-        return folder.keep(), lost
+        lost.settle()
+        return folder.keep(layers)
     finally:
         folder.close()
