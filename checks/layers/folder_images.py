@@ -377,7 +377,7 @@ def test_upper_folder(room):
         os.link(upper + "/a/x", upper + "/c")
         os.link(upper + "/a/x", upper + "/d")
     below, above = image_of(room, low)[0], image_of(room, "--upper", upper)
-    lost = ["extended attributes are not kept: 1 entry", "  empty: user.note"]
+    lost = ["extended attributes are not kept: 1 entry (1 user attribute)", "  empty: user.note"]
     expect(above[1] == lost, "told %r" % above[1])
     stack = plain.stack_of([read(below), read(above[0])], True, True)
     paths = {b"/".join(path).decode() for path in stack.paths}
@@ -386,7 +386,9 @@ def test_upper_folder(room):
     expect(paths == wanted, "shown: %r" % sorted(paths))
     # without the option devices are devices, and the marks are lost
     told = image_of(room, upper)[1]
-    expect(told[0] == "extended attributes are not kept: 3 entries", "told %r" % told)
+    marks = ["attributes of overlayfs's own are left out: 2 entries",
+             "  a: %s.overlay.impure" % kind, "  b: %s.overlay.opaque" % kind]
+    expect(told == lost + marks, "told %r" % told)
     put(upper, ".wh.name")
     set_mark(upper + "/a", kind + ".overlay.redirect", b"/b")
     refuse_image(room, ("--upper", upper, room.name()),

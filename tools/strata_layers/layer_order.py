@@ -9,7 +9,7 @@ DIGITS = 64
 # so many manifests and indexes of a layout are read
 DOCUMENTS_MOST = 64
 # the file beside the images of a layout's layers that says what they are and lie on
-BESIDE = "layers.json"
+BESIDE = ".layers.json"
 BESIDE_MOST = 1 << 20
 
 
@@ -53,11 +53,12 @@ def beside_text(names, layers):
 def layers_beside(folder):
     """What the file beside the images in a folder says, by their names. One that can't be read says
     nothing."""
+    from strata_format.files import READING
     from strata_format.json_text import value_of
     from strata_layers.store_images import layer_of_json
     path = os.path.join(folder, BESIDE)
     try:
-        with open(path, "rb") as file:
+        with open(os.open(path, READING), "rb") as file:
             value = value_of(file.read(BESIDE_MOST))
         return {it["name"]: layer_of_json(it, path) for it in value["layers"]}
     except (Refused, OSError, ValueError, LookupError, TypeError, RecursionError):

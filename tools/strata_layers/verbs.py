@@ -193,7 +193,7 @@ WORDS = {
         ("folder", {"metavar": "FOLDER|-"}), ("image", {"metavar": "IMAGE"})],
     "convert": [STORE, LEAVE_OUT, FAIL_ON_LOST, ("--platform", {
         "metavar": "PLATFORM", "type": platform_or_all, "help": PLATFORM + "; all for every one"}),
-        ("--compress", {"choices": ("gzip", "zstd"), "default": "",
+        ("--compress", {"dest": "packing", "choices": ("gzip", "zstd"), "default": "",
                         "help": "compress layers; pull decompresses them once"}),
         ("layout", {"metavar": "LAYOUT[:TAG]"}), ("new_layout", {"metavar": "LAYOUT2[:TAG2]"})],
     "pull": [STORE, LEAVE_OUT, FAIL_ON_LOST, ("--platform", {
