@@ -75,7 +75,7 @@ class Reading:
         there = of_file(place)
         self.rows[at] = said_by(found, there)
         if there:
-            self.lost.note_attributes(shown(place), [*there])
+            self.lost.note_attributes(shown(place), there)
 
 
 def check_behind(number, full):

@@ -25,6 +25,18 @@ def line_of(kind, counts):
     return "%s: %s%s" % (LOST[kind], entries_text(counts[kind]), of_kinds)
 
 
+class Parts:
+    """Names of extended attributes: an overlay's own, the others, and how many of each kind these
+    are."""
+
+    def __init__(self, names):
+        self.own = [it for it in names if it.startswith(attributes.OVERLAYS)]
+        self.others = [it for it in names if not it.startswith(attributes.OVERLAYS)]
+        self.counts = {}
+        for kind, _ in map(attributes.kind_of, self.others):
+            self.counts[kind] = self.counts.get(kind, 0) + 1
+
+
 class Lost:
     """Of each kind of loss how many entries, and their names, as far as they are not very many; and
     of each kind of extended attribute how many. `leaves_out` says that entries that no image holds
@@ -33,6 +45,8 @@ class Lost:
     def __init__(self, leaves_out=False, fails=False):
         self.counts, self.named = {}, {}
         self.leaves_out, self.fails = leaves_out, fails
+        # the extended attributes that were noted last, and what there is among them
+        self.last = self.parts = None
 
     def add(self, counts):
         """Adds so many of some kinds, as they were counted before."""
@@ -51,16 +65,16 @@ class Lost:
         if len(lines) < NAMED_MOST:
             lines.append("  " + where + (": " + shown(b",".join(names[:SHOWN]))) * bool(names))
 
-    def note_attributes(self, where, names):
-        """Notes an entry by the names of its extended attributes."""
-        own = [it for it in names if it.startswith(attributes.OVERLAYS)]
-        others = [it for it in names if not it.startswith(attributes.OVERLAYS)]
-        if own:
-            self.note("overlays", where, own)
-        if others:
-            self.note("attributes", where, others)
-            for name in others:
-                self.add({attributes.kind_of(name)[0]: 1})
+    def note_attributes(self, where, there):
+        """Notes an entry that has these extended attributes. Very many entries may have the very
+        same many, which are then looked at once."""
+        if there is not self.last:
+            self.last, self.parts = there, Parts(there)
+        if self.parts.own:
+            self.note("overlays", where, self.parts.own)
+        if self.parts.others:
+            self.note("attributes", where, self.parts.others)
+            self.add(self.parts.counts)
 
     def note_entry(self, front, path, entry):
         """Notes an entry at a path, which is named behind some words. What a hard link leads to
@@ -68,7 +82,7 @@ class Lost:
         if entry.kind == HARD:
             return
         if entry.attributes:
-            self.note_attributes(front + path_text(path), [*entry.attributes])
+            self.note_attributes(front + path_text(path), entry.attributes)
         if not (is_owner(entry.uid) and is_owner(entry.gid)):
             self.note("owners", front + path_text(path))
         if not TIME_LEAST <= entry.time[0] <= TIME_MOST:
