@@ -172,12 +172,12 @@ def test_headers_stand_together(room):
     """Folders, links and small files stand before the headers of large files, the largest last."""
     folder = made_folder(room)
     for number in range(5):
-        put(folder, "d%d/middle" % number, b"m" * (4097 + number * 10000))
+        put(folder, "d%d/middle" % number, b"m" * (8193 + number * 10000))
     image = plain_images.Image(read(image_of(room, folder)[0]))
     sizes = {h: image.size(h) * (image.kind(h) == 2)
              for d in image.directories() for h in image.members(d)}
     order = [sizes[h] for h in sorted(sizes)]
-    classes = [(size > 4096) + (size > 65536) for size in order]
+    classes = [(size > 8192) + (size > 65536) for size in order]
     expect(classes == sorted(classes) and {*classes} == {0, 1, 2}, "in this order: %r" % order)
 
 
