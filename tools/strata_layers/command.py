@@ -38,8 +38,8 @@ def help_text():
     import shutil
     import textwrap
     name = command("layers")
-    lines = ["usage: %s [%s] LAYOUT[:TAG] FOLDER" % (name, FAIL_ON_LOST), "       %s VERB .." % name,
-             "       %s -h|--help|-V|--version" % name]
+    lines = ["usage: %s [%s] LAYOUT[:TAG] FOLDER" % (name, FAIL_ON_LOST),
+             "       %s VERB .." % name, "       %s -h|--help|-V|--version" % name]
     # as wide as the terminal, as the help of a verb is
     width = min(HELP_WIDTH, shutil.get_terminal_size().columns)
     verbs = "Each VERB has a --help: %s." % ", ".join(VERBS)
