@@ -160,7 +160,7 @@ def test_lost(room):
     except OSError as fault:
         raise LeftOut("extended attributes: %s" % fault.strerror) from None
     told = added(folder, image)[2]
-    expect(told == ["extended attributes are not kept: 1 entry", "  %s/d/run: user.x,user.y" % folder], "told %r" % told)
+    expect(told == ["extended attributes are not kept: 1 entry (2 user attributes)", "  %s/d/run: user.x,user.y" % folder], "told %r" % told)
 
 
 def test_no_extended_attributes(room):

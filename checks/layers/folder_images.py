@@ -13,6 +13,7 @@ import signal
 import socket
 import stat
 import subprocess
+import sys
 import time
 
 from checks import TOOLS
@@ -172,12 +173,12 @@ def test_headers_stand_together(room):
     """Folders, links and small files stand before the headers of large files, the largest last."""
     folder = made_folder(room)
     for number in range(5):
-        put(folder, "d%d/middle" % number, b"m" * (4097 + number * 10000))
+        put(folder, "d%d/middle" % number, b"m" * (8193 + number * 10000))
     image = plain_images.Image(read(image_of(room, folder)[0]))
     sizes = {h: image.size(h) * (image.kind(h) == 2)
              for d in image.directories() for h in image.members(d)}
     order = [sizes[h] for h in sorted(sizes)]
-    classes = [(size > 4096) + (size > 65536) for size in order]
+    classes = [(size > 8192) + (size > 65536) for size in order]
     expect(classes == sorted(classes) and {*classes} == {0, 1, 2}, "in this order: %r" % order)
 
 
@@ -377,7 +378,7 @@ def test_upper_folder(room):
         os.link(upper + "/a/x", upper + "/c")
         os.link(upper + "/a/x", upper + "/d")
     below, above = image_of(room, low)[0], image_of(room, "--upper", upper)
-    lost = ["extended attributes are not kept: 1 entry", "  empty: user.note"]
+    lost = ["extended attributes are not kept: 1 entry (1 user attribute)", "  empty: user.note"]
     expect(above[1] == lost, "told %r" % above[1])
     stack = plain.stack_of([read(below), read(above[0])], True, True)
     paths = {b"/".join(path).decode() for path in stack.paths}
@@ -386,7 +387,9 @@ def test_upper_folder(room):
     expect(paths == wanted, "shown: %r" % sorted(paths))
     # without the option devices are devices, and the marks are lost
     told = image_of(room, upper)[1]
-    expect(told[0] == "extended attributes are not kept: 3 entries", "told %r" % told)
+    marks = ["attributes of overlayfs's own are left out: 2 entries",
+             "  a: %s.overlay.impure" % kind, "  b: %s.overlay.opaque" % kind]
+    expect(told == lost + marks, "told %r" % told)
     put(upper, ".wh.name")
     set_mark(upper + "/a", kind + ".overlay.redirect", b"/b")
     refuse_image(room, ("--upper", upper, room.name()),
@@ -421,6 +424,26 @@ def test_memory_of_an_image(room):
             image_of_folder(number, out, Lost())
     finally:
         resource.setrlimit(resource.RLIMIT_AS, before)
+
+
+LOADED = """
+import sys
+sys.path.insert(0, sys.argv[1])
+from strata_layers.command import main
+main(["image", *sys.argv[2:]])
+sys.stderr.write(" ".join(sys.modules))
+"""
+
+
+def test_little_is_loaded(room):
+    """A small image takes little more than Python's start: what loads longer than that is not
+    loaded."""
+    words = [sys.executable, "-IBS", "-c", LOADED, TOOLS, "--leave-out", made_folder(room), room.name()]
+    done = subprocess.run(words, capture_output=True, check=True, text=True)
+    many = {"argparse", "re", "subprocess", "hashlib", "json", "shutil", "threading", "contextlib",
+            "enum", "shlex", "strata_layers.tars", "strata_layers.store"}
+    found = sorted(many.intersection(done.stderr.split()))
+    expect(found == [], "loaded: %s" % " ".join(found))
 
 
 def test_words_of_image(room):

@@ -6,7 +6,7 @@ import subprocess
 
 from checks import ROOT, TOOLS
 from checks.layers.layer_room import expect
-from checks.shared.layer_files import archive, directory, file, hard, layout_of, symlink
+from checks.shared.layer_files import BESIDE, archive, directory, file, hard, layout_of, symlink
 from strata_layers import layouts
 
 
@@ -48,7 +48,7 @@ def test_names_of_images(room):
     folder = room.name()
     status, output, _ = room.convert(layout_of(room.name(), made).path, folder)
     names = ["%03d.romfs" % number for number in range(128)]
-    expect(status == 0 and sorted(os.listdir(folder)) == names, "the folder")
+    expect(status == 0 and sorted(os.listdir(folder)) == [BESIDE, *names], "the folder")
     expect(output.split() == ["tools/mount.py", *(os.path.join(folder, name) for name in names), "DIR"], "printed %r" % output)
     room.hold([os.path.join(folder, name) for name in names], made)
 
@@ -78,7 +78,7 @@ def test_command(room):
     expect((done.returncode, done.stdout.decode(), done.stderr) == (0, line, b""), "ended with %r" % (done,))
     for word in ("-h", "--help"):
         done = subprocess.run([tool, word], cwd=room.path, capture_output=True, check=False)
-        usage = b"usage: tools/layers.py LAYOUT[:TAG] FOLDER\n"
+        usage = b"usage: tools/layers.py [--fail-on-lost] LAYOUT[:TAG] FOLDER\n"
         expect((done.returncode, done.stderr) == (0, b"") and done.stdout.startswith(usage), "ended with %r" % (done,))
 
 
@@ -90,6 +90,7 @@ def test_wrong_words(room):
             ("a verb or LAYOUT[:TAG] FOLDER is missing",),
             ("FOLDER for the images of %s is missing" % place, place),
             ("b: unexpected after LAYOUT[:TAG] FOLDER", place, "a", "b"),
+            ("a verb or LAYOUT[:TAG] FOLDER is missing", "--fail-on-lost"),
             ("--store: an option before the verb", "--store", "X", "images"),
             ("pul: " + verbs, "pul", "oci:x"),
             ("convrt: " + verbs, "convrt", "a", "b")):

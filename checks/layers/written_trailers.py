@@ -8,7 +8,8 @@ from checks.layers.layer_room import GNU, PAX, LeftOut, expect
 from checks.layers.shown_trees import read
 from checks.plain import plain, plain_attributes
 from checks.shared import other_kernel
-from checks.shared.layer_files import archive, block, character, directory, fifo, file, hard, layout_of, symlink
+from checks.shared.layer_files import (archive, block, character, directory, fifo, file, hard, images_in, layout_of,
+                                       symlink)
 
 MOST = 2 ** 32 - 1
 
@@ -18,7 +19,7 @@ def shown(room, *archives):
     folder = room.name()
     status, _, told = room.convert(layout_of(room.name(), archives).path, folder)
     expect(status == 0, "status %d: %s" % (status, told))
-    images = [os.path.join(folder, name) for name in sorted(os.listdir(folder))]
+    images = images_in(folder)
     room.hold(images, archives)
     stack = plain.stack_of([read(path) for path in images], True, True)
     return {b"/".join(path).decode(): stack.attributes(number) for path, number in stack.paths.items()}, told
@@ -117,7 +118,7 @@ def test_extended_attributes(room):
         file("ping", mode=0o755, pax_headers={"SCHILY.xattr.security.capability": "\x01", "SCHILY.xattr.user.x": "1"}),
         directory("d d", pax_headers={"RHT.security.selinux": "x"}), file("acl", pax_headers={"SCHILY.acl.access": "user::rw-"}),
         file("no", pax_headers={"SCHILY.dev": "1", "attributes": "x"})]), archive(many))
-    hold("told", ["extended attributes are not kept: 253 entries", "  layer 0: ping: security.capability,user.x",
+    hold("told", ["extended attributes are not kept: 253 entries (1 capability, 1 ACL, 1 label, 251 user attributes)", "  layer 0: ping: security.capability,user.x",
                   "  layer 0: d\\20d: security.selinux", "  layer 0: acl: acl.access"], told[:4])
     hold("the last", ["  layer 1: f196: user.y", "  .. and 53 more"], told[-2:])
 

@@ -16,7 +16,7 @@ from checks.mounts.mounted_ends import OTHER, as_other
 from checks.mounts.mounted_trees import file
 from checks.plain import plain, plain_attributes
 from checks.shared.images import sample
-from checks.shared.layer_files import archive, directory, layout_of, symlink
+from checks.shared.layer_files import archive, directory, images_in, layout_of, symlink
 from checks.shared.layer_files import file as entry
 from checks.shared.mounting import Failed, LeftOut, fails, hold
 from checks.shared.random_inputs import random_stack
@@ -53,7 +53,7 @@ def layers_of(room, *archives):
     done = subprocess.run([sys.executable, "-B", TOOLS + "/layers.py", layout, folder], stdin=subprocess.DEVNULL,
                           stdout=subprocess.DEVNULL, stderr=subprocess.PIPE)
     hold("layers.py", (0, b""), (done.returncode, done.stderr))
-    return [os.path.join(folder, name) for name in sorted(os.listdir(folder))]
+    return images_in(folder)
 
 
 def without_trailer(room, image):

@@ -24,9 +24,9 @@ from strata_format.romfs import (MAJOR_MOST, MINOR_MOST, REGULAR, SYMLINK, TARGE
                                  header_size, padded_name, path_text)
 
 # files up to the first size stand among the headers, up to the second behind them, others last
-SIZES = (1 << 12, 1 << 16)
+SIZES = (1 << 13, 1 << 16)
 # so many bytes of small data are held
-HELD_MOST = 1 << 23
+HELD_MOST = 1 << 25
 # of an image of many parts each keeps this part of its room for hard links to what is in it
 KEPT = 32
 

@@ -132,6 +132,7 @@ def convert(store, layout, tag, word, options, lost):
         with Progress("layers", size) as progress:
             layout.heard = progress.add
             layers = [maker.layers(layout, image) for image in images]
+        lost.settle()
         with LayoutWriter(folder) as target:
             converter = Converter(maker, target, options.packing)
             made = [converter.image(*both) for both in zip(images, layers)]

@@ -13,7 +13,8 @@ from strata_format.image import Image
 from strata_format.progress import unheard
 from strata_format.refused import BadEntry, Faults, NotHeld, Refused, shown
 from strata_format.romfs import path_text
-from strata_layers import entries, tars
+from strata_layers import entries
+from strata_layers.attributes import mode_without
 from strata_layers.entries import MARKER, said_by
 from strata_layers.folder_entries import Folder
 
@@ -74,6 +75,7 @@ class Maker:
 
     def put_archive(self, source):
         """All that is in an archive of tar, which is read to the end of the source."""
+        from strata_layers import tars  # a folder needs none of it
         try:
             for entry in tars.Tar(source).entries():
                 self.put_named(entry)
@@ -108,6 +110,7 @@ class Maker:
             if self.is_left_out(entry):
                 self.leave_out(path)
                 return
+            entry.mode = mode_without(entry.mode, entry.attributes)
             put(self.image, path, entry)
         except NotHeld as refused:
             if not self.lost.leaves_out:

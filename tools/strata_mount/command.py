@@ -23,7 +23,7 @@ from strata_format.version import version
 from strata_mount.mounting import attempt
 from strata_mount.options import Options, Wrong
 from strata_mount.plan import Plan
-from strata_mount.words import Reader, WrongWords
+from strata_format.words import Reader, WrongWords
 
 FLAGS = {"-h": "help", "--help": "help", "--background": "background", "--strict": "strict",
          "--replace": "replace", "--share": "share", "--print": "is_printed", "--list": "list",

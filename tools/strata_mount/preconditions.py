@@ -3,6 +3,7 @@ nothing below the folder."""
 import os
 
 from strata_format.version import PACKAGES, TOP
+from strata_layers import layer_order
 from strata_mount import dead_mounts
 from strata_mount.device import take_away
 from strata_mount.mount_table import mount_at
@@ -12,8 +13,6 @@ from strata_mount.mount_table import mount_at
 # the last folder
 OPENED = ("/lib64/ld-linux-x86-64.so.2", "/etc/ld.so.preload", "/etc/ld.so.cache", "/dev/null",
           "/sys/devices/system/cpu/online", "/sys/fs/cgroup/cpu.max", "/proc/self/fd")
-# of a digest, by which a layer's file is named
-DIGITS = 64
 # as many links as the kernel follows on the way to a file
 LINKS_MOST = 40
 
@@ -72,10 +71,8 @@ def find_images(plan):
         from strata_layers import store_images
         found = store_images.mounted_words(plan.images, plan.store, plan.verify)
         plan.images, plan.marks, parents = found
-    # of others than blobs, which are named by their digests, nothing is known
-    if any(len(os.path.basename(it)) == DIGITS for it in plan.images):
-        from strata_layers.layer_order import wrong_order
-        line = wrong_order(plan.images, parents)
+    if layer_order.is_known(plan.images):
+        line = layer_order.wrong_order(plan.images, parents)
         if line is not None:
             plan.say(line)
 
