@@ -160,7 +160,7 @@ def told_of(room, line, *words):
 
 def check_order_of_a_folder(room):
     """The same of images that were made without a store, by the file beside them; also where they
-    lie under other names there, or have gone elsewhere, nothing is told falsely."""
+    lie under other names there, or have gone elsewhere, no report is false."""
     out = room.name()
     room.ran(sys.executable, "-B", LAYERS, made.layout(room.name()).path, out)
     images = ["%s/%02d.romfs" % (out, number) for number in range(5)]
