@@ -1,0 +1,4 @@
+pub mod Fans
+pub mod Levels
+pub mod Binding
+pub mod Files

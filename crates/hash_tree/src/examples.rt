@@ -1,0 +1,1 @@
+//! Digests that `fsverity digest` printed, computed from the definitions.
