@@ -14,9 +14,9 @@ pub fn vouched_is_right_or_forged<H: BlockHash>()
     ensures { (hash : H) (xs : List ℕ) (n levels i : ℕ) (b : List ℕ) → AreBlocks xs n →
         HasLevels (H.algorithm_of hash) n levels → i < n →
         (vouched : Vouches (H.algorithm_of hash) (H.digest_of hash) levels
-            (root (H.algorithm_of hash) (H.digest_of hash) levels xs n) i b) →
+        (root (H.algorithm_of hash) (H.digest_of hash) levels xs n) i b) →
         (b ≡ block xs i) ⊎ IsForged (H.algorithm_of hash) (H.digest_of hash) levels xs n
-            (root (H.algorithm_of hash) (H.digest_of hash) levels xs n) i b vouched }
+        (root (H.algorithm_of hash) (H.digest_of hash) levels xs n) i b vouched }
 {}
 
 /// Two files with one digest have the same bytes, however many they are; or their descriptors, or
