@@ -1,5 +1,6 @@
 -- Blocks and the digests over them, by numbers: of either algorithm.
-use Rattle.std.proofs.Common.{◌≡◌, ℕ, zero, suc, ◌+◌, ◌-◌, ◌*◌, ◌/◌, ◌%◌, ◌^◌, ◌<◌, ◌≤◌, arith, pow-suc}
+use Rattle.std.proofs.Common.{◌≡◌, ℕ, zero, suc, ◌+◌, ◌-◌, ◌*◌, ◌/◌, ◌%◌, ◌^◌, ◌<◌, ◌≤◌, arith, pow-suc, inl, inr}
+use Rattle.std.proofs.lemmas.Bool.{cases_lt}
 use Rattle.hash_tree.specs.declared.algorithm.Algorithm.{Algorithm}
 use Rattle.hash_tree.specs.declared.algorithm.Algorithm.TheVariants.{Sha256, Sha512}
 use Rattle.hash_tree.specs.Tree.{HasLevels, digest_size, fan, blocks_above}
@@ -76,3 +77,20 @@ one_count a n j k p q =
     let left = p.least k (q.enough) in
     let right = q.least j (p.enough) in
     omega arith
+
+pub digest_within : (a : Algorithm) (i n : ℕ) → i < n → digest_size a * i + digest_size a ≤ digest_size a * n
+digest_within Sha256 i n below = omega arith
+digest_within Sha512 i n below = omega arith
+
+-- files have nine levels at most
+pub nine_levels : (a : Algorithm) (n levels : ℕ) → n ≤ 2 ^ 51 → HasLevels a n levels → levels ≤ 9
+nine_levels Sha256 n levels few has = has.least 9 (omega arith)
+nine_levels Sha512 n levels few has = has.least 9 (omega arith)
+
+-- over more than one block there is a level
+pub many_blocks : (a : Algorithm) (n levels : ℕ) → HasLevels a n (suc levels) → 1 < n
+many_blocks a n levels has =
+    elim (cases_lt 1 n) [
+      | inl many ↦ many
+      | inr few ↦ (let none = has.least 0 ((no_levels a n (omega (arith, few))).enough) in absurd (omega arith))
+    ]

@@ -117,3 +117,32 @@ one_file a h sized xs ys d x y =
             | inl is ↦ inl (same_file xs ys long is)
           ]
     ]
+
+-- ---- a descriptor as it is made
+
+zeros_more : (m n : ℕ) → replicate m 0 ++ replicate n 0 ≡ replicate {A = ℕ} (m + n) 0
+zeros_more zero n = (let e : n ≡ 0 + n = omega arith in ap (λ k. replicate {A = ℕ} k 0) e)
+zeros_more (suc m) n =
+    let e : suc (m + n) ≡ suc m + n = omega arith in
+    ap (λ l. 0 ∷ l) (zeros_more m n) ∙ ap (λ k. replicate {A = ℕ} k 0) e
+
+made_end : (top : List ℕ) → length top ≤ 64 → top ++ replicate (240 - length top) 0 ≡ rest_of top
+unfolding field rest_of
+made_end top fits =
+    let e : 240 - length top ≡ 64 - length top + 176 = omega arith in
+    ap (λ k. top ++ replicate k 0) e
+    ∙ ap (λ l. top ++ l) (sym (zeros_more (64 - length top) 176))
+    ∙ sym (append_assoc top (replicate (64 - length top) 0) (replicate 176 0))
+
+pub descriptor_made : (a : Algorithm) (size m len : ℕ) (top made : List ℕ) → length top ≤ 64 → len ≡ length made → m ≡ number a
+    → made ≡ ((1 ∷ m ∷ 12 ∷ 0 ∷ 0 ∷ 0 ∷ 0 ∷ 0 ∷ []) ++ to_le_bytes w64 size) ++ top
+    → take 256 made ++ replicate (256 - len) 0 ≡ descriptor a size top
+unfolding descriptor field rest_of
+descriptor_made a size m len top made fits count named e =
+    let long : length made ≡ length (((1 ∷ m ∷ 12 ∷ 0 ∷ 0 ∷ 0 ∷ 0 ∷ 0 ∷ []) ++ to_le_bytes w64 size) ++ top) = ap (λ l. length l) e in
+    let whole : take 256 made ≡ made = take_all 256 made (omega (arith, long, fits)) in
+    let left : 256 - len ≡ 240 - length top = omega (arith, long, count) in
+    ap (λ l. l ++ replicate (256 - len) 0) (whole ∙ e)
+    ∙ ap (λ k. (((1 ∷ m ∷ 12 ∷ 0 ∷ 0 ∷ 0 ∷ 0 ∷ 0 ∷ []) ++ to_le_bytes w64 size) ++ top) ++ replicate k 0) left
+    ∙ ap (λ l. ((1 ∷ m ∷ 12 ∷ 0 ∷ 0 ∷ 0 ∷ 0 ∷ 0 ∷ []) ++ to_le_bytes w64 size) ++ l) (made_end top fits)
+    ∙ ap (λ k. ((1 ∷ k ∷ 12 ∷ 0 ∷ 0 ∷ 0 ∷ 0 ∷ 0 ∷ []) ++ to_le_bytes w64 size) ++ rest_of top) named

@@ -1,5 +1,5 @@
 -- Documentation/filesystems/fsverity.rst, "fs-verity descriptor" and "fs-verity file digest".
-use Rattle.std.specs.Prelude.{◌≡◌, ℕ, ◌+◌, ◌-◌, ◌*◌, ◌/◌, ◌^◌, ◌<◌, List, [], ◌∷◌, ◌++◌, length, take, drop, replicate}
+use Rattle.std.specs.Prelude.{◌≡◌, ℕ, ◌+◌, ◌-◌, ◌*◌, ◌/◌, ◌^◌, ◌<◌, List, [], ◌∷◌, ◌++◌, length, replicate}
 use Rattle.std.specs.Int.{to_le_bytes, w64}
 use Rattle.hash_tree.specs.declared.algorithm.Algorithm.{Algorithm}
 use Rattle.hash_tree.specs.declared.algorithm.Algorithm.TheVariants.{Sha256, Sha512}
@@ -8,10 +8,6 @@ use Rattle.hash_tree.specs.Tree.{Hash, AreBytes, HasLevels, root_hash}
 -- how many blocks so many bytes fill
 abbrev pub blocks_of : ℕ → ℕ
 blocks_of size = (size + 4095) / 4096
-
--- the bytes that the block with this index has of the file
-unfoldable pub piece : List ℕ → ℕ → List ℕ
-piece xs i = take 4096 (drop (4096 * i) xs)
 
 -- a block that ends early is filled with zeros
 unfoldable pub filled : List ℕ → List ℕ

@@ -36,7 +36,7 @@ pub record AreBlocks (xs : List ℕ) (n : ℕ) : Type 0 where
   pub whole : length xs ≡ 4096 * n
   pub bytes : AreBytes xs
 
--- the block with this index, and the digest with this index
+-- the block with this index, as far as the bytes go, and the digest with this index
 unfoldable pub block : List ℕ → ℕ → List ℕ
 block xs i = take 4096 (drop (4096 * i) xs)
 

@@ -9,11 +9,13 @@
 #![tactic(auto)]
 
 mod algorithm;
+mod descriptor;
 mod digest;
 pub mod examples;
 mod hash;
 pub mod laws;
 
 pub use algorithm::Algorithm;
+pub use descriptor::descriptor_of;
 pub use digest::Digest;
 pub use hash::BlockHash;

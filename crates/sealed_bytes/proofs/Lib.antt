@@ -1,0 +1,5 @@
+pub mod Stored
+pub mod Leaves
+pub mod Parts
+pub mod Tops
+pub mod Whole
