@@ -94,3 +94,7 @@ many_blocks a n levels has =
       | inl many ↦ many
       | inr few ↦ (let none = has.least 0 ((no_levels a n (omega (arith, few))).enough) in absurd (omega arith))
     ]
+
+pub small_digest : (a : Algorithm) → digest_size a ≤ 64
+small_digest Sha256 = omega arith
+small_digest Sha512 = omega arith

@@ -75,7 +75,7 @@ one_top a m n r s long_r long_s same =
 
 -- ---- files
 
-root_some : (a : Algorithm) (h : Hash) (levels : ℕ) (xs : List ℕ) (n : ℕ) → 0 < n → root_hash a h levels xs n ≡ root a h levels xs n
+pub root_some : (a : Algorithm) (h : Hash) (levels : ℕ) (xs : List ℕ) (n : ℕ) → 0 < n → root_hash a h levels xs n ≡ root a h levels xs n
 unfolding root_hash
 root_some a h levels xs zero some = absurd (omega arith)
 root_some a h levels xs (suc n) some = refl

@@ -1,3 +1,4 @@
+pub mod Blocks
 pub mod Stored
 pub mod Leaves
 pub mod Parts

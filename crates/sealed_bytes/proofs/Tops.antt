@@ -2,7 +2,7 @@
 use Rattle.std.proofs.Common.{◌≡◌, ◌≢◌, ◌∙◌, sym, ap, ℕ, zero, suc, ◌+◌, ◌-◌, ◌*◌, List, [], ◌++◌, length, take, drop, replicate, refl, arith, add-one}
 use Rattle.std.proofs.lemmas.List.{take_all}
 use Rattle.hash_tree.specs.declared.algorithm.Algorithm.{Algorithm}
-use Rattle.hash_tree.specs.Tree.{Hash, IsDigest, digest_size, block, digests, blocks_above, above, root}
+use Rattle.hash_tree.specs.Tree.{Hash, IsDigest, digest_size, block, digests, blocks_above, above, root, tree_blocks}
 use Rattle.hash_tree.proofs.Fans.{above_fits}
 use Rattle.hash_tree.proofs.Levels.{length-digests}
 
@@ -44,3 +44,16 @@ pub root_up : (a : Algorithm) (h : Hash) (levels : ℕ) (xs up : List ℕ) (n m 
     → root a h (levels - 1) up m ≡ root a h levels xs n
 root_up a h levels xs up n m some e f =
     ap (λ l. root a h (levels - 1) l m) e ∙ ap (λ k. root a h (levels - 1) (above a h xs n) k) f ∙ root_some a h levels xs n some
+
+pub tree_none : (a : Algorithm) (levels n : ℕ) → levels ≡ 0 → 0 ≡ tree_blocks a levels n
+unfolding tree_blocks
+tree_none a zero n none = refl
+tree_none a (suc levels) n none = absurd (omega arith)
+
+pub tree_some : (a : Algorithm) (levels n : ℕ) → levels ≢ 0
+    → tree_blocks a (levels - 1) (blocks_above a n) + blocks_above a n ≡ tree_blocks a levels n
+unfolding tree_blocks
+tree_some a zero n some = absurd (some refl)
+tree_some a (suc levels) n some =
+    let e : suc levels - 1 ≡ levels = omega arith in
+    ap (λ k. tree_blocks a k (blocks_above a n) + blocks_above a n) e

@@ -1,6 +1,6 @@
 -- Honest files: they are unmatched (honest_is), what is kept of them is their tree's (kept_honest), and no read of them fails.
-use Rattle.std.proofs.Common.{◌≡◌, ◌≢◌, ◌∙◌, sym, ap, subst, ℕ, zero, suc, ◌+◌, ◌-◌, ◌*◌, ◌/◌, ◌%◌, ◌^◌, ◌<◌, ◌≤◌, List, [], ◌∷◌, length, take, drop, replicate, min, Option, Some, refl, arith}
-use Rattle.std.proofs.lemmas.List.{take_all}
+use Rattle.std.proofs.Common.{◌≡◌, ◌≢◌, ◌∙◌, sym, ap, subst, ℕ, zero, suc, ◌+◌, ◌-◌, ◌*◌, ◌/◌, ◌%◌, ◌^◌, ◌<◌, ◌≤◌, List, [], ◌∷◌, length, take, drop, replicate, min, Option, Some, Result, Ok, Err, IfErr, OnErr, refl, arith}
+use Rattle.std.proofs.lemmas.List.{take_all, length-replicate}
 use Rattle.image_bytes.specs.Contents.{IsShort}
 use Rattle.image_bytes.specs.Sources.{Source, MayGive, held}
 use Rattle.image_bytes.proofs.Held.{held_only}
@@ -10,8 +10,8 @@ use Rattle.hash_tree.specs.File.{blocks_of, in_blocks, filled, descriptor, file_
 use Rattle.hash_tree.proofs.Fans.{above_within, one_level_less, one_block, one_count, many_blocks}
 use Rattle.hash_tree.proofs.Levels.{block-is, block-only, blocks-above}
 use Rattle.hash_tree.proofs.Files.{blocks-file, root_some}
-use Rattle.hash_tree.proofs.Filled.{filled_whole, block-filled, length-block, length-tree, only-filled}
-use Rattle.sealed_bytes.specs.Seal.{Seal, lowest_place, kept_len, kept_root, kept_of, IsGiven, MayBeOnly, MayBeKept}
+use Rattle.hash_tree.proofs.Filled.{filled_whole, filled-is, block-filled, length-block, length-tree, only-filled}
+use Rattle.sealed_bytes.specs.Seal.{Seal, lowest_place, kept_len, kept_root, kept_of, IsGiven, MayBeOnly, MayBeKept, IsTop}
 use Rattle.sealed_bytes.specs.Read.{IsAloneAt, IsUnmatched}
 use Rattle.sealed_bytes.specs.Kept.{IsOpened, IsLeaf}
 use Rattle.sealed_bytes.specs.Honest.{IsHonest, IsTampered}
@@ -144,7 +144,7 @@ root_of_kept a h (suc (suc levels)) xs n has =
 
 pub kept_other : (s : Seal) (sized : (m : List ℕ) → IsDigest s.algorithm (s.hash m)) (levels : ℕ) (kept : List ℕ)
     → HasLevels s.algorithm (blocks_of s.size) levels → MayBeKept s levels kept
-    → s.hash (descriptor s.algorithm s.size (kept_root s.algorithm s.hash levels kept (blocks_of s.size))) ≢ s.digest → IsTampered s
+    → (IsTop s levels kept → ⊥) → IsTampered s
 kept_other s sized levels kept has may other = record {
   no = λ xs o.
       let a = s.algorithm in
@@ -241,3 +241,64 @@ block_other s sized first leaf i b leaf_is from less below g other = record {
       given_is s.image xs (g.of) (4096 * i) (length (block xs i)) (o.image_held) long (g.given) ∙ block_held xs i in
       other (ap s.hash (g.is ∙ ap (λ l. filled l) found ∙ sym (block-filled xs i (o.of.bytes) inside)) ∙ sym (leaf_is.right xs u i from less below));
 }
+
+-- ---- what any fault is
+
+pub any_err : {X E : Type 0} (r : Result X E) {P : E → Type 0} → ((e : E) → P e) → IfErr r P
+any_err (Ok x) each = tt
+any_err (Err e) each = each e
+
+pub first_short : (s : Seal) (sized : (m : List ℕ) → IsDigest s.algorithm (s.hash m)) → HasLevels s.algorithm (blocks_of s.size) 1
+    → IsShort s.tree_bytes 0 4096 → IsTampered s
+unfolding tree_blocks
+first_short s sized has lacks =
+    let a = s.algorithm in
+    let many = many_blocks a (blocks_of s.size) 0 has in
+    let some = some_above a (blocks_of s.size) (omega (arith, many)) in
+    tree_short s sized 1 0 4096 has (omega (arith, some)) lacks
+
+pub upper_short : (s : Seal) (sized : (m : List ℕ) → IsDigest s.algorithm (s.hash m)) (levels : ℕ) → 2 ≤ levels
+    → HasLevels s.algorithm (blocks_of s.size) levels
+    → IsShort s.tree_bytes (4096 * tree_blocks s.algorithm (levels - 2) (blocks_above s.algorithm (blocks_above s.algorithm (blocks_of s.size))))
+    (4096 * blocks_above s.algorithm (blocks_above s.algorithm (blocks_of s.size))) → IsTampered s
+unfolding tree_blocks
+upper_short s sized zero many has lacks = absurd (omega arith)
+upper_short s sized (suc zero) many has lacks = absurd (omega arith)
+upper_short s sized (suc (suc below)) many has lacks =
+    let a = s.algorithm in
+    let m = blocks_above a (blocks_above a (blocks_of s.size)) in
+    let e : suc (suc below) - 2 ≡ below = omega arith in
+    tree_short s sized (suc (suc below)) (4096 * tree_blocks a below m) (4096 * m) has (omega arith)
+    (subst (λ k. IsShort s.tree_bytes (4096 * tree_blocks a k m) (4096 * m)) e lacks)
+
+pub upper_kept : (s : Seal) (levels : ℕ) (kept : List ℕ) → 2 ≤ levels
+    → length kept ≡ 4096 * blocks_above s.algorithm (blocks_above s.algorithm (blocks_of s.size))
+    → MayGive s.tree (4096 * tree_blocks s.algorithm (levels - 2) (blocks_above s.algorithm (blocks_above s.algorithm (blocks_of s.size)))) kept
+    → MayBeKept s levels kept
+upper_kept s zero kept many long given = absurd (omega arith)
+upper_kept s (suc zero) kept many long given = absurd (omega arith)
+upper_kept s (suc (suc below)) kept many long given =
+    let a = s.algorithm in
+    let m = blocks_above a (blocks_above a (blocks_of s.size)) in
+    let e : suc (suc below) - 2 ≡ below = omega arith in (
+      long,
+      subst (λ k. MayGive s.tree (4096 * tree_blocks a k m) kept) e given,
+    )
+
+only_long : (s : Seal) (sized : (m : List ℕ) → IsDigest s.algorithm (s.hash m)) (size : ℕ) (kept : List ℕ)
+    → MayBeOnly s size kept → length kept ≡ digest_size s.algorithm
+only_long s sized zero kept may = ap length may ∙ length-replicate {A = ℕ} (digest_size s.algorithm) 0
+only_long s sized (suc k) kept may = ap length (may.2) ∙ (sized (may.0)).whole
+
+pub kept_long : (s : Seal) (sized : (m : List ℕ) → IsDigest s.algorithm (s.hash m)) (levels : ℕ) (kept : List ℕ)
+    → MayBeKept s levels kept → length kept ≡ kept_len s.algorithm levels (blocks_of s.size)
+kept_long s sized zero kept may = only_long s sized s.size kept may
+kept_long s sized (suc zero) kept may = ap length (may.2) ∙ (sized (may.0)).whole
+kept_long s sized (suc (suc levels)) kept may = may.0
+
+pub any_on : {X E T : Type 0} (r : Result X E) → T → OnErr r T
+any_on (Ok x) t = tt
+any_on (Err e) t = t
+
+pub given_block : (source : Source) (place : ℕ) (b : List ℕ) → IsGiven source place 4096 b → IsBlock b
+given_block source place b g = subst IsBlock (sym g.is) (filled-is (g.of) (g.bytes) (let l = g.long in omega (arith, l)))

@@ -4,7 +4,7 @@ use Rattle.hash_tree.specs.declared.algorithm.Algorithm.{Algorithm}
 use Rattle.hash_tree.specs.Tree.{AreBytes, IsDigest, HasLevels, fan, block, digest_at}
 use Rattle.hash_tree.specs.File.{blocks_of, in_blocks, descriptor}
 use Rattle.hash_tree.specs.Vouched.{Vouches}
-use Rattle.sealed_bytes.specs.Seal.{Seal, lowest_place, kept_len, kept_root, kept_of}
+use Rattle.sealed_bytes.specs.Seal.{Seal, lowest_place, kept_len, kept_of, IsTop}
 use Rattle.sealed_bytes.specs.Read.{IsUnmatched}
 
 -- what is held of the tree: the digest is that of its descriptor, and it is that of unmatched bytes
@@ -16,7 +16,7 @@ pub record IsOpened (s : Seal) (levels lowest : ℕ) (kept : List ℕ) : Type 0 
   pub near : lowest ≤ 2 ^ 62
   pub long : length kept ≡ kept_len s.algorithm levels (blocks_of s.size)
   pub bytes : AreBytes kept
-  pub described : s.hash (descriptor s.algorithm s.size (kept_root s.algorithm s.hash levels kept (blocks_of s.size))) ≡ s.digest
+  pub described : IsTop s levels kept
   pub right : (xs : List ℕ) → IsUnmatched s xs
       → (s.size ≡ length xs) × (kept ≡ kept_of s.algorithm s.hash levels (in_blocks xs) (blocks_of (length xs)))
 

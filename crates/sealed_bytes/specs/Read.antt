@@ -2,9 +2,9 @@
 use Rattle.std.specs.Prelude.{◌≡◌, ◌≢◌, ℕ, ◌+◌, ◌-◌, ◌*◌, ◌<◌, List, length, slice_index}
 use Rattle.image_bytes.specs.Sources.{Source, MayGive}
 use Rattle.hash_tree.specs.Tree.{Hash, AreBytes, HasLevels, block, blocks_above, above}
-use Rattle.hash_tree.specs.File.{blocks_of, piece, filled, in_blocks, descriptor, IsFileDigest}
+use Rattle.hash_tree.specs.File.{blocks_of, filled, in_blocks, IsFileDigest}
 use Rattle.hash_tree.specs.Vouched.{VouchesAt}
-use Rattle.sealed_bytes.specs.Seal.{Seal, lowest_place, kept_root, kept_of, MayBeKept}
+use Rattle.sealed_bytes.specs.Seal.{Seal, lowest_place, kept_of, MayBeKept, IsTop}
 
 -- no read of the source at this place gives other bytes, as many, that have these bytes' digest
 pub record IsAloneAt (source : Source) (place : ℕ) (h : Hash) (b : List ℕ) : Type 0 where
@@ -17,9 +17,9 @@ pub record IsAloneAt (source : Source) (place : ℕ) (h : Hash) (b : List ℕ) :
 pub record IsUnmatched (s : Seal) (xs : List ℕ) : Type 0 where
   pub of : IsFileDigest s.algorithm s.hash xs s.digest
   pub top : (levels : ℕ) (kept : List ℕ) → HasLevels s.algorithm (blocks_of s.size) levels → MayBeKept s levels kept
-      → s.hash (descriptor s.algorithm s.size (kept_root s.algorithm s.hash levels kept (blocks_of s.size))) ≡ s.digest
+      → IsTop s levels kept
       → (s.size ≡ length xs) × (kept ≡ kept_of s.algorithm s.hash levels (in_blocks xs) (blocks_of (length xs)))
-  pub blocks : (i : ℕ) → i < blocks_of (length xs) → IsAloneAt s.image (4096 * i) s.hash (piece xs i)
+  pub blocks : (i : ℕ) → i < blocks_of (length xs) → IsAloneAt s.image (4096 * i) s.hash (block xs i)
   pub hash_blocks : of.levels ≢ 0 → (i : ℕ) → i < blocks_above s.algorithm (blocks_of (length xs))
       → IsAloneAt s.tree (lowest_place s.algorithm of.levels (blocks_of (length xs)) + 4096 * i) s.hash
       (block (above s.algorithm s.hash (in_blocks xs) (blocks_of (length xs))) i)

@@ -3,7 +3,7 @@ use Rattle.std.specs.Prelude.{◌≡◌, ℕ, zero, suc, ◌+◌, ◌-◌, ◌*�
 use Rattle.image_bytes.specs.Sources.{Source, MayGive}
 use Rattle.hash_tree.specs.declared.algorithm.Algorithm.{Algorithm}
 use Rattle.hash_tree.specs.Tree.{Hash, AreBytes, IsBlock, IsDigest, digest_size, blocks_above, above, root, root_hash, tree_blocks}
-use Rattle.hash_tree.specs.File.{blocks_of, filled}
+use Rattle.hash_tree.specs.File.{blocks_of, filled, descriptor}
 
 -- what the file and the file of its tree hold, where that is known, and may give; how it is hashed;
 -- its size and digest
@@ -53,10 +53,19 @@ abbrev pub MayBeOnly : Seal → ℕ → List ℕ → Type 0
 MayBeOnly s zero kept = kept ≡ replicate (digest_size s.algorithm) 0
 MayBeOnly s (suc k) kept = (b : List ℕ) × IsGiven s.image 0 (suc k) b × (kept ≡ s.hash b)
 
+-- the digest of the only hash block, as reads may give it
+abbrev pub MayBeFirst : Seal → List ℕ → Type 0
+MayBeFirst s kept = (b : List ℕ) × IsGiven s.tree 0 4096 b × (kept ≡ s.hash b)
+
 -- what is kept of a tree of so many levels, as reads may give it
 abbrev pub MayBeKept : Seal → ℕ → List ℕ → Type 0
 MayBeKept s zero kept = MayBeOnly s s.size kept
-MayBeKept s (suc zero) kept = (b : List ℕ) × IsGiven s.tree 0 4096 b × (kept ≡ s.hash b)
+MayBeKept s (suc zero) kept = MayBeFirst s kept
 MayBeKept s (suc (suc levels)) kept =
     (length kept ≡ kept_len s.algorithm (suc (suc levels)) (blocks_of s.size))
     × MayGive s.tree (4096 * tree_blocks s.algorithm levels (blocks_above s.algorithm (blocks_above s.algorithm (blocks_of s.size)))) kept
+
+-- with the size that is told, this is kept of a file with the digest that is told
+abbrev pub IsTop : Seal → ℕ → List ℕ → Type 0
+IsTop s levels kept =
+    s.hash (descriptor s.algorithm s.size (kept_root s.algorithm s.hash levels kept (blocks_of s.size))) ≡ s.digest

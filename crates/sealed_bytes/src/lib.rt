@@ -2,6 +2,7 @@
 //! the tree over which the file's fs-verity digest stands.
 //!
 //! - [`Files`] are a file, the file of its tree, and the digest that they should have.
+//!   [`NamedFiles`] is what is asked of such files.
 //! - [`Sealed`] reads them, once [`Sealed::open`] has held the upper levels against the digest.
 //!
 //! What is read is right, unless a read gives, in the place of a block of the file or of its tree,
@@ -15,6 +16,6 @@ pub mod laws;
 mod opening;
 mod sealed;
 
-pub use files::Files;
+pub use files::{Files, NamedFiles};
 pub use opening::SealFault;
 pub use sealed::Sealed;

@@ -1,18 +1,18 @@
 //! What is kept of a tree is read, and held against the digest.
 
-ghost use Rattle.std.specs.Prelude.{◌≡◌, ◌≢◌, ◌⊎◌, ◌+◌, ◌*◌, ◌<◌, ◌≤◌, ◌^◌, false, length, IfOk, IfErr, IsTrue};
-ghost use Rattle.hash_tree.specs.Tree.{HasLevels, blocks_above, above, root, tree_blocks};
-ghost use Rattle.hash_tree.specs.File.{blocks_of, descriptor};
+ghost use Rattle.std.specs.Prelude.{◌≡◌, ◌⊎◌, ◌+◌, ◌*◌, ◌<◌, ◌≤◌, ◌^◌, false, length, IfOk, IfErr, IsTrue};
+ghost use Rattle.hash_tree.specs.Tree.{AreBytes, HasLevels, blocks_above, above, root, tree_blocks};
+ghost use Rattle.hash_tree.specs.File.{blocks_of};
 ghost use Rattle.hash_tree.specs.Digests.{digest_bytes};
 ghost use Rattle.sealed_bytes.specs.declared.opening.SealFault.TheVariants.{Memory, Unread as NotRead};
-ghost use Rattle.sealed_bytes.specs.Seal.{MayBeKept, kept_len, kept_root, lowest_place};
+ghost use Rattle.sealed_bytes.specs.Seal.{IsTop, MayBeFirst, MayBeKept, MayBeOnly, kept_len, lowest_place};
 ghost use Rattle.sealed_bytes.specs.Honest.{IsTampered};
 
-use crate::files::Files;
+use crate::files::NamedFiles;
 use crate::filling::BLOCK;
 use crate::sealed::Sealed;
-use hash_tree::{Algorithm, BlockHash, Digest, descriptor_of};
-use image_bytes::{Contents, Unread};
+use hash_tree::{Algorithm, Digest, descriptor_of};
+use image_bytes::Unread;
 use std::alloc::{AllocError, AllocFailed, Allocator};
 
 /// The size that no file reaches.
@@ -104,177 +104,176 @@ fn held_digest<A: Allocator>(alloc: A, digest: &Digest) -> Result<Vec<u8, A>, Al
     Ok(held)
 }
 
-impl<C: Contents, D: Contents, H: BlockHash> Files<C, D, H> {
-    /// The level above some blocks.
-    fn above<A: Allocator>(
-        &self,
-        alloc: A,
-        bytes: &[u8],
-        blocks: u64,
-    ) -> Result<Vec<u8, A>, AllocError>
-        requires few { blocks ≤ 2 ^ 51 }
-        requires whole { length bytes.now ≡ 4096 * blocks }
-        ensures value { IfOk result (λ upper.
-            upper.items ≡ above self.now.algorithm self.now.hash bytes.now blocks) }
-        ensures long { IfOk result (λ upper.
-            length upper.items ≡ 4096 * blocks_above self.now.algorithm blocks) }
-    {
-        let mut digests = Vec::new(alloc);
-        for i in 0..blocks {
-            let at = i as usize * BLOCK;
-            digests.extend_from_slice(self.hash(&bytes[at..at + BLOCK]).as_bytes())?;
-        }
-        digests.resize(self.algorithm().blocks_above(blocks) as usize * BLOCK, 0)?;
-        Ok(digests)
+/// The level above some blocks.
+fn above<F: NamedFiles, A: Allocator>(
+    alloc: A,
+    files: &F,
+    bytes: &[u8],
+    blocks: u64,
+) -> Result<Vec<u8, A>, AllocError>
+    requires few { blocks ≤ 2 ^ 51 }
+    requires whole { length bytes.now ≡ 4096 * blocks }
+    ensures value { IfOk result (λ upper. upper.items
+        ≡ above (F.seal files.now).algorithm (F.seal files.now).hash bytes.now blocks) }
+    ensures long { IfOk result (λ upper.
+        length upper.items ≡ 4096 * blocks_above (F.seal files.now).algorithm blocks) }
+{
+    let mut digests = Vec::new(alloc);
+    for i in 0..blocks {
+        let at = i as usize * BLOCK;
+        digests.extend_from_slice(files.hash(&bytes[at..at + BLOCK]).as_bytes())?;
     }
+    digests.resize(files.algorithm().blocks_above(blocks) as usize * BLOCK, 0)?;
+    Ok(digests)
+}
 
-    /// The digest at the top, so many levels above some blocks.
-    fn root_over<A: Allocator + Copy>(
-        &self,
-        alloc: A,
-        bytes: &[u8],
-        blocks: u64,
-        levels: u64,
-    ) -> Result<Digest, AllocError>
-        requires few { blocks ≤ 2 ^ 51 }
-        requires whole { length bytes.now ≡ 4096 * blocks }
-        ensures { IfOk result (λ top.
-            digest_bytes top ≡ root self.now.algorithm self.now.hash levels bytes.now blocks) }
-    {
-        if levels == 0 {
-            return Ok(self.hash(bytes));
-        }
-        let next = self.above(alloc, bytes, blocks)?;
-        self.root_over(
-            alloc,
-            &next,
-            self.algorithm().blocks_above(blocks),
-            levels - 1,
-        )
+/// The digest at the top, so many levels above some blocks.
+fn root_over<F: NamedFiles, A: Allocator + Copy>(
+    alloc: A,
+    files: &F,
+    bytes: &[u8],
+    blocks: u64,
+    levels: u64,
+) -> Result<Digest, AllocError>
+    requires few { blocks ≤ 2 ^ 51 }
+    requires whole { length bytes.now ≡ 4096 * blocks }
+    ensures { IfOk result (λ top. digest_bytes top
+        ≡ root (F.seal files.now).algorithm (F.seal files.now).hash levels bytes.now blocks) }
+{
+    if levels == 0 {
+        return Ok(files.hash(bytes));
     }
+    let next = above(alloc, files, bytes, blocks)?;
+    root_over(
+        alloc,
+        files,
+        &next,
+        files.algorithm().blocks_above(blocks),
+        levels - 1,
+    )
+}
 
-    /// The digest of the only block; of no bytes zeros.
-    fn only_digest<A: Allocator>(&self, alloc: A) -> Result<Vec<u8, A>, SealFault>
-        requires { self.now.size ≤ 4096 }
-        ensures ok { IfOk result (λ kept. MayBeKept self.now 0 kept.items) }
-        ensures err { IfErr result (λ fault. (fault ≡ Memory) ⊎ IsTampered self.now) }
-    {
-        if self.size() == 0 {
-            let mut zeros = Vec::new(alloc);
-            zeros.resize(self.algorithm().digest_size(), 0)?;
-            return Ok(zeros);
-        }
-        let mut block = [0u8; BLOCK];
-        self.fill_image(&mut block, self.size() as usize, 0)?;
-        Ok(held_digest(alloc, &self.hash(&block))?)
+/// The digest of the only block; of no bytes zeros.
+fn only_digest<F: NamedFiles, A: Allocator>(alloc: A, files: &F) -> Result<Vec<u8, A>, SealFault>
+    requires { (F.seal files.now).size ≤ 4096 }
+    ensures ok { IfOk result (λ kept. MayBeOnly (F.seal files.now) (F.seal files.now).size kept.items) }
+    ensures err { IfErr result (λ fault. (fault ≡ Memory) ⊎ IsTampered (F.seal files.now)) }
+{
+    let size = files.size();
+    if size == 0 {
+        let mut zeros = Vec::new(alloc);
+        zeros.resize(files.algorithm().digest_size(), 0)?;
+        return Ok(zeros);
     }
+    let mut block = [0u8; BLOCK];
+    files.fill_image(&mut block, size as usize, 0)?;
+    Ok(held_digest(alloc, &files.hash(&block))?)
+}
 
-    /// The digest of the only hash block.
-    fn first_digest<A: Allocator>(&self, alloc: A) -> Result<Vec<u8, A>, SealFault>
-        requires { HasLevels self.now.algorithm (blocks_of self.now.size) 1 }
-        ensures ok { IfOk result (λ kept. MayBeKept self.now 1 kept.items) }
-        ensures err { IfErr result (λ fault. (fault ≡ Memory) ⊎ IsTampered self.now) }
-    {
-        let mut block = [0u8; BLOCK];
-        self.fill_tree(&mut block, 0)?;
-        Ok(held_digest(alloc, &self.hash(&block))?)
-    }
+/// The digest of the only hash block.
+fn first_digest<F: NamedFiles, A: Allocator>(alloc: A, files: &F) -> Result<Vec<u8, A>, SealFault>
+    requires { HasLevels (F.seal files.now).algorithm (blocks_of (F.seal files.now).size) 1 }
+    ensures ok { IfOk result (λ kept. MayBeFirst (F.seal files.now) kept.items) }
+    ensures err { IfErr result (λ fault. (fault ≡ Memory) ⊎ IsTampered (F.seal files.now)) }
+{
+    let mut block = [0u8; BLOCK];
+    files.fill_tree(&mut block, 0)?;
+    Ok(held_digest(alloc, &files.hash(&block))?)
+}
 
-    /// The level above the lowest hash blocks.
-    fn upper_level<A: Allocator>(&self, alloc: A, levels: u64) -> Result<Vec<u8, A>, SealFault>
-        requires small { self.now.size < 2 ^ 63 }
-        requires many { 2 ≤ levels }
-        requires few { levels ≤ 9 }
-        requires has { HasLevels self.now.algorithm (blocks_of self.now.size) levels }
-        ensures ok { IfOk result (λ kept. MayBeKept self.now levels kept.items) }
-        ensures err { IfErr result (λ fault. (fault ≡ Memory) ⊎ IsTampered self.now) }
-    {
-        let algorithm = self.algorithm();
-        let blocks = (self.size() + 4095) / 4096;
-        let count = algorithm.blocks_above(algorithm.blocks_above(blocks));
-        let mut kept = Vec::new(alloc);
-        kept.resize(count as usize * BLOCK, 0)?;
-        self.read_tree(
-            &mut kept[..],
-            BLOCK as u64 * tree_blocks(algorithm, levels - 2, count),
-        )?;
-        Ok(kept)
-    }
+/// The level above the lowest hash blocks.
+fn upper_level<F: NamedFiles, A: Allocator>(
+    alloc: A,
+    files: &F,
+    levels: u64,
+) -> Result<Vec<u8, A>, SealFault>
+    requires small { (F.seal files.now).size < 2 ^ 63 }
+    requires many { 2 ≤ levels }
+    requires few { levels ≤ 9 }
+    requires has { HasLevels (F.seal files.now).algorithm (blocks_of (F.seal files.now).size) levels }
+    ensures ok { IfOk result (λ kept. MayBeKept (F.seal files.now) levels kept.items) }
+    ensures err { IfErr result (λ fault. (fault ≡ Memory) ⊎ IsTampered (F.seal files.now)) }
+{
+    let algorithm = files.algorithm();
+    let blocks = (files.size() + 4095) / 4096;
+    let count = algorithm.blocks_above(algorithm.blocks_above(blocks));
+    let mut kept = Vec::new(alloc);
+    kept.resize(count as usize * BLOCK, 0)?;
+    files.read_tree(
+        &mut kept[..],
+        BLOCK as u64 * tree_blocks(algorithm, levels - 2, count),
+    )?;
+    Ok(kept)
+}
 
-    /// What is kept of the tree.
-    fn load_kept<A: Allocator>(&self, alloc: A, levels: u64) -> Result<Vec<u8, A>, SealFault>
-        requires small { self.now.size < 2 ^ 63 }
-        requires few { levels ≤ 9 }
-        requires has { HasLevels self.now.algorithm (blocks_of self.now.size) levels }
-        ensures ok { IfOk result (λ kept. MayBeKept self.now levels kept.items) }
-        ensures err { IfErr result (λ fault. (fault ≡ Memory) ⊎ IsTampered self.now) }
-    {
-        if levels == 0 {
-            self.only_digest(alloc)
-        } else if levels == 1 {
-            self.first_digest(alloc)
-        } else {
-            self.upper_level(alloc, levels)
-        }
+/// What is kept of the tree.
+fn load_kept<F: NamedFiles, A: Allocator>(
+    alloc: A,
+    files: &F,
+    levels: u64,
+) -> Result<Vec<u8, A>, SealFault>
+    requires small { (F.seal files.now).size < 2 ^ 63 }
+    requires few { levels ≤ 9 }
+    requires has { HasLevels (F.seal files.now).algorithm (blocks_of (F.seal files.now).size) levels }
+    ensures ok { IfOk result (λ kept. MayBeKept (F.seal files.now) levels kept.items) }
+    ensures err { IfErr result (λ fault. (fault ≡ Memory) ⊎ IsTampered (F.seal files.now)) }
+{
+    if levels == 0 {
+        only_digest(alloc, files)
+    } else if levels == 1 {
+        first_digest(alloc, files)
+    } else {
+        upper_level(alloc, files, levels)
     }
 }
 
-impl<C: Contents, D: Contents, H: BlockHash> Files<C, D, H> {
-    /// Whether the digest of the file is the one over what is kept of its tree.
-    fn is_top<A: Allocator + Copy>(
-        &self,
-        alloc: A,
-        kept: &[u8],
-        levels: u64,
-    ) -> Result<bool, AllocError>
-        requires small { self.now.size < 2 ^ 63 }
-        requires long { length kept.now ≡ kept_len self.now.algorithm levels (blocks_of self.now.size) }
-        ensures is { IfOk result (λ is. IsTrue is → self.now.hash (descriptor self.now.algorithm
-            self.now.size (kept_root self.now.algorithm self.now.hash levels kept.now (blocks_of self.now.size))) ≡ self.now.digest) }
-        ensures not { IfOk result (λ is. is ≡ false → self.now.hash (descriptor self.now.algorithm
-            self.now.size (kept_root self.now.algorithm self.now.hash levels kept.now (blocks_of self.now.size))) ≢ self.now.digest) }
-    {
-        if levels < 2 {
-            let described = descriptor_of(alloc, self.algorithm(), self.size(), kept)?;
-            return Ok(self.is_described(&described));
-        }
-        let blocks = (self.size() + 4095) / 4096;
-        let count = self
-            .algorithm()
-            .blocks_above(self.algorithm().blocks_above(blocks));
-        let top = self.root_over(alloc, kept, count, levels - 2)?;
-        let described = descriptor_of(alloc, self.algorithm(), self.size(), top.as_bytes())?;
-        Ok(self.is_described(&described))
+/// Whether the digest that is told is the one over what is kept of a tree.
+fn is_top<F: NamedFiles, A: Allocator + Copy>(
+    alloc: A,
+    files: &F,
+    kept: &[u8],
+    levels: u64,
+) -> Result<bool, AllocError>
+    requires small { (F.seal files.now).size < 2 ^ 63 }
+    requires long { length kept.now ≡ kept_len (F.seal files.now).algorithm levels
+        (blocks_of (F.seal files.now).size) }
+    ensures is { IfOk result (λ is. IsTrue is → IsTop (F.seal files.now) levels kept.now) }
+    ensures not { IfOk result (λ is. is ≡ false → IsTop (F.seal files.now) levels kept.now → ⊥) }
+    ensures bytes { AreBytes kept.now }
+{
+    let algorithm = files.algorithm();
+    let size = files.size();
+    if levels < 2 {
+        return Ok(files.is_described(&descriptor_of(alloc, algorithm, size, kept)?));
     }
+    let count = algorithm.blocks_above(algorithm.blocks_above((size + 4095) / 4096));
+    let top = root_over(alloc, files, kept, count, levels - 2)?;
+    Ok(files.is_described(&descriptor_of(alloc, algorithm, size, top.as_bytes())?))
 }
 
-impl<C: Contents + Drop, D: Contents + Drop, H: BlockHash + Drop, A: Allocator + Copy> Sealed<
-    C,
-    D,
-    H,
-    A,
-> {
+impl<F: NamedFiles + Drop, A: Allocator + Copy> Sealed<F, A> {
     /// Opens a file under its digest. Of its tree the level above the lowest hash blocks is read, and
-    /// held against the digest by what is computed of it; the lowest ones are read later. Where that is
-    /// refused, memory was, or the files are not the named ones.
+    /// held against the digest by what is computed of it; the lowest ones are read later. Where that
+    /// is refused, memory was, or the files are not the named ones.
     ///
     /// The size is as much part of the digest as the tree: hash blocks that are shown as the data of
     /// a shorter file have the same root hash.
     ///
     /// Memory is taken for a 16,384th of the bytes, by SHA-512 for a 4,096th; and while the digest is
     /// computed for a 128th of that, or a 64th.
-    pub fn open(alloc: A, files: Files<C, D, H>) -> Result<Sealed<C, D, H, A>, SealFault>
+    pub fn open(alloc: A, files: F) -> Result<Sealed<F, A>, SealFault>
         ensures ok { IfOk result (λ opened. opened.files ≡ files) }
-        ensures err { IfErr result (λ fault. (fault ≡ Memory) ⊎ IsTampered files) }
+        ensures err { IfErr result (λ fault. (fault ≡ Memory) ⊎ IsTampered (F.seal files)) }
     {
-        if files.size() >= TOO_LARGE {
+        let size = files.size();
+        if size >= TOO_LARGE {
             return Err(SealFault::Length);
         }
         let algorithm = files.algorithm();
-        let blocks = (files.size() + 4095) / 4096;
+        let blocks = (size + 4095) / 4096;
         let levels = level_count(algorithm, blocks);
-        let kept = files.load_kept(alloc, levels)?;
-        if !files.is_top(alloc, &kept, levels)? {
+        let kept = load_kept(alloc, &files, levels)?;
+        if !is_top(alloc, &files, &kept, levels)? {
             return Err(SealFault::Digest);
         }
         let lowest = lowest_place(algorithm, levels, blocks);

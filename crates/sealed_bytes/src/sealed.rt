@@ -7,32 +7,32 @@ ghost use Rattle.sealed_bytes.specs.Read.{IsUnmatched, AreRead};
 ghost use Rattle.sealed_bytes.specs.Kept.{IsOpened, IsLeaf, first_under, run_end};
 ghost use Rattle.sealed_bytes.specs.Honest.{IsTampered};
 
-use crate::files::Files;
+use crate::files::{NamedFiles, has_digest};
 use crate::filling::BLOCK;
-use hash_tree::{Algorithm, BlockHash};
-use image_bytes::{Contents, Unread};
+use hash_tree::Algorithm;
+use image_bytes::Unread;
 use std::alloc::Allocator;
 
 /// A file whose digest is known. Of its tree the digests of the lowest hash blocks are kept; those
 /// blocks are read when they are needed.
 #[derive(Drop)]
-pub struct Sealed<C: Contents, D: Contents, H: BlockHash, A: Allocator> {
-    pub(crate) files: Files<C, D, H>,
+pub struct Sealed<F: NamedFiles, A: Allocator> {
+    pub(crate) files: F,
     pub(crate) levels: u64,
     // Where the lowest hash blocks stand in the tree's file.
     pub(crate) lowest: u64,
     pub(crate) kept: Vec<u8, A>,
-    ghost opened: { IsOpened files levels lowest kept.items },
+    ghost opened: { IsOpened (F.seal files) levels lowest kept.items },
 }
 
-impl<C: Contents, D: Contents, H: BlockHash, A: Allocator> Sealed<C, D, H, A> {
+impl<F: NamedFiles, A: Allocator> Sealed<F, A> {
     /// Reads the digests of the blocks that stand in one hash block with this one's.
     fn load_leaf(&self, block: u64, leaf: &mut [u8]) -> Result<(), Unread>
         requires long { length leaf.old ≡ 4096 }
-        requires within { block < blocks_of self.now.files.size }
-        ensures ok { OnOk result (IsLeaf self.now.files
-            (first_under self.now.files.algorithm block) leaf.new) }
-        ensures err { OnErr result (IsTampered self.now.files) }
+        requires within { block < blocks_of (F.seal self.now.files).size }
+        ensures ok { OnOk result (IsLeaf (F.seal self.now.files)
+            (first_under (F.seal self.now.files).algorithm block) leaf.new) }
+        ensures err { OnErr result (IsTampered (F.seal self.now.files)) }
     {
         if self.levels == 0 {
             put_front(leaf, &self.kept);
@@ -41,7 +41,7 @@ impl<C: Contents, D: Contents, H: BlockHash, A: Allocator> Sealed<C, D, H, A> {
         let index = block / self.files.algorithm().fan();
         self.files
             .fill_tree(leaf, self.lowest + BLOCK as u64 * index)?;
-        if self.files.has_digest(&self.kept, index as usize, leaf) {
+        if has_digest(&self.files, &self.kept, index as usize, leaf) {
             Ok(())
         } else {
             Err(Unread)
@@ -57,18 +57,18 @@ impl<C: Contents, D: Contents, H: BlockHash, A: Allocator> Sealed<C, D, H, A> {
         block: &mut [u8],
     ) -> Result<(), Unread>
         requires long { length block.old ≡ 4096 }
-        requires within { index < blocks_of self.now.files.size }
+        requires within { index < blocks_of (F.seal self.now.files).size }
         requires from { first ≤ index }
-        requires under { index < first + fan self.now.files.algorithm }
-        requires leaf { IsLeaf self.now.files first leaf.now }
-        ensures ok { OnOk result (AreRead self.now.files (4096 * index)
-            (take (min 4096 (self.now.files.size - 4096 * index)) block.new)) }
-        ensures err { OnErr result (IsTampered self.now.files) }
+        requires under { index < first + fan (F.seal self.now.files).algorithm }
+        requires leaf { IsLeaf (F.seal self.now.files) first leaf.now }
+        ensures ok { OnOk result (AreRead (F.seal self.now.files) (4096 * index)
+            (take (min 4096 ((F.seal self.now.files).size - 4096 * index)) block.new)) }
+        ensures err { OnErr result (IsTampered (F.seal self.now.files)) }
     {
         let place = BLOCK as u64 * index;
         let count = (BLOCK as u64).min(self.files.size() - place) as usize;
         self.files.fill_image(block, count, place)?;
-        if self.files.has_digest(leaf, (index - first) as usize, block) {
+        if has_digest(&self.files, leaf, (index - first) as usize, block) {
             Ok(())
         } else {
             Err(Unread)
@@ -77,14 +77,14 @@ impl<C: Contents, D: Contents, H: BlockHash, A: Allocator> Sealed<C, D, H, A> {
 
     /// Reads a part of a block: the block is read whole, and its part is copied.
     fn read_part(&self, leaf: &[u8], first: u64, place: u64, room: &mut [u8]) -> Result<(), Unread>
-        requires some { place < self.now.files.size }
-        requires within { place + length room.old ≤ self.now.files.size }
+        requires some { place < (F.seal self.now.files).size }
+        requires within { place + length room.old ≤ (F.seal self.now.files).size }
         requires part { place % 4096 + length room.old ≤ 4096 }
         requires from { 4096 * first ≤ place }
-        requires under { place < 4096 * (first + fan self.now.files.algorithm) }
-        requires leaf { IsLeaf self.now.files first leaf.now }
-        ensures ok { OnOk result (AreRead self.now.files place room.new) }
-        ensures err { OnErr result (IsTampered self.now.files) }
+        requires under { place < 4096 * (first + fan (F.seal self.now.files).algorithm) }
+        requires leaf { IsLeaf (F.seal self.now.files) first leaf.now }
+        ensures ok { OnOk result (AreRead (F.seal self.now.files) place room.new) }
+        ensures err { OnErr result (IsTampered (F.seal self.now.files)) }
     {
         let mut block = [0u8; BLOCK];
         self.read_whole(leaf, first, place / BLOCK as u64, &mut block)?;
@@ -94,14 +94,14 @@ impl<C: Contents, D: Contents, H: BlockHash, A: Allocator> Sealed<C, D, H, A> {
 
     /// Reads bytes of one block.
     fn read_piece(&self, leaf: &[u8], first: u64, place: u64, room: &mut [u8]) -> Result<(), Unread>
-        requires some { place < self.now.files.size }
-        requires within { place + length room.old ≤ self.now.files.size }
+        requires some { place < (F.seal self.now.files).size }
+        requires within { place + length room.old ≤ (F.seal self.now.files).size }
         requires part { place % 4096 + length room.old ≤ 4096 }
         requires from { 4096 * first ≤ place }
-        requires under { place < 4096 * (first + fan self.now.files.algorithm) }
-        requires leaf { IsLeaf self.now.files first leaf.now }
-        ensures ok { OnOk result (AreRead self.now.files place room.new) }
-        ensures err { OnErr result (IsTampered self.now.files) }
+        requires under { place < 4096 * (first + fan (F.seal self.now.files).algorithm) }
+        requires leaf { IsLeaf (F.seal self.now.files) first leaf.now }
+        ensures ok { OnOk result (AreRead (F.seal self.now.files) place room.new) }
+        ensures err { OnErr result (IsTampered (F.seal self.now.files)) }
     {
         if room.len() == BLOCK {
             self.read_whole(leaf, first, place / BLOCK as u64, room)
@@ -112,12 +112,12 @@ impl<C: Contents, D: Contents, H: BlockHash, A: Allocator> Sealed<C, D, H, A> {
 
     /// Reads bytes whose blocks' digests stand in one hash block.
     fn read_run(&self, leaf: &[u8], first: u64, place: u64, room: &mut [u8]) -> Result<(), Unread>
-        requires within { place + length room.old ≤ self.now.files.size }
+        requires within { place + length room.old ≤ (F.seal self.now.files).size }
         requires from { 4096 * first ≤ place }
-        requires under { place + length room.old ≤ 4096 * (first + fan self.now.files.algorithm) }
-        requires leaf { IsLeaf self.now.files first leaf.now }
-        ensures ok { OnOk result (AreRead self.now.files place room.new) }
-        ensures err { OnErr result (IsTampered self.now.files) }
+        requires under { place + length room.old ≤ 4096 * (first + fan (F.seal self.now.files).algorithm) }
+        requires leaf { IsLeaf (F.seal self.now.files) first leaf.now }
+        ensures ok { OnOk result (AreRead (F.seal self.now.files) place room.new) }
+        ensures err { OnErr result (IsTampered (F.seal self.now.files)) }
     {
         let mut done = 0;
         while done < room.len() {
@@ -132,11 +132,11 @@ impl<C: Contents, D: Contents, H: BlockHash, A: Allocator> Sealed<C, D, H, A> {
 
     /// Reads bytes whose blocks' digests stand in one hash block, which is read before.
     fn read_under(&self, place: u64, room: &mut [u8]) -> Result<(), Unread>
-        requires some { place < self.now.files.size }
-        requires within { place + length room.old ≤ self.now.files.size }
-        requires run { place + length room.old ≤ run_end self.now.files.algorithm place }
-        ensures ok { OnOk result (AreRead self.now.files place room.new) }
-        ensures err { OnErr result (IsTampered self.now.files) }
+        requires some { place < (F.seal self.now.files).size }
+        requires within { place + length room.old ≤ (F.seal self.now.files).size }
+        requires run { place + length room.old ≤ run_end (F.seal self.now.files).algorithm place }
+        ensures ok { OnOk result (AreRead (F.seal self.now.files) place room.new) }
+        ensures err { OnErr result (IsTampered (F.seal self.now.files)) }
     {
         let mut leaf = [0u8; BLOCK];
         let block = place / BLOCK as u64;
@@ -146,9 +146,9 @@ impl<C: Contents, D: Contents, H: BlockHash, A: Allocator> Sealed<C, D, H, A> {
 
     /// Reads bytes, each run of them under its hash block.
     fn read_all(&self, place: u64, room: &mut [u8]) -> Result<(), Unread>
-        requires within { place + length room.old ≤ self.now.files.size }
-        ensures ok { OnOk result (AreRead self.now.files place room.new) }
-        ensures err { OnErr result (IsTampered self.now.files) }
+        requires within { place + length room.old ≤ (F.seal self.now.files).size }
+        ensures ok { OnOk result (AreRead (F.seal self.now.files) place room.new) }
+        ensures err { OnErr result (IsTampered (F.seal self.now.files)) }
     {
         let mut done = 0;
         while done < room.len() {
@@ -163,7 +163,7 @@ impl<C: Contents, D: Contents, H: BlockHash, A: Allocator> Sealed<C, D, H, A> {
 
     /// How many bytes there are.
     pub fn size(&self) -> u64
-        ensures { result ≡ self.now.files.size }
+        ensures { result ≡ (F.seal self.now.files).size }
     {
         self.files.size()
     }
@@ -177,11 +177,11 @@ impl<C: Contents, D: Contents, H: BlockHash, A: Allocator> Sealed<C, D, H, A> {
     /// them once for each 512 KiB, by SHA-512 for each 256 KiB.
     pub fn read_at(&self, room: &mut [u8], offset: u64) -> Result<usize, Unread>
         ensures count { IfOk result (λ count. count ≡ min (length room.old)
-            (self.now.files.size - offset)) }
-        ensures read { IfOk result (λ count. AreRead self.now.files offset (take count room.new)) }
-        ensures unmatched { IfOk result (λ count. (xs : List ℕ) → IsUnmatched self.now.files xs →
+            ((F.seal self.now.files).size - offset)) }
+        ensures read { IfOk result (λ count. AreRead (F.seal self.now.files) offset (take count room.new)) }
+        ensures unmatched { IfOk result (λ count. (xs : List ℕ) → IsUnmatched (F.seal self.now.files) xs →
             take count room.new ≡ take count (drop offset xs)) }
-        ensures err { OnErr result (IsTampered self.now.files) }
+        ensures err { OnErr result (IsTampered (F.seal self.now.files)) }
     {
         let size = self.files.size();
         if offset >= size {
