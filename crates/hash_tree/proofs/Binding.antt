@@ -1,9 +1,9 @@
 -- The root hash binds: what it vouches for is the block of the bytes whose it is, or a twin was met on the way (bound_or_forged); bytes with
 -- the same root hash are the same, or have twins (one_root). Of whole bytes it vouches for each block (vouches).
-use Rattle.std.proofs.Common.{◌≡◌, ◌≢◌, ◌∙◌, sym, ap, subst, ℕ, zero, suc, ◌+◌, ◌*◌, ◌/◌, ◌%◌, ◌^◌, ◌<◌, ◌≤◌, List, [], ◌∷◌, length, get_or, refl, arith, inl, inr, ◌⊎◌, ext_get_or, slice_index}
+use Rattle.std.proofs.Common.{◌≡◌, ◌≢◌, ◌∙◌, sym, ap, ℕ, zero, suc, ◌+◌, ◌*◌, ◌/◌, ◌%◌, ◌^◌, ◌<◌, ◌≤◌, List, [], ◌∷◌, get_or, refl, arith, inl, inr, ◌⊎◌, ext_get_or}
 use Rattle.std.proofs.lemmas.Bool.{cases_eq, cases_lt}
 use Rattle.hash_tree.specs.declared.algorithm.Algorithm.{Algorithm}
-use Rattle.hash_tree.specs.Tree.{Hash, IsBlock, IsDigest, AreBlocks, fan, block, digest_at, blocks_above, above, root}
+use Rattle.hash_tree.specs.Tree.{Hash, IsDigest, AreBlocks, fan, block, digest_at, blocks_above, above, root}
 use Rattle.hash_tree.specs.Vouched.{Vouches}
 use Rattle.hash_tree.specs.Twins.{AreTwins, IsForged, HaveTwins}
 use Rattle.hash_tree.proofs.Fans.{above_within, one_block, one_level_less, split_is, rest_below}

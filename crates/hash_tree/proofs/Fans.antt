@@ -1,5 +1,5 @@
 -- Blocks and the digests over them, by numbers: of either algorithm.
-use Rattle.std.proofs.Common.{◌≡◌, ℕ, zero, suc, ◌+◌, ◌-◌, ◌*◌, ◌/◌, ◌%◌, ◌^◌, ◌<◌, ◌≤◌, arith, pow-suc, inl, inr}
+use Rattle.std.proofs.Common.{◌≡◌, ℕ, zero, suc, ◌+◌, ◌*◌, ◌/◌, ◌%◌, ◌^◌, ◌<◌, ◌≤◌, arith, pow-suc, inl, inr}
 use Rattle.std.proofs.lemmas.Bool.{cases_lt}
 use Rattle.hash_tree.specs.declared.algorithm.Algorithm.{Algorithm}
 use Rattle.hash_tree.specs.declared.algorithm.Algorithm.TheVariants.{Sha256, Sha512}

@@ -1,15 +1,14 @@
 -- A file's bytes in blocks, and its descriptor: files with one digest are one, or have twins (one_file).
-use Rattle.std.proofs.Common.{◌≡◌, ◌≢◌, ◌∙◌, sym, ap, subst, ℕ, zero, suc, ◌+◌, ◌-◌, ◌*◌, ◌/◌, ◌%◌, ◌^◌, ◌<◌, ◌≤◌, List, [], ◌∷◌, ◌++◌, length, take, drop, replicate, get_or, refl, arith, inl, inr, ◌⊎◌, append_assoc, length-append, length-take-le, length-drop}
+use Rattle.std.proofs.Common.{◌≡◌, ◌∙◌, sym, ap, subst, ℕ, zero, suc, ◌+◌, ◌-◌, ◌*◌, ◌^◌, ◌<◌, ◌≤◌, List, [], ◌∷◌, ◌++◌, length, take, drop, replicate, refl, arith, inl, inr, ◌⊎◌, append_assoc, length-append}
 use Rattle.std.specs.Int.{to_le_bytes, w64}
 use Rattle.std.proofs.lemmas.Nat.{from_le_bytes-to_le_bytes_8}
 use Rattle.std.specs.Int.{from_le_bytes}
-use Rattle.std.proofs.lemmas.List.{take_at, drop_at, take_all, length-replicate}
+use Rattle.std.proofs.lemmas.List.{take_at, take_all, length-replicate}
 use Rattle.hash_tree.specs.declared.algorithm.Algorithm.{Algorithm}
-use Rattle.hash_tree.specs.declared.algorithm.Algorithm.TheVariants.{Sha256, Sha512}
 use Rattle.hash_tree.specs.Digests.{bytes-append}
-use Rattle.hash_tree.specs.Tree.{Hash, AreBytes, IsBlock, IsDigest, AreBlocks, HasLevels, digest_size, block, root, root_hash}
-use Rattle.hash_tree.specs.File.{blocks_of, in_blocks, number, field, descriptor, root_of, file_digest, IsFileDigest}
-use Rattle.hash_tree.specs.Twins.{AreTwins, HaveTwins, AreForged}
+use Rattle.hash_tree.specs.Tree.{Hash, AreBytes, IsDigest, AreBlocks, HasLevels, digest_size, root, root_hash}
+use Rattle.hash_tree.specs.File.{blocks_of, in_blocks, number, field, descriptor, root_of, IsFileDigest}
+use Rattle.hash_tree.specs.Twins.{HaveTwins, AreForged}
 use Rattle.hash_tree.proofs.Fans.{one_count}
 use Rattle.hash_tree.proofs.Levels.{bytes-zeros}
 use Rattle.hash_tree.proofs.Binding.{list_cases, one_root}

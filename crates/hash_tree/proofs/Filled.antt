@@ -1,10 +1,10 @@
 -- A file's bytes in blocks: each is the file's, filled with zeros (block-filled).
-use Rattle.std.proofs.Common.{◌≡◌, ◌∙◌, sym, ap, ℕ, zero, suc, ◌+◌, ◌-◌, ◌*◌, ◌/◌, ◌<◌, ◌≤◌, List, [], ◌∷◌, ◌++◌, length, take, drop, replicate, get_or, slice_index, refl, arith, inl, inr, length-append, length-take-le, length-drop, ext_get_or, min, append-nil}
-use Rattle.std.proofs.lemmas.List.{take_at, length-take, length-replicate, get_or_append_left, get_or-append_right, get_or-take, get_or-drop}
+use Rattle.std.proofs.Common.{◌≡◌, ◌∙◌, sym, ap, ℕ, zero, suc, ◌+◌, ◌-◌, ◌*◌, ◌<◌, ◌≤◌, List, [], ◌∷◌, ◌++◌, length, take, drop, replicate, get_or, slice_index, refl, arith, inl, inr, length-append, length-drop, ext_get_or, min, append-nil}
+use Rattle.std.proofs.lemmas.List.{take_at, length-take, length-replicate, get_or_append_left, get_or-append_right}
 use Rattle.std.proofs.lemmas.Bool.{cases_lt}
 use Rattle.hash_tree.specs.declared.algorithm.Algorithm.{Algorithm}
 use Rattle.hash_tree.specs.Digests.{bytes-append}
-use Rattle.hash_tree.specs.Tree.{Hash, AreBytes, IsBlock, IsDigest, AreBlocks, block, blocks_above, above, tree, tree_blocks}
+use Rattle.hash_tree.specs.Tree.{Hash, AreBytes, IsBlock, IsDigest, block, blocks_above, above, tree, tree_blocks}
 use Rattle.hash_tree.specs.File.{blocks_of, filled, in_blocks}
 use Rattle.hash_tree.proofs.Levels.{bytes-zeros, block-is, blocks-above, index-block}
 use Rattle.hash_tree.proofs.Files.{blocks-file}

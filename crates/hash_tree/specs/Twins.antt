@@ -1,5 +1,5 @@
 -- Second preimages: where bytes that are not a file's pass for them, here they are.
-use Rattle.std.specs.Prelude.{◌≡◌, ◌≢◌, ◌⊎◌, ℕ, zero, suc, ◌*◌, ◌/◌, ◌%◌, ◌<◌, List, length}
+use Rattle.std.specs.Prelude.{◌≡◌, ◌≢◌, ◌⊎◌, ℕ, zero, suc, ◌/◌, ◌<◌, List, length}
 use Rattle.hash_tree.specs.declared.algorithm.Algorithm.{Algorithm}
 use Rattle.hash_tree.specs.Tree.{Hash, fan, block, blocks_above, above}
 use Rattle.hash_tree.specs.File.{descriptor, in_blocks, blocks_of, root_of}

@@ -1,7 +1,7 @@
 -- What a digest says of a block that was read, and of bytes: no premise on the hash is in it.
-use Rattle.std.specs.Prelude.{◌≡◌, ◌≢◌, ◌⊎◌, ℕ, zero, suc, ◌+◌, ◌*◌, ◌/◌, ◌%◌, ◌<◌, List, length, slice_index}
+use Rattle.std.specs.Prelude.{◌≡◌, ℕ, zero, suc, ◌/◌, ◌%◌, ◌<◌, List, slice_index}
 use Rattle.hash_tree.specs.declared.algorithm.Algorithm.{Algorithm}
-use Rattle.hash_tree.specs.Tree.{Hash, IsBlock, HasLevels, fan, block, digest_at, blocks_above, above}
+use Rattle.hash_tree.specs.Tree.{Hash, IsBlock, HasLevels, fan, digest_at}
 use Rattle.hash_tree.specs.File.{blocks_of, descriptor}
 
 -- the root hash vouches for the block with this index, so many levels below: a block above it, for

@@ -1,4 +1,4 @@
-use Rattle.std.proofs.Common.{◌≡◌, ◌∙◌, ap, ℕ, List, [], ◌∷◌, ◌++◌, arith}
+use Rattle.std.proofs.Common.{◌∙◌, ap, [], ◌∷◌, ◌++◌, arith}
 use Rattle.std.specs.Int.{to_le_bytes, w64}
 use Rattle.hash_tree.proofs.Files.{descriptor_made}
 use Rattle.hash_tree.proofs.descriptor.descriptor_of.Goals as goal
