@@ -22,7 +22,7 @@ from strata_format.refused import Refused, shown
 from strata_format.version import command, version
 
 VERBS = ("image", "convert", "pull", "images", "verify", "remove", "prune", "config", "attributes",
-         "podman")
+         "seal", "podman")
 HELP_WIDTH = 100
 
 

@@ -1,5 +1,5 @@
 """The verbs of strata-layers: image, convert, pull, images, verify, remove, prune, config,
-attributes, podman."""
+attributes, seal, podman."""
 import argparse
 import os
 import shlex
@@ -19,6 +19,7 @@ from strata_layers.open_layout import open_layout
 from strata_layers.packing import PACKINGS
 from strata_layers.podman_store import ImageStore
 from strata_layers.pull import pull
+from strata_layers.seal import ALGORITHMS, seal_image
 from strata_layers.store import Store, default_place
 from strata_layers.store_images import full_name, image_in, remove_image
 from strata_layers.store_upkeep import image_lines, prune, verified
@@ -135,6 +136,12 @@ def run_attributes(asked):
     return 0
 
 
+def run_seal(asked):
+    for image in asked.images:
+        print_line("%s %s" % (seal_image(image, asked.algorithm), image))
+    return 0
+
+
 def run_podman(asked):
     store = Store(asked.store)
     name = full_name(store, asked.name)
@@ -167,13 +174,15 @@ HELP = {
               " with these options of bwrap; or arguments for podman run.",
     "attributes": "Adds the modes, owners and times of all files in FOLDER to the image that"
                   " genromfs made of it, or replaces those that were added before.",
+    "seal": "Writes the fs-verity tree of each image to IMAGE.verity, as"
+            " fsverity digest --out-merkle-tree does, and prints the image's fs-verity digest.",
     "podman": "Makes DIR, which must be new or empty, an additional image store for podman, with one"
               " image of the store; prints the command that mounts its files there.",
 }
 
 
 # verbs that need no store
-STORELESS = ("image", "attributes")
+STORELESS = ("image", "attributes", "seal")
 
 
 def parser():
@@ -211,6 +220,9 @@ def add_words(parts):
     parts["pull"].add_argument("name", metavar="NAME[:TAG]", nargs="?")
     parts["attributes"].add_argument("folder", metavar="FOLDER")
     parts["attributes"].add_argument("image", metavar="IMAGE")
+    parts["seal"].add_argument("--hash-alg", dest="algorithm", choices=ALGORITHMS, default="sha256",
+                               help="the algorithm of the digests (default: %(default)s)")
+    parts["seal"].add_argument("images", metavar="IMAGE", nargs="+")
     for verb in ("remove", "config", "podman"):
         parts[verb].add_argument("name", metavar="NAME[:TAG]")
     parts["podman"].add_argument("folder", metavar="DIR")
@@ -228,7 +240,7 @@ def add_words(parts):
 
 RUNS = {"image": run_image, "convert": run_convert, "pull": run_pull, "images": run_images,
         "verify": run_verify, "remove": run_remove, "prune": run_prune, "config": run_config,
-        "attributes": run_attributes, "podman": run_podman}
+        "attributes": run_attributes, "seal": run_seal, "podman": run_podman}
 
 
 def run(words):
