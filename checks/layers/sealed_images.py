@@ -83,5 +83,5 @@ def test_refused_seals(room):
         path = "%s/%s" % (room.path, name)
         expect_lines(*run_tool("seal", path), [path + ": no file"])
     path = room.path + "/missing"
-    expect_lines(*run_tool("seal", path), [path + ": No such file or directory"])
+    expect_lines(*run_tool("seal", path), [path + ": no such file or directory"])
     expect(sorted(os.listdir(room.path)) == ["folder", "pipe"], "left %r" % os.listdir(room.path))
