@@ -50,9 +50,13 @@ WORDS = {
                      "help": "an option of bwrap, such as --ro-bind /mnt /"})],
     "attributes": [FAIL_ON_LOST, ("folder", {"metavar": "FOLDER"}),
                    ("image", {"metavar": "IMAGE"})],
+    "seal": [("--hash-alg", {
+        "dest": "algorithm", "choices": ("sha256", "sha512"), "default": "sha256",
+        "help": "the algorithm of the digests (default: %(default)s)"}),
+        ("images", {"metavar": "IMAGE", "nargs": "+"})],
     "podman": [STORE, NAME, ("folder", {"metavar": "DIR"})],
 }
-REST, MAYBE = "...", "?"
+SEVERAL, MAYBE = ("...", "+"), "?"
 
 
 def field_of(name, how):
@@ -78,7 +82,7 @@ def read(verb, words):
     least = sum(how.get("nargs") != MAYBE for _, how in others)
     try:
         reader = Reader(flags, valued).read(words)
-        if any(how.get("nargs") == REST for _, how in others):
+        if any(how.get("nargs") in SEVERAL for _, how in others):
             return None
         if not least <= len(reader.names) <= len(others):
             return None

@@ -1,5 +1,5 @@
 """The verbs of strata-layers: image, convert, pull, images, verify, remove, prune, config,
-attributes, podman."""
+attributes, seal, podman."""
 import os
 
 from strata_format import ends
@@ -122,6 +122,13 @@ def run_attributes(asked):
     return 0
 
 
+def run_seal(asked):
+    from strata_layers.seal import seal_image
+    for image in asked.images:
+        print_line("%s %s" % (seal_image(image, asked.algorithm), image))
+    return 0
+
+
 def run_podman(asked):
     from strata_layers.podman_store import ImageStore
     from strata_layers.store_images import full_name, image_in
@@ -136,7 +143,7 @@ def run_podman(asked):
 
 RUNS = {"image": run_image, "convert": run_convert, "pull": run_pull, "images": run_images,
         "verify": run_verify, "remove": run_remove, "prune": run_prune, "config": run_config,
-        "attributes": run_attributes, "podman": run_podman}
+        "attributes": run_attributes, "seal": run_seal, "podman": run_podman}
 
 
 def run(verb, words):
