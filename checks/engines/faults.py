@@ -162,7 +162,8 @@ def check_many_at_once(snapshotter):
     """Fifty are prepared and removed at once on one layer: each has a folder of its own, and there
     is one mount."""
     snapshotter.layer("one", "", fill)
-    found = {}
+    snapshotter.settled("one")
+    found, files = {}, snapshotter.open_files()
 
     def one(key):
         mount, = snapshotter.call("Prepare", key=key, parent="one").mounts
@@ -173,6 +174,7 @@ def check_many_at_once(snapshotter):
     hold("mounts", 1, len([it for it in places() if it.startswith(snapshotter.root)]))
     run_all(lambda key: snapshotter.call("Remove", key=key), list(found))
     hold("mounts", 0, len([it for it in places() if it.startswith(snapshotter.root)]))
+    wait_until("open files are as before", lambda: snapshotter.open_files() == files)
 
 
 def run_all(function, keys):

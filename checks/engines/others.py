@@ -6,6 +6,7 @@ import subprocess
 import sys
 
 from checks import TOOLS
+from checks.engines import images
 from checks.engines.containers import image_of
 from checks.engines.machine import wait_until
 from checks.shared.mounting import Failed, LeftOut, hold, places
@@ -39,7 +40,7 @@ def ran(*words, **more):
 
 def mounted(machine):
     """The folder at which an image of a store is mounted, as `strata-layers podman` says."""
-    image_of(machine, "plain")
+    image_of(machine, images.PLAIN)
     store, layers = machine.at("others"), [sys.executable, "-B", TOOLS + "/layers.py"]
     if not os.path.exists(store):
         ran(*layers, "pull", "--store", store, "oci:%s:1" % machine.at("plain"), "app:1")

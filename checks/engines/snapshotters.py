@@ -153,6 +153,10 @@ class Snapshotter:
                 found.append(int(name))
         return found
 
+    def open_files(self):
+        """How many files the service has open."""
+        return len(os.listdir("/proc/%d/fd" % self.process.pid))
+
     def left(self):
         """What is left on disk and mounted, but for the state."""
         found = [os.path.join(name, it) for name in ("snapshots", "mounts", "new", "trash")

@@ -203,6 +203,9 @@ def add_words(parts):
                                   help=platform + "; all for every one")
     parts["convert"].add_argument("--compress", dest="packing", choices=PACKINGS, default="",
                                   help="compress layers; pull decompresses them once")
+    parts["convert"].add_argument("--tar", action="store_true",
+                                  help="write each layer as a tar archive of its image, which"
+                                       " containerd pulls and strata-snapshotter takes")
     parts["convert"].add_argument("layout", metavar="LAYOUT[:TAG]")
     parts["convert"].add_argument("new_layout", metavar="LAYOUT2[:TAG2]")
     parts["pull"].add_argument("--platform", metavar="PLATFORM", type=platform_asked, help=platform)

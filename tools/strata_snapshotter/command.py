@@ -57,8 +57,9 @@ def serve(words):
     path = words.socket if given is None else held.at("grpc.sock")
     os.makedirs(os.path.dirname(path) or ".", 0o700, exist_ok=True)
     sockets.clear(path)
-    ready = ReadyLayers(held, StoreLayers(words.store), Content(words.content))
-    snapshots = Snapshots(held, words.program or version.program(), ready)
+    program = os.path.abspath(words.program or version.program())
+    ready = ReadyLayers(held, StoreLayers(words.store), Content(words.content), program)
+    snapshots = Snapshots(held, program, ready)
     server = service.server_of(snapshots)
     try:
         server.add_insecure_port("unix:" + os.path.abspath(path))
