@@ -17,6 +17,7 @@ from strata_layers.layouts import platform_said
 from strata_layers.lost import Lost
 from strata_layers.open_layout import open_layout
 from strata_layers.packing import PACKINGS
+from strata_layers.podman_layers import LayerStore
 from strata_layers.podman_store import ImageStore
 from strata_layers.pull import pull
 from strata_layers.store import Store, default_place
@@ -138,10 +139,11 @@ def run_attributes(asked):
 def run_podman(asked):
     store = Store(asked.store)
     name = full_name(store, asked.name)
-    made = ImageStore(os.path.abspath(asked.folder), name, image_in(store, name))
-    made.write()
-    words = [command("mount"), "--background", "-o", "allow_other,suid,dev", "--store", store.place]
-    print_line(" ".join(map(shlex.quote, [*words, "image:" + name, made.mount_place()])))
+    kind = LayerStore if asked.layers else ImageStore
+    made = kind(os.path.abspath(asked.folder), name, image_in(store, name), store)
+    for images, place in made.write():
+        words = [command("mount"), "--background", "-o", "allow_other,suid,dev", *images, place]
+        print_line(" ".join(map(shlex.quote, words)))
     return 0
 
 
@@ -168,7 +170,8 @@ HELP = {
     "attributes": "Adds the modes, owners and times of all files in FOLDER to the image that"
                   " genromfs made of it, or replaces those that were added before.",
     "podman": "Makes DIR, which must be new or empty, an additional image store for podman, with one"
-              " image of the store; prints the command that mounts its files there.",
+              " image of the store; prints the command that mounts its files there. With --layers it"
+              " becomes an additional layer store, with a mount for each layer.",
 }
 
 
@@ -217,6 +220,9 @@ def add_words(parts):
     for verb in ("remove", "config", "podman"):
         parts[verb].add_argument("name", metavar="NAME[:TAG]")
     parts["podman"].add_argument("folder", metavar="DIR")
+    parts["podman"].add_argument("--layers", action="store_true",
+                                 help="make an additional layer store: podman pull then fetches no"
+                                      " layer of the image")
     form = parts["config"].add_mutually_exclusive_group()
     form.add_argument("--bwrap", dest="form", action="store_const", const="bwrap",
                       help="print a command of bwrap, with the OPTIONs after NAME")
