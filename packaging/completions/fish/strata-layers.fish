@@ -18,6 +18,8 @@ complete -c strata-layers -l help -d 'Print the usage'
 complete -c strata-layers -n "__fish_seen_subcommand_from $stored" -l store -r -d 'Where layers are kept'
 complete -c strata-layers -n "__fish_seen_subcommand_from convert pull" -l platform -x -a 'linux/amd64 linux/arm64' -d 'The image of an index'
 complete -c strata-layers -n "__fish_seen_subcommand_from convert" -l compress -x -a 'gzip zstd' -d 'Pack layers'
+complete -c strata-layers -n "__fish_seen_subcommand_from convert" -l tar -d 'Layers for containerd'
+complete -c strata-layers -n "__fish_seen_subcommand_from podman" -l layers -d 'A layer store'
 complete -c strata-layers -n "__fish_seen_subcommand_from config" -l bwrap -d 'A command of bwrap'
 complete -c strata-layers -n "__fish_seen_subcommand_from config" -l as-caller -d "With your own rights"
 complete -c strata-layers -n "__fish_seen_subcommand_from config" -l podman -d 'Words of podman run'
