@@ -90,6 +90,12 @@ def check_podman(machine):
         hold("a container", "below\n%s\n" % name, said)
 
 
+# prints what a container sees of the image's folders: types, modes, owners, times, sums
+SEEING = ("find /bin /etc/issue /etc/shadow /home /kind /opt /usr /var | while read -r it; do"
+          " stat -c '%n %F %a %u %g %Y' $it; case $(stat -c %F $it) in 'regular file')"
+          " sha256sum $it;; esac; done")
+
+
 def check_podman_layers(machine):
     """An additional layer store of podman: an image of a registry is pulled without a layer of it,
     and a container sees it as over podman's own layers."""
@@ -101,8 +107,7 @@ def check_podman_layers(machine):
     run_layers("pull", "--store", machine.at("layered"), layout, "app:1")
     pull = ["podman", "pull", "-q", "--tls-verify=false", reference]
     run = ["podman", "run", "--rm", "--pull=never", "--network", "none", reference, "sh", "-c",
-           "find /bin /etc /home /kind /opt /usr /var | sort | while read -r it; do"
-           " [ -f $it -a ! -L $it ] && sha256sum < $it; ls -ldn $it; done"]
+           SEEING]
     found = []
     for has_layers in (False, True):
         if has_layers:
