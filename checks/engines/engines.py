@@ -76,7 +76,7 @@ def main(words):
     folder = os.environ.pop(INSIDE)
     for place in ("/run", folder):
         # in memory, so that the disk decides nothing
-        subprocess.run(["mount", "-t", "tmpfs", "tmpfs", place], check=True)
+        subprocess.run(["mount", "-t", "tmpfs", "-o", "mode=755", "tmpfs", place], check=True)
     return inside(Machine(program, folder), words)
 
 

@@ -55,7 +55,8 @@ def lowest():
 
 
 # what images are made of beside the plain one: its second layer has an attribute that no image of
-# romfs holds; its third one has hard links to files of those below
+# romfs holds; its third one has hard links over those of the lowest (containerd itself refuses links
+# to files of lower layers alone)
 PLAIN, ODD, LINKED = "plain", "odd", "linked"
 
 
@@ -75,8 +76,8 @@ def layers(kind=PLAIN):
         entry("kind/file/now", b"n"), entry("kind/folder", b"a file"),
         entry("kind/link", b"no link")]
     if kind == LINKED:
-        third += [hard("home/u/large", "usr/large"), hard("home/u/sudo", "usr/sudo"),
-                  hard("home/u/again", "etc/issue")]
+        third += [entry("etc/third", b"anew\n"), hard("home/u/again", "etc/third"),
+                  entry("usr/sudo", b"two names\n", mode=0o4711), hard("etc/passwd", "usr/sudo")]
     return [made.archive(*it) for it in (lowest(), second, third)]
 
 

@@ -287,7 +287,7 @@ def check_shared_servers(snapshotter):
     store = pulled(snapshotter, archives())
     parent = ""
     for chain in chain_digests([made.digest(it) for it in archives()]):
-        snapshotter.fails("ALREADY_EXISTS", "Prepare", key="extract-1", parent=parent,
+        snapshotter.fails("ALREADY_EXISTS", "Prepare", key="extract-" + chain, parent=parent,
                           labels={REFERENCE: chain})
         parent = snapshotter.names('labels."%s"==%s' % (REFERENCE, chain))[0]
     place = snapshotter.folder + "/mine"

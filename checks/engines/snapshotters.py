@@ -49,7 +49,9 @@ class Snapshotter:
 
     def connect(self):
         import grpc
-        self.channel = grpc.insecure_channel("unix:" + self.socket)
+        # one that has failed to connect before, and waits for a second, is not taken up
+        self.channel = grpc.insecure_channel("unix:" + self.socket,
+                                             [("grpc.use_local_subchannel_pool", 1)])
 
     def listens(self):
         if self.process.poll() is not None:
