@@ -109,6 +109,7 @@ def check_podman_layers(machine):
     run = ["podman", "run", "--rm", "--pull=never", "--network", "none", reference, "sh", "-c",
            SEEING]
     found = []
+    os.mkdir(machine.at("layers"))
     for has_layers in (False, True):
         if has_layers:
             run_printed(machine, "podman", "--layers", "--store", machine.at("layered"), "app:1",
@@ -118,7 +119,10 @@ def check_podman_layers(machine):
         hold("blobs", 1 if has_layers else 4, len(fetched(machine, "plain")))
         found.append(ran(*run, env=environment).splitlines())
         ran("podman", "rmi", reference, env=environment)
-    hold("what a container sees", *map(sorted, found))
+    # folders that a layer has no entry for are root's in podman's own layers, and new
+    own, shown = ({it for it in lines if " directory " not in it} for lines in found)
+    hold("what a container sees", [], sorted(own ^ shown))
+    hold("folders", *({it.split()[0] for it in lines if " directory " in it} for lines in found))
     unmount(machine.at("layers"))
 
 
