@@ -38,6 +38,11 @@ ExecStopPost=/bin/sh -c 'echo $EXIT_STATUS > /root/status; systemctl --no-block 
 [Install]
 WantedBy=multi-user.target
 """
+# systemd-nspawn gives control groups to read alone, which no machine does
+BEFORE = """
+set -e
+for it in /sys/fs/cgroup/*/; do mount -o remount,rw,bind "$it" || true; done
+"""
 # behind the page's own commands; `exec` reads what the image has and what the container wrote
 MORE = """
 set -e
@@ -54,7 +59,7 @@ works restarted
 ctr run --rm --snapshotter strata %(image)s second true
 systemctl kill -s KILL --kill-whom=main strata-snapshotter
 works killed
-ctr run --rm --snapshotter strata %(image)s third true
+until ctr run --rm --snapshotter strata %(image)s third true; do sleep 1; done
 systemctl restart containerd
 works containerd
 ctr task kill -s KILL long; sleep 1
@@ -90,7 +95,7 @@ def blocks(page):
 
 def script():
     """What is run: the page's blocks in order."""
-    found, parts = blocks(PAGE), ["set -e", "cd /root"]
+    found, parts = blocks(PAGE), [BEFORE]
     for title in ("Install", "Configure", "Run"):
         for kind, text in found[title]:
             if kind == "toml":

@@ -72,7 +72,8 @@ class ChainMounts:
         with self.lock:
             own = self.locks[layer]
         with own:
-            os.makedirs(place, 0o700, exist_ok=True)
+            with contextlib.suppress(FileExistsError):
+                os.mkdir(place, 0o700)
             if not is_served(place):
                 clear(place)
                 mount_chain(self.program, images, place)

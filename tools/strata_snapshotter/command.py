@@ -66,11 +66,12 @@ def serve(words):
     except RuntimeError as fault:
         raise Refused("%s: %s" % (path, fault)) from None
     server.start()
-    if given is not None:
-        sockets.pass_all_on(given, path)
+    passing = None if given is None else sockets.Passing(given, path)
     sockets.tell("READY=1")
     done.wait()
     sockets.tell("STOPPING=1")
+    if passing is not None:
+        passing.stop()
     server.stop(GRACE).wait()
     snapshots.close()
     # threads that wait for an image would be waited for
