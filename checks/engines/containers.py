@@ -262,6 +262,9 @@ def remove_containers(machine):
     for name in machine.ctr("container", "ls", "-q").split():
         machine.tried("task", "rm", "-f", name)
         machine.ctr("container", "rm", name)
+    # a client of a containerd that was killed keeps what it was about to make for a day
+    for lease in machine.ctr("leases", "ls", "-q").split():
+        machine.ctr("leases", "rm", "--sync", lease)
 
 
 def check_random_kills(machine, count=8):
