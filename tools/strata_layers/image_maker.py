@@ -73,18 +73,14 @@ class Maker:
         self.image, self.lost, self.where = image, lost, where
         self.faults, self.left_out = Faults(), set()
 
-    def put_archive(self, source):
-        """All that is in an archive of tar, which is read to the end of the source."""
-        from strata_layers import tars  # a folder needs none of it
+    def put_archive(self, entries):
+        """All entries of an archive of tar."""
         try:
-            for entry in tars.Tar(source).entries():
+            for entry in entries:
                 self.put_named(entry)
         except Refused as refused:
             self.faults.note(refused)
         self.faults.settle()
-        # what stands behind the archive says nothing, but a packed one has its checksum at the end
-        while source.read(tars.PIECE):
-            pass
 
     def put_named(self, entry):
         """An entry of an archive, whose path its name says."""
@@ -136,7 +132,8 @@ def image_of_archive(source, out, lost):
     """Makes the image of an archive of tar; `source.read(n)` gives at most n bytes of it, and none
     at its end."""
     image = Image(lambda: out, VOLUME_NAME)
-    Maker(image, lost).put_archive(source)
+    Maker(image, lost).put_archive(tars.Tar(source).entries())
+    tars.read_rest(source)
     image.finish()
 
 

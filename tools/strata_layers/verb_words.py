@@ -32,6 +32,9 @@ WORDS = {
         "metavar": "PLATFORM", "type": platform_or_all, "help": PLATFORM + "; all for every one"}),
         ("--compress", {"dest": "packing", "choices": ("gzip", "zstd"), "default": "",
                         "help": "compress layers; pull decompresses them once"}),
+        ("--tar", {"action": SWITCH,
+                   "help": "write each layer as a tar archive of its image, which containerd pulls"
+                           " and strata-snapshotter takes"}),
         ("layout", {"metavar": "LAYOUT[:TAG]"}), ("new_layout", {"metavar": "LAYOUT2[:TAG2]"})],
     "pull": [STORE, LEAVE_OUT, FAIL_ON_LOST, ("--platform", {
         "metavar": "PLATFORM", "type": platform_asked, "help": PLATFORM}),
@@ -54,7 +57,9 @@ WORDS = {
         "dest": "algorithm", "choices": ("sha256", "sha512"), "default": "sha256",
         "help": "the algorithm of the digests (default: %(default)s)"}),
         ("images", {"metavar": "IMAGE", "nargs": "+"})],
-    "podman": [STORE, NAME, ("folder", {"metavar": "DIR"})],
+    "podman": [STORE, NAME, ("folder", {"metavar": "DIR"}), ("--layers", {
+        "action": SWITCH, "help": "make an additional layer store: podman pull then fetches no layer"
+                                  " of the image"})],
 }
 SEVERAL, MAYBE = ("...", "+"), "?"
 

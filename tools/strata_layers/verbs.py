@@ -130,14 +130,16 @@ def run_seal(asked):
 
 
 def run_podman(asked):
+    from strata_layers.podman_layers import LayerStore
     from strata_layers.podman_store import ImageStore
     from strata_layers.store_images import full_name, image_in
     store = store_of(asked)
     name = full_name(store, asked.name)
-    made = ImageStore(os.path.abspath(asked.folder), name, image_in(store, name))
-    made.write()
-    words = [command("mount"), "--background", "-o", "allow_other,suid,dev", "--store", store.place]
-    print_line(quoted([*words, "image:" + name, made.mount_place()]))
+    kind = LayerStore if asked.layers else ImageStore
+    made = kind(os.path.abspath(asked.folder), name, image_in(store, name), store)
+    for images, place in made.write():
+        words = [command("mount"), "--background", "-o", "allow_other,suid,dev", *images, place]
+        print_line(quoted(words))
     return 0
 
 

@@ -24,3 +24,5 @@ complete -c strata-layers -n "__fish_seen_subcommand_from config" -l bwrap -d 'P
 complete -c strata-layers -n "__fish_seen_subcommand_from config" -l as-caller -d 'Keep the rights of the caller'
 complete -c strata-layers -n "__fish_seen_subcommand_from config" -l podman -d 'Print arguments for podman'
 complete -c strata-layers -n "__fish_seen_subcommand_from seal" -l hash-alg -x -a 'sha256 sha512' -d 'Select the algorithm of the digests'
+complete -c strata-layers -n "__fish_seen_subcommand_from convert" -l tar -d 'Write layers for containerd'
+complete -c strata-layers -n "__fish_seen_subcommand_from podman" -l layers -d 'Make a layer store'
