@@ -14,7 +14,7 @@ import threading
 import time
 
 from checks import ROOT
-from checks.engines import cri, images, stargz
+from checks.engines import cri, images
 from checks.engines.layers import run_layers
 from checks.engines.machine import HOST, wait_until
 from checks.registry import made

@@ -13,7 +13,7 @@ import tarfile
 from checks import ROOT
 from checks.plain import plain
 from checks.registry import made
-from checks.registry.rooms import LAYERS, NAME, LeftOut, hold, shown_by
+from checks.registry.rooms import LAYERS, LeftOut, hold, shown_by
 
 
 def mounted_layers(room, name, store=None):
