@@ -77,7 +77,7 @@ class Converter:
         unpacked."""
         number = self.store.open_layer(layer.digits)
         if number is None:
-            raise Refused("%s: a layer has gone meanwhile" % self.store.name)
+            raise Refused("%s: a layer was removed meanwhile" % self.store.name)
         try:
             if self.is_archive:
                 return self.archive_blob(layer, number)
@@ -141,7 +141,7 @@ def new_name(layout, tag, word):
     new_tag = new_tag or own or "latest"
     check_tag(new_tag)
     if new_tag == own and os.path.isdir(folder) and os.path.samefile(folder, layout.folder):
-        raise Refused("%s: is what is to be converted" % shown(os.fsencode(word)))
+        raise Refused("%s: is the layout to convert" % shown(os.fsencode(word)))
     return folder, new_tag
 
 
@@ -157,6 +157,7 @@ def convert(store, layout, tag, word, options, lost):
         with Progress("layers", size) as progress:
             layout.heard = progress.add
             layers = [maker.layers(layout, image) for image in images]
+        lost.settle()
         with LayoutWriter(folder) as target:
             converter = Converter(maker, target, options)
             made = [converter.image(*both) for both in zip(images, layers)]

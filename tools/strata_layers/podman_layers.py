@@ -1,5 +1,5 @@
 """`podman --layers`: an additional layer store for podman and CRI-O, of the layers of one image.
-podman asks for a layer by its blob's digest, and fetches none that is there:
+podman looks for a layer by its blob's digest before it fetches it:
 
     DIR/DIGEST/diff             the folder on which the layer is mounted, alone
     DIR/DIGEST/layer.romfs      its image

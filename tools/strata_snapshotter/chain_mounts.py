@@ -1,8 +1,9 @@
 """The mounts of strata: one for each chain of layers, shared by all that stand on it.
 
 strata-mount makes them, by --share: chains of the same images have one server, and so has whoever
-else shares these images with the same options. It is a process of its own, which goes on when this
-one ends. A mount whose server has ended is taken away and made anew when it is asked for again.
+else shares these images with the same options. The server is a process of its own, which goes on
+when this one ends. A mount whose server has ended is unmounted and made anew when it is needed
+again.
 """
 import collections
 import contextlib
@@ -41,7 +42,7 @@ def is_served(place):
 
 
 def clear(place):
-    """Takes away the mounts that stand at a place. Their servers are not asked: one may hang."""
+    """Unmounts the mounts that stand at a place. Their servers are not asked: one may hang."""
     for _ in range(sum(it.place == place for it in mounts())):
         take_away(place)
 
@@ -57,7 +58,7 @@ class ChainMounts:
 
     @contextlib.contextmanager
     def holding(self, layers):
-        """Keeps the mounts of layers from being taken away as unused."""
+        """Keeps the mounts of layers from being removed as unused."""
         with self.lock:
             self.held.update(layers)
         try:
@@ -80,7 +81,7 @@ class ChainMounts:
         return place
 
     def release(self, used):
-        """Takes away the mounts of all layers but those that are used or held. A server whose mount
+        """Unmounts the mounts of all layers but those that are used or held. A server whose mount
         is still part of a container's root goes on until that is gone, too."""
         with self.lock:
             unused = self.places.numbers("mounts") - used - {*+self.held}
