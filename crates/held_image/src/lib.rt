@@ -7,8 +7,8 @@
 //! - [`read`] reads fields of what is held, with the clauses of `romfs_format::read` for slices.
 //!   Who reads by it is proved once for both.
 //!
-//! `specs/` says which list of bytes blocks stand for (`Blocks`), and which is held (`Held`). Which
-//! blocks are kept is settled above this crate. It stands on `romfs_format`.
+//! `specs/` says which list of bytes blocks represent (`Blocks`), and which is held (`Held`). Which
+//! blocks are kept is decided above this crate. It uses `romfs_format`.
 #![tactic(auto)]
 
 pub mod blocks;

@@ -1,4 +1,4 @@
--- What is read of files, some of whose bytes are known.
+-- What is read from files, some of whose bytes are known.
 use Rattle.std.specs.Prelude.{◌≡◌, ℕ, List, Option, IfSome}
 use Rattle.std.specs.declared.vec.Vec.{Vec}
 use Rattle.image_files.specs.declared.whole.Trailers.{Trailers}

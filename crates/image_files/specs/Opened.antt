@@ -1,4 +1,4 @@
--- What is seen of an image that is open, and of its parts.
+-- What a contract sees of an open image, and of its parts.
 use Rattle.std.specs.Prelude.{◌≡◌, ℕ, List, Option, All, map}
 use Rattle.kept_image.specs.Gathered.{IsGathered, IsGatheredWithTrailer}
 use Rattle.image_files.specs.declared.whole.Trailers.{Trailers}
@@ -6,14 +6,14 @@ use Rattle.image_files.specs.declared.whole.Trailers.TheVariants.{Read, Left}
 use Rattle.image_files.specs.declared.image_data.ImageData.{ImageData}
 use Rattle.image_files.specs.Data.{known_bytes}
 
--- what is kept of an image, with zeros where nothing is; the bytes that are known of its data; and
--- whether its trailer was read
+-- what is kept of an image, with zeros for the rest; its data if these are known; and whether its
+-- trailer was read
 pub record Opened : Type 0 where
   pub kept : List ℕ
   pub known : Option (List ℕ)
   pub trailers : Trailers
 
--- what is kept was gathered of the data, where their bytes are known: with their trailer, where
+-- what is kept was gathered from the data, if their bytes are known: with their trailer, if
 -- trailers are read
 abbrev pub WasGathered : Trailers → Option (List ℕ) → List ℕ → Type 0
 WasGathered Read known kept = IsGatheredWithTrailer known kept
@@ -33,7 +33,7 @@ pub record AreParts {F A : Type 0} (image : Opened) (kept : List ℕ) (source : 
   pub known_is : known_bytes source ≡ image.known
   pub gathered : WasGathered image.trailers (known_bytes source) kept
 
--- what is kept of the image was gathered of its data, where their bytes are known
+-- what is kept of the image was gathered from its data, if their bytes are known
 abbrev pub IsFaithful : Opened → Type 0
 IsFaithful image = WasGathered image.trailers image.known image.kept
 

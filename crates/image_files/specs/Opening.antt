@@ -1,4 +1,4 @@
--- How a file is read, by what stat(2) tells of it.
+-- How a file is read, from what stat(2) reports about it.
 use Rattle.std.specs.Prelude.{◌≡◌, ◌<◌, ℕ, List, Option, Some, None, IsSome, IfSome, ⊤, bit_and, map}
 use Rattle.std.specs.Fs.{IsFile, file_type, metadata_len, metadata_mode}
 use Rattle.std.specs.declared.fs.attrs.Metadata.{Metadata}
@@ -22,7 +22,7 @@ use Rattle.image_files.specs.declared.opening.HeldImage.TheVariants as held
 abbrev pub IsBlockDevice : Metadata → Type 0
 IsBlockDevice m = bit_and (metadata_mode m) FILE_TYPE ≡ BLOCK_DEVICE
 
--- a regular file of so many bytes, and of one at least; or a block device; or any other
+-- a regular file of this many bytes, and of one at least; or a block device; or any other
 abbrev pub IsKindOf : Metadata → FileKind → Type 0
 IsKindOf m (Regular size) = IsFile (file_type m) × (size ≡ metadata_len m) × (0 < size)
 IsKindOf m BlockDevice = IsBlockDevice m
@@ -50,8 +50,8 @@ IsKnownAs (Regular size) known seen = seen ≡ None
 IsKnownAs BlockDevice known seen = seen ≡ None
 IsKnownAs Stream known seen = IsSome seen × IfSome known (λ xs. seen ≡ Some xs)
 
--- what the rules look at is held of an image: it was gathered of these bytes, where they are known,
--- with the trailer where trailers are read
+-- what the rules check is held of an image: it was gathered from these bytes, if they are known,
+-- with the trailer if trailers are read
 abbrev pub IsKeptOf : {A : Type 0} → Option (List ℕ) → Trailers → HeldImage A → Type 0
 IsKeptOf known trailers (held.Kept kept its) = (its ≡ trailers) × WasGathered trailers known kept
 IsKeptOf known trailers (held.Whole bytes) = ⊥
@@ -61,8 +61,8 @@ abbrev pub IsHeldWhole : {A : Type 0} → Option (List ℕ) → HeldImage A → 
 IsHeldWhole known (held.Kept kept its) = ⊥
 IsHeldWhole known (held.Whole bytes) = AreBytesOf known bytes
 
--- what is held of the image of a file of this kind, of which these bytes are known: of a stream
--- all, and of any other what the rules look at, but of its reads nothing is known
+-- what is held of the image of a file of this kind, of which these bytes are known: all of a
+-- stream, and what the rules check of any other, but nothing is known about its reads
 abbrev pub IsHeldAs : {A : Type 0} → FileKind → Option (List ℕ) → Trailers → HeldImage A → Type 0
 IsHeldAs (Regular size) known trailers image = IsKeptOf None trailers image
 IsHeldAs BlockDevice known trailers image = IsKeptOf None trailers image
@@ -79,7 +79,7 @@ abbrev pub fault_of : GatherFault → ReadFault
 fault_of gather.Unread = Failed
 fault_of gather.Memory = Memory
 
--- the bytes that are held of an image, and zeros where nothing is
+-- the bytes that are held of an image, and zeros for the rest
 abbrev pub held_bytes : {A : Type 0} → HeldImage A → List ℕ
 held_bytes (held.Kept kept its) = kept
 held_bytes (held.Whole bytes) = bytes.items

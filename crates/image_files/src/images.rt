@@ -1,9 +1,8 @@
 //! The files of images, of a long list some at the same time.
 //!
 //! A list is cut in two, and a long half once more; each part is read from its lowest image up, and
-//! what two halves found is put together: a fault of the lower half, of memory or of an image that
-//! cannot be read, is told before one of the upper. So all images below the one that is told were
-//! read.
+//! the results of two halves are joined: a fault of the lower half (memory, or an image that cannot
+//! be read) comes before one of the upper. All images below the reported one were therefore read.
 
 ghost use Rattle.std.specs.Prelude.{◌≡◌, ◌⊎◌, ◌+◌, ◌<◌, ◌^◌, ℕ, ◌++◌, length, vec_len, All, IfOk, IfErr, OnOk};
 ghost use Rattle.image_files.specs.Files.{AreBytesOf, IsHeldOf, IsOfFile, IsOpenOf};
@@ -56,7 +55,7 @@ impl<T: Drop> From<AllocFailed<T>> for FilesFault {
 /// beginning to its end.
 ///
 /// Of a long list at most four parts are read at the same time; of several files that cannot be
-/// read the lowest is told, if there was memory for all below it.
+/// read the lowest is reported, if there was memory for all below it.
 pub fn read_images<R: Files + Threads + Sync, A: Allocator + Copy + Send + Sync>(
     rt: &R,
     alloc: A,
@@ -76,16 +75,16 @@ where
     Ok(images)
 }
 
-/// The images at these paths, in the order of the paths. Of a regular file and of a block device
-/// only what the rules look at is read, its first bytes, headers, names and the targets of symbolic
-/// links, with the trailer where trailers are read; the file stays open. All other files are read
-/// whole, as `read_images` reads them, and then gathered in the same way.
+/// The images at these paths, in the order of the paths. From regular files and block devices only
+/// what the rules check is read: the first bytes, headers, names and targets of symbolic links, and
+/// the trailer if trailers are read; the file stays open. All other files are read in full, as by
+/// `read_images`, and then gathered in the same way.
 ///
 /// Of a long list at most four parts are opened at the same time; of several files that cannot be
-/// read the lowest is told, if there was memory for all below it. `Unread` comes where a file
-/// cannot be opened, as one too many, where a read fails or gives fewer bytes than the file has
-/// said, and where a device tells no end. That an image's full size goes on behind the end of its
-/// file is no fault here. `Memory` comes, too, where a trailer that is read ends at 2^32 or behind.
+/// read the lowest is reported, if there was memory for all below it. `Unread` if a file cannot be
+/// opened (possibly one too many), if a read fails or gives fewer bytes than the file reported, or
+/// if a device reports no end. A full size beyond the end of the file is no fault here. `Memory`
+/// also if a trailer that is read does not end below 2^32.
 pub fn open_images<R: Files + Threads + Sync, A: Allocator + Copy + Send + Sync>(
     rt: &R,
     alloc: A,
@@ -108,8 +107,8 @@ where
     Ok(images)
 }
 
-/// What is held of the images at these paths, as [`open_images`] reads it, and no file: each is let
-/// go before the next one of its part is opened, so there may be any number of them.
+/// What is held of the images at these paths, as read by [`open_images`], without files: each is
+/// closed before the next one of its part is opened, so there may be any number of them.
 pub fn gather_images<R: Files + Threads + Sync, A: Allocator + Copy + Send + Sync>(
     rt: &R,
     alloc: A,
@@ -137,8 +136,8 @@ struct Run<T, A: Allocator> {
     end: Result<(), FilesFault>,
 }
 
-/// What is read of a run of images, of which the lowest has the number `first`: of its halves at
-/// the same time, each of which is cut so once less, or of one after another.
+/// The images of a run whose lowest has the number `first`, read in halves at the same time, each
+/// of which is cut once less, or one after another.
 #[cycle(halves)]
 fn read_from<
     R: Files + Threads + Sync,
@@ -180,8 +179,8 @@ where
     both(low, high)
 }
 
-/// What was read of both halves: all of the lower one and then of the upper one; or of the lower
-/// one alone, where that is not whole.
+/// What was read of both halves: all of the lower one, then the upper one; or the lower one alone
+/// if it is not complete.
 fn both<T: Drop, A: Allocator>(low: Run<T, A>, high: Run<T, A>) -> Run<T, A>
     ensures order { OnOk result.end (result.images.items
         ≡ low.images.items ++ high.images.items) }
@@ -211,8 +210,7 @@ fn both<T: Drop, A: Allocator>(low: Run<T, A>, high: Run<T, A>) -> Run<T, A>
     }
 }
 
-/// What was read of a run of images, of which the lowest has the number `first`, from the lowest
-/// up.
+/// What was read of a run of images whose lowest has the number `first`, from the lowest up.
 fn read_in_turn<R: Files, A: Allocator + Copy, T: OfFile<R::File, A> + Drop>(
     rt: &R,
     alloc: A,
@@ -229,8 +227,8 @@ fn read_in_turn<R: Files, A: Allocator + Copy, T: OfFile<R::File, A> + Drop>(
     Run { images, end }
 }
 
-/// Adds what is read of a run of images, of which the lowest has the number `first`, to an empty
-/// list, from the lowest up. The first that cannot be read is told, behind all that were added.
+/// Adds what is read of a run of images whose lowest has the number `first` to an empty list, from
+/// the lowest up. The first that cannot be read is reported, after all that were added.
 fn add_in_turn<R: Files, A: Allocator + Copy, T: OfFile<R::File, A> + Drop>(
     rt: &R,
     alloc: A,

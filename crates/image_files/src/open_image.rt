@@ -15,8 +15,8 @@ use std::os::unix::fs::FileExt;
 
 /// An image that is open: what the rules look at, and what its data are read from.
 ///
-/// A clause sees what is kept of it, the bytes that are known of its data, and whether its trailer
-/// was read. Where bytes are known, what is kept was gathered of these.
+/// A clause sees what is kept of it, its data if these are known, and whether its trailer was read.
+/// If the data are known, what is kept was gathered from them.
 #[derive(Drop)]
 pub struct OpenImage<F, A: Allocator> {
     kept: Kept<A>,
@@ -41,7 +41,7 @@ impl<F, A: Allocator> Model for OpenImage<F, A> {
 }
 
 impl<F, A: Allocator> OpenImage<F, A> {
-    /// What is kept of the image, with zeros where nothing is; and what its data are read from.
+    /// What is kept of the image, with zeros for the rest; and what its data are read from.
     pub fn into_parts(self) -> (Kept<A>, ImageData<F, A>)
         ensures { AreParts self result.0 result.1 }
     {
@@ -50,9 +50,9 @@ impl<F, A: Allocator> OpenImage<F, A> {
 }
 
 impl<F: FileExt + Drop, A: Allocator + Copy> OpenImage<F, A> {
-    /// The image of these data. What the rules look at is read, with the trailer where it is asked
-    /// for. `Unread` comes where a read fails, or where the data end before the size that was told;
-    /// `Memory` only where memory was refused, or where a trailer ends at 2^32 or behind.
+    /// The image of these data. Reads what the rules check, with the trailer if requested. `Unread`
+    /// if a read fails, or if the data end before the reported size; `Memory` only if memory was
+    /// refused, or if a trailer does not end below 2^32.
     pub(crate) fn over(
         alloc: A,
         source: ImageData<F, A>,
@@ -70,7 +70,7 @@ impl<F: FileExt + Drop, A: Allocator + Copy> OpenImage<F, A> {
     }
 }
 
-/// What the rules look at, with the trailer where it is asked for.
+/// What the rules check, with the trailer if requested.
 pub(crate) fn gather_as<S: Contents, A: Allocator + Copy>(
     alloc: A,
     source: &S,
@@ -86,7 +86,7 @@ pub(crate) fn gather_as<S: Contents, A: Allocator + Copy>(
 }
 
 /// Takes images apart: what is kept of each, and what the data of each are read from, in the order
-/// of the images. `AllocError` comes only where memory was refused.
+/// of the images. `AllocError` only if memory was refused.
 pub fn apart<F: Drop, A: Allocator + Copy>(
     alloc: A,
     images: Vec<OpenImage<F, A>, A>,

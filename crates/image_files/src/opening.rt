@@ -1,8 +1,8 @@
-//! Files that are opened, of which at first only what the rules look at is read.
+//! Opening files, from which at first only what the rules check is read.
 //!
-//! Headers stand in any order, so this takes a file that can be read at a place (pread(2)): a
-//! regular file, or a block device, whose size is told by a seek to its end. Any other gives its
-//! bytes once, from the first to the last, and is read whole.
+//! Headers come in any order, so this takes a file that can be read at a place (pread(2)): a
+//! regular file, or a block device, whose size is found by a seek to its end. Any other gives its
+//! bytes once, from the first to the last, and is read in full.
 
 ghost use Rattle.std.specs.Prelude.{◌≡◌, ◌↔◌, IfOk, IsTrue, MatchResult};
 ghost use Rattle.image_files.specs.Opening.{AreOfFile, IsBlockDevice, IsHeldAs, IsKeptOf, IsKindOf, IsOpenedAs, fault_of};
@@ -50,7 +50,7 @@ impl<F: Read + Seek + OpenFile + FileExt + Drop, A: Allocator + Copy> OfFile<F, 
 /// What is held of an image whose file was let go.
 #[derive(Drop)]
 pub enum HeldImage<A: Allocator> {
-    /// What the rules look at, with the trailer where trailers were read.
+    /// What the rules check, with the trailer if trailers were read.
     Kept { image: Kept<A>, trailers: Trailers },
     /// All bytes of a file that cannot be read at a place.
     Whole(Vec<u8, A>),
@@ -72,16 +72,16 @@ impl<F: Read + Seek + OpenFile + FileExt + Drop, A: Allocator + Copy> OfFile<F, 
 /// What a file is, as far as it matters for how it is read.
 #[derive(Clone, Copy)]
 pub enum FileKind {
-    /// A regular file of so many bytes, one at least.
+    /// A regular file of this many bytes, one at least.
     Regular { size: u64 },
-    /// A block device. Its size is not told with its kind.
+    /// A block device. Its size does not come with its kind.
     BlockDevice,
     /// Any other: a pipe, a terminal, or a regular file that says it is empty. Those of /proc say
     /// so whatever they have.
     Stream,
 }
 
-/// What a file has told that it is; a stream where it told nothing.
+/// The kind that a file reports; a stream if it reports none.
 fn told_kind(told: io::Result<Metadata>) -> FileKind
     ensures { MatchResult told (λ metadata. IsKindOf metadata result)
         (λ _. result ≡ FileKind.Stream) }
@@ -112,8 +112,8 @@ fn is_block_device(metadata: &Metadata) -> bool
     metadata.mode() & FILE_TYPE == BLOCK_DEVICE
 }
 
-/// The image of a file of a kind, which is at its beginning. `Failed` comes where a read fails,
-/// where a device tells no end, or where the file ends before the size that it told.
+/// The image of a file of a kind, which is at its beginning. `Failed` if a read fails, if a device
+/// reports no end, or if the file ends before its reported size.
 pub fn open_as<F: Read + Seek + OpenFile + FileExt + Drop, A: Allocator + Copy>(
     alloc: A,
     file: F,
@@ -172,7 +172,7 @@ fn data_of<F: Read + Seek + OpenFile + FileExt + Drop, A: Allocator>(
     }
 }
 
-/// How many bytes stand before the end of a file.
+/// How many bytes there are before the end of a file.
 fn end_of<F: Seek>(file: &mut F) -> Result<u64, ReadFault> {
     file.seek(SeekFrom::End(0)).map_err(|_| ReadFault::Failed)
 }

@@ -1,4 +1,4 @@
-//! Files that are read whole.
+//! Files that are read in full.
 
 ghost use Rattle.std.specs.Prelude.{◌≡◌, IfSome, OnOk, IfOk};
 ghost use Rattle.std.specs.Io.KnownBytes.{IsAtEnd};
@@ -30,7 +30,7 @@ impl From<AllocError> for ReadFault {
     }
 }
 
-/// Whether attribute trailers are read, which stand behind the images.
+/// Whether the attribute trailers after images are read.
 #[derive(Clone, Copy)]
 pub enum Trailers {
     Read,
@@ -41,7 +41,7 @@ pub enum Trailers {
 pub(crate) trait OfFile<F, A: Allocator>: Sized {
     ghost use Rattle.image_files.specs.declared.whole.Trailers.{Trailers};
 
-    // Holds of what is read of a file, where trailers are read or left.
+    // Holds of what is read from a file, if trailers are read or left.
     ghost is_read: { Trailers → F → Self → Type 0 };
 
     /// What is read of this file, which is at its beginning.
@@ -60,7 +60,7 @@ impl<F: Read + OpenFile + Drop, A: Allocator> OfFile<F, A> for Vec<u8, A> {
     }
 }
 
-/// All that a file has. Where it tells its length, memory is taken once.
+/// All bytes of a file. If it reports its length, memory is taken once.
 pub fn read_file<F: Read + OpenFile + Drop, A: Allocator>(
     alloc: A,
     file: F,
@@ -71,8 +71,8 @@ pub fn read_file<F: Read + OpenFile + Drop, A: Allocator>(
     read_all(alloc, &mut Tap::new(file), length)
 }
 
-// All that a new source has. `Failed` comes where the last pull failed, or where 2^40 pulls met no
-// end. Memory is taken once, where the source has no more than `length` bytes.
+// All bytes of a new source. `Failed` if the last pull failed, or if 2^40 pulls met no end. Memory
+// is taken once if the source has no more than `length` bytes.
 fn read_all<S: Source, A: Allocator>(
     alloc: A,
     source: &mut S,
@@ -96,7 +96,7 @@ fn read_all<S: Source, A: Allocator>(
     Err(ReadFault::Failed)
 }
 
-// How long a file says it is; 0 where it does not.
+// The length that a file reports; 0 if it does not.
 fn told_length<F: OpenFile>(file: &F) -> usize {
     match file.metadata() {
         Ok(metadata) => metadata.len() as usize,

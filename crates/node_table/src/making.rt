@@ -21,7 +21,7 @@ use whiteout_tree::Tree;
 
 /// What is made of the tree of a stack.
 pub trait OfTree: Sized {
-    /// Where memory comes from.
+    /// The allocator.
     type Memory;
 
     /// The tree.
@@ -30,7 +30,7 @@ pub trait OfTree: Sized {
     /// The images of the layers, the lowest first.
     type Images;
 
-    /// What is known of their nodes beside them.
+    /// What else is known about their nodes.
     type Attributes;
 
     ghost use Rattle.std.specs.Thread.{IsSync};
@@ -48,7 +48,7 @@ pub trait OfTree: Sized {
         requires threads { IsSync R.row }
         requires fits { fits tree images };
 
-    // The same, with what is known of its nodes beside the images.
+    // The same, with what else is known about its nodes.
     fn with_attributes<R: Threads + Sync>(
         rt: &R,
         alloc: Self::Memory,
@@ -80,8 +80,8 @@ impl<A: Allocator + Copy> OfTree for Table<A> {
     /// The table of a stack of images, from its tree. The images are the layers, the lowest first,
     /// and all belongs to the superuser.
     ///
-    /// It takes n log n steps in the paths that the stack shows. Attributes are worked out in
-    /// several threads where there are many. An error comes only where memory was refused.
+    /// It takes n log n steps in the visible paths. Attributes are computed in several threads if
+    /// there are many. Fails only if memory was refused.
     fn of<R: Threads + Sync>(
         rt: &R,
         alloc: A,
@@ -97,9 +97,9 @@ impl<A: Allocator + Copy> OfTree for Table<A> {
         Table::with_attributes(rt, alloc, tree, images, Attributes::none(alloc))
     }
 
-    /// The same, where each layer's rows say of their nodes whose they are, when they were changed
-    /// and the bits of their modes, and all that has no row belongs to an owner. A row is sought in
-    /// as many steps as the number of its layer's rows has binary digits.
+    /// The same with rows for each layer, which give owners, times and mode bits of their nodes,
+    /// and an owner of all nodes without a row. A row is found in as many steps as the number of
+    /// its layer's rows has binary digits.
     fn with_attributes<R: Threads + Sync>(
         rt: &R,
         alloc: A,
@@ -118,8 +118,8 @@ impl<A: Allocator + Copy> OfTree for Table<A> {
     }
 }
 
-/// The table of a stack, as [`OfTree::with_attributes`] makes it, of images that are held whole or
-/// of what is kept of them.
+/// The table of a stack, as by [`OfTree::with_attributes`], from images held in full or from what
+/// is kept of them.
 pub fn table_of_layers<R: Threads + Sync, A: Allocator + Copy>(
     rt: &R,
     alloc: A,
@@ -134,7 +134,7 @@ pub fn table_of_layers<R: Threads + Sync, A: Allocator + Copy>(
     ensures whole { IfOk result (λ table. table.whole ≡ layers.whole) }
 {
     let (blocks, parts) = read_all(alloc, &tree, &layers)?;
-    // what else a table holds goes where the tree was
+    // what else a table holds takes the memory of the tree
     drop(tree);
     let TableParts {
         mut nodes,

@@ -16,7 +16,7 @@ use std::alloc::{AllocError, Allocator};
 
 /// What bytes are checked to be.
 pub trait Check: Sized {
-    /// Where memory comes from.
+    /// The allocator.
     type Memory;
 
     /// The bytes.
@@ -55,7 +55,7 @@ impl<A: Allocator + Copy> Check for Image<A> {
     ///
     /// `Broken` names the image's fault: the first broken rule of the volume header; else, of all
     /// broken rules of file headers, that at the least place, and there the first; else a path that
-    /// is too deep. `Memory` comes only where memory was refused.
+    /// is too deep. `Memory` only if memory was refused.
     ///
     /// It takes n log n steps in headers, whatever the image: chains may merge, loop and lead
     /// anywhere. Beside the image it takes at most a byte for each 40 of its bytes and 96 for each
@@ -68,9 +68,9 @@ impl<A: Allocator + Copy> Check for Image<A> {
     }
 
     /// Checks that bytes are an image as `check` does, by the rules of a profile: a strict one also
-    /// asks that the words of each header, its name and the padding sum to 0 (romfs.rst,
-    /// "checksum"), which costs one more pass over headers and names; one with attributes also asks
-    /// that the attribute trailer behind the full size, if there is one, is not broken.
+    /// requires that the words of each header, its name and the padding sum to 0 (romfs.rst,
+    /// "checksum"), which costs one more pass over headers and names; one with attributes also
+    /// requires that the attribute trailer after the full size, if there is one, is not broken.
     #[tactic(auto, using(romfs_format::proofs::Faults::profile_sound))]
     fn check_as(alloc: A, bytes: Vec<u8, A>, profile: Profile) -> Result<Image<A>, CheckFault>
         ensures ok { IfOk result (IsChecked profile bytes.items) }
@@ -80,9 +80,9 @@ impl<A: Allocator + Copy> Check for Image<A> {
         Ok(Image::of_sound(bytes))
     }
 
-    /// Checks that bytes are an image as `check_as` does, and gives the rows of its attribute
-    /// trailer beside it: none where it has no trailer, or the profile is one without attributes.
-    /// They take 28 bytes each.
+    /// Checks that bytes are an image as `check_as` does, and also gives the rows of its attribute
+    /// trailer: none if it has no trailer, or the profile has no attributes. They take 28 bytes
+    /// each.
     #[tactic(auto, using(romfs_format::proofs::Faults::profile_sound))]
     fn check_with_rows(
         alloc: A,

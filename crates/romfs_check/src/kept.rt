@@ -13,14 +13,12 @@ use romfs_reader::KeptImage;
 use std::alloc::Allocator;
 
 /// Checks what is kept of an image, by the rules of a profile, and keeps what is kept of its
-/// accessible bytes, with the rows that the profile shows beside it. Nothing else of the image is
-/// looked at: of a trailer that was not kept nothing is said. The blocks of one that was are let
-/// go.
+/// accessible bytes, with the rows that the profile shows. Nothing else of the image is checked: a
+/// trailer that was not kept is ignored. The blocks of one that was are dropped.
 ///
-/// `Broken` names the fault as [`Check::check_as`](crate::Check::check_as) does; of an image whose
-/// bytes are known it is the fault of these bytes ([`laws`](crate::laws)). `Memory` comes only
-/// where memory was refused. It takes the steps and the memory of that check, and 28 bytes for each
-/// row.
+/// `Broken` names the fault as [`Check::check_as`](crate::Check::check_as) does; for an image whose
+/// bytes are known it is the fault of these bytes ([`laws`](crate::laws)). `Memory` only if memory
+/// was refused. It takes the steps and the memory of that check, and 28 bytes for each row.
 #[tactic(auto, using(romfs_format::proofs::Faults::profile_sound))]
 pub fn check_kept<A: Allocator + Copy>(
     alloc: A,

@@ -1,14 +1,14 @@
 //! Whether bytes are a romfs image.
 //!
 //! [`Image::check`](Check::check) keeps the accessible bytes of an image that breaks no rule, and
-//! else names the rule that is broken first, and where. It answers for every list of bytes.
+//! otherwise names the first broken rule, and where. It answers for every list of bytes.
 //! [`Image::check_as`](Check::check_as) takes every profile, and
 //! [`Image::check_with_rows`](Check::check_with_rows) gives the rows of the attribute trailer too.
-//! [`check_kept`] judges what is kept of an image that stays in its file, and [`laws`] says that it
-//! judges the image so. What a check promises is said by the definitions of `romfs_format`, and in
-//! `specs/`: what bytes are that it takes (`Checks`), and why it refuses others (`Refusals`, in
-//! words `Texts`). The crate stands on `romfs_rules`, `romfs_reader` and `attribute_rows`, apart
-//! from them, so that what stands on images is proved beside the rules, and not after them.
+//! [`check_kept`] judges what is kept of an image that stays in its file, and [`laws`] says that
+//! this judges the image. The promises of a check use the definitions of `romfs_format`, and those
+//! in `specs/`: which bytes it accepts (`Checks`), and why it refuses others (`Refusals`, as text
+//! `Texts`). The crate uses `romfs_rules`, `romfs_reader` and `attribute_rows`, apart from them, so
+//! crates that use images are proved beside the rules, not after them.
 #![tactic(auto)]
 
 mod check;

@@ -1,4 +1,4 @@
--- What the accessible bytes of a sound image are known to be.
+-- What is known of the accessible bytes of a sound image.
 use Rattle.std.specs.Prelude.{◌≡◌, ℕ, ◌<◌, ◌^◌, List, length}
 use Rattle.romfs_format.specs.declared.rule.Profile.TheVariants.{Usual}
 use Rattle.romfs_format.specs.Fields.{word}

@@ -85,7 +85,7 @@ impl<A: Allocator> Image<A> {
         self.view().full()
     }
 
-    /// The header of the root, which stands after the volume name.
+    /// The header of the root, after the volume name.
     pub fn root(&self) -> Head
         ensures value { result ≡ head_of self.now (root_of self.now) }
         ensures directory { result.kind ≡ Kind.Directory }
@@ -95,8 +95,8 @@ impl<A: Allocator> Image<A> {
         self.view().root()
     }
 
-    /// The header at an offset in bytes; none where the offset is no multiple of 16, or the header
-    /// does not lie in the image, or its name has no end.
+    /// The header at an offset in bytes; none if the offset is no multiple of 16, the header is not
+    /// inside the image, or its name has no end.
     ///
     /// At the offset of a header that this image gave it is that header, and none only for a root
     /// whose name has no end.
@@ -117,7 +117,7 @@ impl<A: Allocator> Image<A> {
         self.view().given(offset)
     }
 
-    /// The same, where the length of its name in bytes is known, so that its end is not sought.
+    /// The same with the known length of its name in bytes, so its end is not searched.
     pub fn given_named(&self, offset: u32, name_len: u32) -> Head
         requires head { IsGiven self.now (head_of self.now offset) }
         requires name { name_len ≡ length (name_of self.now offset) }
@@ -151,7 +151,7 @@ impl<A: Allocator> Image<A> {
     }
 
     /// The header that a hard link leads to, after any further hard links (romfs.rst, "spec.info").
-    /// Any other header is given back.
+    /// Any other header is returned.
     ///
     /// A chain of hard links is no longer than the number of headers that the image has room for.
     pub fn target(&self, head: &Head) -> Head
@@ -180,9 +180,8 @@ impl<A: Allocator> Image<A> {
         self.view().name(head)
     }
 
-    /// So many bytes from where the name of the header at an offset begins, without those that
-    /// would lie beyond the image. They are its name where that has this length, so that no end is
-    /// sought.
+    /// This many bytes from the start of the name of the header at an offset, without those beyond
+    /// the image. They are its name if that has this length; no end is searched.
     #[tactic(auto, using(crate::proofs::Readings::name_bytes))]
     pub fn name_bytes(&self, offset: u32, name_len: u32) -> &[u8]
         ensures value { result.now ≡ bytes_at self.now (offset + HEAD_SIZE) name_len }
@@ -203,8 +202,8 @@ impl<A: Allocator> Image<A> {
         data_in(&self.bytes, head)
     }
 
-    /// Where the data of a header lie that `body` gives: a part of no bytes for headers of kinds
-    /// that have none. Who keeps it comes back to the data by `part` and reads no header again.
+    /// The place of the data that `body` gives for a header: a part of no bytes for kinds that have
+    /// none. A caller that keeps it finds the data by `part` and reads no header again.
     pub fn data_part(&self, head: &Head) -> Part
         requires { IsGiven self.now head.now }
         ensures { IsDataPart self.now head.now.offset result }

@@ -14,7 +14,7 @@ use std::alloc::Allocator;
 use std::marker::Model;
 
 /// What is kept of an image that keeps every rule. A clause sees the accessible bytes of an image,
-/// with zeros where nothing is kept; that is where files have their data.
+/// with zeros where nothing is kept, as for the data of files.
 ///
 /// It is read through the [`ImageView`] that it lends.
 #[derive(Drop)]

@@ -2,13 +2,13 @@
 //!
 //! [`Image`] has all bytes of an image, and [`KeptImage`] what is kept of one that stays in its
 //! file. Either lends an [`ImageView`], which gives headers, and for these the members of a
-//! directory, where hard links end, names, and where data lie. [`Image`] has the same readers, and
-//! alone gives data, which are borrowed. [`Ends`] finds where many hard links end, and passes none
-//! of them twice; but for it and [`views_of`], a list of images that are lent, no reader takes
-//! memory. What the calls promise is said by the definitions of `romfs_format`, and in `specs/`:
-//! what the readers give (`Readers`, step by step `Walks`, and `Ends`), and what is known of a
-//! sound image (`Images`). [`laws`] says that each path of such an image has one header and at most
-//! 512 names, and that there are finitely many.
+//! directory, the ends of hard links, names, and places of data. [`Image`] has the same readers,
+//! and alone gives data, which are borrowed. [`Ends`] finds the ends of many hard links, and passes
+//! none of them twice; but for it and [`views_of`], a list of lent images, no reader takes memory.
+//! The promises use the definitions of `romfs_format`, and those in `specs/`: what the readers give
+//! (`Readers`, step by step `Walks`, and `Ends`), and what is known of a sound image (`Images`).
+//! [`laws`] says that each path of such an image has one header and at most 512 names, and that
+//! there are finitely many.
 #![tactic(auto)]
 
 pub mod ends;

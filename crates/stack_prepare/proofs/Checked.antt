@@ -1,6 +1,5 @@
--- Images that are checked, one after another or in two halves. `one_more` and `all_checked` are the
--- loop; `joined` is the main lemma: what two halves come to is what the run does, of which the
--- lowest broken image is told. The last lemmas say it of all images.
+-- Images that are checked, one after another or in two halves. `one_more` and `all_checked` are the loop; `joined` is the main lemma: two
+-- halves give what the run gives, with the lowest broken image reported. The last lemmas say it of all images.
 use Rattle.std.proofs.Common.{◌≡◌, ◌∙◌, sym, ap, ℕ, ◌+◌, ◌≤◌, inl, inr, take, drop, List, [], ◌∷◌, ◌++◌, append_assoc, append-nil, subst, refl, arith, length, map, All, Result, Ok, Err}
 use Rattle.std.specs.declared.vec.Vec.{Vec}
 use Rattle.std.proofs.lemmas.List.{length-map, length-append, map-append, take-append-drop, length-take-le}
@@ -135,7 +134,7 @@ broken_high first {profile} {lows} low highs (Layer layer fault) (n, at, broken)
 broken_high first low highs Memory b = tt
 broken_high first low highs (Layers count) b = absurd b
 
--- what two halves of a run come to, the upper one numbered on from where the lower one ends
+-- the result of two halves of a run, the upper one numbered on from the end of the lower one
 pub record AreHalves {I A : Type 0} (v : I → List ℕ) (first : ℕ) (profile : Profile) (lows highs : List (List ℕ))
     (low high : Result (Vec (I × List AttributeRow) A) Refusal) : Type 0 where
   pub lower : Checks v first profile lows low
@@ -151,7 +150,7 @@ module _ {I A : Type 0} (v : I → List ℕ) (first : ℕ) (profile : Profile) (
       subst (IsBroken first profile (lows ++ highs)) (sym is) (broken_high first h.lower.0 highs s h.upper.1)
   refused_first (Ok xs) (Ok ys) refusal h is = absurd is
 
-  -- what two halves come to is what the run does
+  -- two halves give what the run gives
   pub joined : (low high result : Result (Vec (I × List AttributeRow) A) Refusal) → AreHalves v first profile lows highs low high
       → Joins low high result → Checks v first profile (lows ++ highs) result
   joined (Ok xs) (Ok ys) (Ok all) h is =
@@ -162,7 +161,7 @@ module _ {I A : Type 0} (v : I → List ℕ) (first : ℕ) (profile : Profile) (
   joined low high (Err refusal) h (inl memory) = (tt, subst (IsBroken first profile (lows ++ highs)) (sym memory) tt)
   joined low high (Err refusal) h (inr is) = (tt, refused_first low high refusal h is)
 
--- a few images that are checked are all seen
+-- a few checked images are all reached
 pub as_seen : {X : Type 0} (v : X → List ℕ) (profile : Profile) (all : List X) (kept : List Seen) → IsFew (length all)
     → AreChecked profile (map v all) kept → AreSeen profile (map v all) kept
 as_seen v profile all kept few checked = record { few = subst IsFew (sym (length-map all v)) few; checked = checked }

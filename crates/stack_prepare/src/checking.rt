@@ -1,7 +1,7 @@
 //! Images, some checked at the same time.
 //!
-//! A list is cut in two, and so on; each half is checked in a call of its own, and what both find
-//! is put together: where both have a broken image the lower half's is told.
+//! A list is cut in two, and so on; each half is checked in a call of its own, and the results are
+//! joined: if both have a broken image the lower half's is reported.
 
 ghost use Rattle.std.specs.Prelude.{◌+◌, ◌≤◌, length, map, IfOk, IfErr};
 ghost use Rattle.stack_prepare.specs.Layers.{AreRefused, IsFew};
@@ -18,8 +18,8 @@ use std::alloc::{AllocError, Allocator};
 use std::thread::{Threads, join};
 use work_gate::{Gate, Work, forks_of};
 
-/// What is kept of an image: its accessible bytes, whole or some, and its rows of attributes where
-/// the profile reads them.
+/// What is kept of an image: its accessible bytes, all or some, and its rows of attributes if the
+/// profile reads them.
 pub(crate) type Seen<I, A> = (I, Rows<A>);
 
 /// The images, checked by the rules of a profile, in their order.
@@ -52,8 +52,8 @@ where
     check_from(rt, alloc, 0, images, profile, gate, forks)
 }
 
-/// A run of images, of which the lowest has the number `first`, checked: its halves at the same
-/// time, each of which is cut so once less, or one after another.
+/// A run of images whose lowest has the number `first`, checked: its halves at the same time, each
+/// of which is cut once less, or one after another.
 #[cycle(halves)]
 fn check_from<
     R: Threads + Sync,
@@ -99,7 +99,7 @@ where
     together(low, high)
 }
 
-/// What two halves of a run come to: want of memory in either, else the lower one's broken image,
+/// What two halves of a run come to: lack of memory in either, else the lower one's broken image,
 /// else the upper one's.
 fn together<T: Drop, A: Allocator>(
     low: Result<Vec<T, A>, Refusal>,
@@ -118,7 +118,7 @@ fn together<T: Drop, A: Allocator>(
     }
 }
 
-/// A run of images, of which the lowest has the number `first`, checked from the lowest up.
+/// A run of images whose lowest has the number `first`, checked from the lowest up.
 fn check_in_turn<A: Allocator + Copy, U: Unchecked<A> + Drop, G: Gate>(
     alloc: A,
     first: u16,

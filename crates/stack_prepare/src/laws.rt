@@ -1,5 +1,5 @@
-//! Why images are refused, and what they show where no attributes are asked for: what follows from
-//! what [`crate::prepare_as`] promises.
+//! Why images are refused, and what they show without attributes: consequences of what
+//! [`crate::prepare_as`] promises.
 
 ghost use Rattle.std.specs.Prelude.{◌≡◌, ◌⊎◌, List, ℕ, false};
 ghost use Rattle.node_attr.specs.declared.owner.TheConstants.Owner.{ROOT};
@@ -13,7 +13,7 @@ ghost use Rattle.stack_prepare.specs.declared.refusal.Refusal.TheVariants.{Memor
 ghost use Rattle.stack_prepare.specs.Layers.{AreLayers, AreRefused};
 ghost use Rattle.stack_prepare.specs.Preparing.{AreStacked};
 
-/// Beside want of memory, images are refused for one reason, and good ones for none.
+/// Beside lack of memory, images are refused for one reason, and good ones for none.
 #[tactic(auto, using(crate::proofs::Refusals::one_reason))]
 pub fn refusals_are_one()
     ensures once { (profile : Profile) (images : List (List ℕ)) (r s : Refusal) →
@@ -23,8 +23,8 @@ pub fn refusals_are_one()
         AreLayers profile images layers → AreRefused profile images r → r ≡ Memory }
 {}
 
-/// Where a profile reads no attributes, and all belongs to the superuser, the attributes of each
-/// place are those of the layers without any rows, whatever stands behind the images.
+/// If a profile reads no attributes, and everything belongs to the superuser, the attributes of
+/// each place are those of the layers without any rows, whatever follows the images.
 #[tactic(auto, using(crate::proofs::Apart::unasked))]
 pub fn attributes_are_asked_for()
     ensures { (profile : Profile) (images : List (List ℕ)) (stack : Stacked) (p : Place) →

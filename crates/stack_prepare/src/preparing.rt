@@ -24,9 +24,9 @@ use work_gate::Gate;
 /// Checks images by the usual profile's rules and stacks them, the lowest layer first, into one
 /// table.
 ///
-/// `Layers` comes exactly where there are none or more than 128, before anything else is done; else
-/// `Layer` names the lowest image that breaks a rule, and its fault. The gate is passed before each
-/// check and each tree.
+/// `Layers` exactly if there are none or more than 128, before anything else is done; else `Layer`
+/// names the lowest image that breaks a rule, and its fault. The gate is passed before each check
+/// and each tree.
 pub fn prepare<R: Threads + Sync, A: SharedAllocator, G: Gate + Sync>(
     rt: &R,
     alloc: A,
@@ -55,7 +55,7 @@ pub fn prepare_as<R: Threads + Sync, A: SharedAllocator, G: Gate + Sync>(
     prepare_owned(rt, alloc, images, profile, Owner::ROOT, gate)
 }
 
-/// The same, where all that has no row of attributes belongs to an owner.
+/// The same with an owner of everything that has no row of attributes.
 pub fn prepare_owned<R: Threads + Sync, A: SharedAllocator, G: Gate + Sync>(
     rt: &R,
     alloc: A,
@@ -73,8 +73,8 @@ pub fn prepare_owned<R: Threads + Sync, A: SharedAllocator, G: Gate + Sync>(
     Ok(table_of(rt, alloc, Layers::whole(alloc, images), attributes, gate)?)
 }
 
-/// The same of what is kept of images that stay in their files. The table holds what is kept of
-/// their accessible bytes, and no more of them: where files have their data it has zeros.
+/// The same for what is kept of images that stay in their files. The table holds only what is kept
+/// of their accessible bytes, with zeros for the data of files.
 ///
 /// Nothing else of an image is looked at: of a trailer that was not kept nothing is said.
 pub fn prepare_kept<R: Threads + Sync, A: SharedAllocator, G: Gate + Sync>(
@@ -120,7 +120,7 @@ where
     Ok(apart(alloc, seen)?)
 }
 
-/// The table of 1 to 128 layers. `AllocError` comes only where memory was refused.
+/// The table of 1 to 128 layers. `AllocError` only if memory was refused.
 fn table_of<R: Threads + Sync, A: SharedAllocator, G: Gate + Sync>(
     rt: &R,
     alloc: A,

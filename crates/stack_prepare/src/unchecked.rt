@@ -1,4 +1,4 @@
-//! Images before their check: held whole, or what is kept of one that stays in its file.
+//! Images before their check: held in full, or what is kept of one that stays in its file.
 
 ghost use Rattle.std.specs.Prelude.{List, ℕ, IfOk, IfErr};
 ghost use Rattle.romfs_check.specs.Checks.{IsCheckedWithRows};
@@ -19,8 +19,8 @@ pub(crate) trait Unchecked<A: Allocator>: Sized {
 
     ghost accessible: { Self.Image → List ℕ };
 
-    /// Checks it by the rules of a profile, and gives the rows of attributes that the profile shows
-    /// beside it.
+    /// Checks it by the rules of a profile, and also gives the rows of attributes that the profile
+    /// shows.
     fn check(self, alloc: A, profile: Profile) -> Result<(Self::Image, Rows<A>), CheckFault>
         ensures ok { IfOk result (λ both.
             IsCheckedWithRows profile (bytes self) (accessible both.0) both.1) }

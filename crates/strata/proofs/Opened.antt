@@ -1,7 +1,7 @@
--- The images of a line. `are_sources` says of images that were taken apart what their data are read from, `no_sources` of
--- those that are read whole, `stacked_sources` that their stack has the same; `read_held` and `whole_held` that nothing is
--- where they are read whole, and `held_whole` that a stack without sources is held. `seen_as` lends their files. `one_held`
--- is the step of the loop that holds images whole; `whole_ones` and `gathered_ones` say what is held of images for a line.
+-- The images of a line. `are_sources` says of images that were taken apart what their data are read from, `no_sources` of those that are
+-- read in full, `stacked_sources` that their stack has the same; `read_held` and `whole_held` that nothing is where they are read in full,
+-- and `held_whole` that a stack without sources is held. `seen_as` lends their files. `one_held` is the step of the loop that holds images
+-- whole; `whole_ones` and `gathered_ones` say what is held of images for a line.
 use Rattle.std.proofs.Common.{◌≡◌, ◌≤◌, ◌⊎◌, ◌||◌, ◌∙◌, sym, ap, subst, refl, ℕ, suc, inl, inr, true, false, true≢false, List, [], ◌∷◌, ◌++◌, append_assoc, length, map, All, Bool, Option, Some, Vec, vec_len, arith}
 use Rattle.std.specs.List.{AllByRecursion}
 use Rattle.std.proofs.lemmas.List.Elements.{All-map, All-same, All-weaker, recursion_from_All}
@@ -42,7 +42,7 @@ are_data trailers (image ∷ images) (d ∷ files) known read faithful =
     let rest : map known_bytes files ≡ map (λ (image : Opened). image.known) images = cc in
     (is_data trailers image d first read.0 faithful.0, are_data trailers images files rest read.1 faithful.1)
 
--- the sources of images that were taken apart, of a line whose images are not read whole
+-- the sources of images that were taken apart, for a line whose images are not read in full
 pub are_sources : {F A B C : Type 0} (line : Line) (images : List Opened) (kept : Vec (List ℕ) B) (files : Vec (ImageData F A) C)
     (told : List (Option ℕ)) → length told ≡ vec_len line.images → (AreReadWhole line told → ⊥)
     → All (λ (image : Opened). image.trailers ≡ trailers_of line) images → AreApart images kept.items files.items
@@ -60,7 +60,7 @@ are_sources line images kept files told each left read apart =
       either = inr are;
     }
 
--- the data of images that are read whole are read from nothing
+-- the data of images that are read in full are read from nothing
 pub no_sources : {F A B : Type 0} (line : Line) (images : List (List ℕ)) (files : Vec (ImageData F A) B) (told : List (Option ℕ))
     → length told ≡ vec_len line.images → AreReadWhole line told → files.items ≡ [] → HaveSources line true images (sources_of files)
 no_sources line images files told each all none =
@@ -73,7 +73,7 @@ no_sources line images files told each all none =
       either = inl held;
     }
 
--- what images have their data from where they are held whole, a stack that is whole has too
+-- what images have their data from where they are held in full, a stack that is whole has too
 pub stacked_sources : (line : Line) (whole stacked : Bool) (images : List (List ℕ)) (sources : List Source)
     → (whole ≡ true → stacked ≡ true) → HaveSources line whole images sources → HaveSources line stacked images sources
 stacked_sources line whole stacked images sources same have =
@@ -92,7 +92,7 @@ stacked_sources line whole stacked images sources same have =
     by_either (inl all) held = inl (held all)
     by_either (inr are) held = inr are
 
--- the stack of images that are read whole is held
+-- the stack of images that are read in full is held
 pub read_held : (line : Line) (images : List (List ℕ)) (by : Sourced) (p : ArePrepared line images by) → AreReadWhole line p.sources.told
     → by ≡ in_memory by.stack
 read_held line images by p all = ap (λ sources. sourced by.stack sources) (p.sources.read all).1
@@ -102,7 +102,7 @@ pub whole_held : (line : Line) (images : List (List ℕ)) (by : Sourced) → lin
     → by ≡ in_memory by.stack
 whole_held line images by whole p = read_held line images by p (inl whole)
 
--- a stack whose data are read from nothing is held whole
+-- a stack whose data are read from nothing is held in full
 pub held_whole : (line : Line) (images : List (List ℕ)) (by : Sourced) → by.sources ≡ [] → ArePrepared line images by
     → by.stack.whole ≡ true
 held_whole line images by none p = by_either images p.stacked.layers.few.0 p.sources.either
@@ -127,7 +127,7 @@ stays true device said = refl
 stays false device (inl said) = absurd (true≢false (sym said))
 stays false device (inr said) = said
 
--- each image that is not read whole has a source
+-- each image that is not read in full has a source
 pub left_in_files : (line : Line) (images : List (List ℕ)) (by : Sourced) (p : ArePrepared line images by)
     → (AreReadWhole line p.sources.told → ⊥) → length by.sources ≡ length images
 left_in_files line images by p left = as_many (trailers_of line) images by.sources (p.sources.left left)
@@ -148,7 +148,7 @@ pub one_held : {X Y : Type 0} (w : Y → X) (all done : List X) (left rest : Lis
 one_held w all done left rest y e l =
     e ∙ ap (λ ys. done ++ map w ys) l ∙ sym (append_assoc done (w y ∷ []) (map w rest))
 
--- images that are held whole are held so for any line
+-- images that are held in full are held so for any line
 pub whole_ones : {F A : Type 0} (line : Line) (known : F → Option (List ℕ)) (images : List (Vec ℕ A)) (held : List (HeldImage A))
     → held ≡ map Whole images → All (IsOfFile (λ file. AreBytesOf (known file))) images → AreHeldFor line known held
 whole_ones line known images held e h =

@@ -1,5 +1,5 @@
--- What a line asks for, and what follows from it: its profile (`asks`, `reads`), how its images are judged (`judged`,
--- `judged_whole`), and with which status its readers end (`ends_alike`).
+-- What a line requests, and what follows from it: its profile (`asks`, `reads`), how its images are judged (`judged`, `judged_whole`), and
+-- with which status its readers end (`ends_alike`).
 use Rattle.std.proofs.Common.{◌≡◌, ◌∙◌, sym, subst, refl, ℕ, ◌↔◌, List, Bool, true, false, true≢false, Some, if◌then◌else◌}
 use Rattle.romfs_format.specs.declared.rule.Profile.{Profile}
 use Rattle.romfs_format.specs.Profiles.{asks_sums, profile_with, reads_attributes}
@@ -55,7 +55,7 @@ pub judged : (line : Line) (bytes image : List ℕ) → WasGathered (trailers_of
     → IsJudged (profile_of line) bytes image
 judged line bytes image g = judged_by line.strict line.attributes bytes image g
 
--- an image that is held whole is judged as its file is
+-- an image that is held in full is judged as its file is
 pub judged_whole : {A : Type 0} (line : Line) (bytes : List ℕ) (image : HeldImage A) → IsHeldWhole (Some bytes) image
     → IsJudged (profile_of line) bytes (held_bytes image)
 judged_whole line bytes (Kept kept its) h = absurd h

@@ -1,5 +1,5 @@
--- The images of a line, as they are held: all bytes of each, or what the rules look at, with zeros
--- where nothing is held.
+-- The images of a line, as they are held: all bytes of each, or what the rules check, with zeros
+-- for the rest.
 use Rattle.std.specs.Prelude.{◌≡◌, ◌≤◌, ◌^◌, ◌⊎◌, ◌||◌, ℕ, Bool, true, false, List, [], ◌∷◌, Option, Some, All, ⊤, length, map, sum, vec_len, if◌then◌else◌}
 use Rattle.std.specs.declared.vec.Vec.{Vec}
 use Rattle.romfs_format.specs.declared.rule.Profile.{Profile}
@@ -31,9 +31,8 @@ trailers_of line = if line.attributes then Read else Left
 abbrev pub NamesAsMany : Line → List (List ℕ) → Type 0
 NamesAsMany line images = length images ≡ vec_len line.images
 
--- this is held of the images of a line, each of which was read of some file: all its bytes, those
--- that are known of it; or what the rules look at, with the trailer where the line asks for
--- attributes
+-- this is held of the images of a line, each of which was read from some file: all its bytes, those
+-- that are known of it; or what the rules check, with the trailer if the line has attributes
 abbrev pub AreHeldFor : {F A : Type 0} → Line → (F → Option (List ℕ)) → List (HeldImage A) → Type 0
 AreHeldFor line known images =
     All (IsOfFile (λ file. IsHeldOf (known file) (trailers_of line))) images
@@ -53,7 +52,7 @@ abbrev pub sources_of : {F A B : Type 0} → Vec (ImageData F A) B → List Sour
 sources_of files = map source_of files.items
 
 -- the data of an image of which this is held are read from its file, of which nothing is known; or
--- from bytes of which just this was gathered
+-- from bytes from which exactly this was gathered
 abbrev pub IsDataOf : Trailers → List ℕ → Source → Type 0
 IsDataOf trailers image source =
     (source ≡ unknown)
@@ -75,19 +74,19 @@ stay_in_files line = line.in_files || line.device
 abbrev pub AreHeldWhole : Bool → List Source → Type 0
 AreHeldWhole whole sources = (whole ≡ true) × (sources ≡ [])
 
--- files have told their sizes: all are regular, and have at most 32 MiB together
+-- files reported their sizes: all are regular, and have at most 32 MiB together
 pub record AreSmall (told : List (Option ℕ)) : Type 0 where
   pub sizes : List ℕ
   pub told_is : told ≡ map Some sizes
   pub few : sum sizes ≤ 2 ^ 25
 
--- images are read whole: where their line says so, and where they are small by what their files
--- told and the line leaves no image in its file
+-- images are read in full: if their line says so, or if their files reported small sizes and the
+-- line leaves no image in its file
 abbrev pub AreReadWhole : Line → List (Option ℕ) → Type 0
 AreReadWhole line told = (line.whole ≡ true) ⊎ ((stay_in_files line ≡ false) × AreSmall told)
 
--- what the data of the images of a line are read from, by what the file of each has told of its
--- size: from nothing, where they are read whole; else each from a source of its own
+-- what the data of the images of a line are read from, by the reported size of each file: from
+-- nothing, if they are read in full; else each from a source of its own
 pub record HaveSources (line : Line) (whole : Bool) (images : List (List ℕ))
     (sources : List Source) : Type 0 where
   pub told : List (Option ℕ)

@@ -7,7 +7,7 @@ use romfs_reader::{Image, ImageView, KeptImage};
 use std::alloc::{AllocError, Allocator};
 use std::marker::Model;
 
-/// The images of a stack's layers, the lowest first: all held whole, or of all only what is kept.
+/// The images of a stack's layers, lowest first: all held in full, or only what is kept of each.
 ///
 /// A clause sees the accessible bytes of each, with zeros where nothing is kept.
 #[derive(Drop)]
@@ -31,7 +31,7 @@ impl<A: Allocator> Model for Layers<A> {
 }
 
 impl<A: Allocator + Copy> Layers<A> {
-    /// Images that are held whole.
+    /// Images held in full.
     pub fn whole(alloc: A, images: Vec<Image<A>, A>) -> Layers<A>
         ensures all { result.all ≡ images.items }
         ensures whole { result.whole ≡ true }
@@ -52,7 +52,7 @@ impl<A: Allocator + Copy> Layers<A> {
         }
     }
 
-    /// The images, lent. `AllocError` comes only where memory was refused.
+    /// The images, lent. `AllocError` only if memory was refused.
     pub fn views(&self, alloc: A) -> Result<Vec<ImageView<'_>, A>, AllocError>
         ensures { IfOk result (λ views. views.items ≡ self.now.all) }
     {
@@ -71,7 +71,7 @@ impl<A: Allocator> Layers<A> {
         self.whole.len() + self.kept.len()
     }
 
-    /// The image of a layer, lent; none where there is no such layer.
+    /// The image of a layer, lent; none if there is no such layer.
     pub fn view(&self, layer: usize) -> Option<ImageView<'_>>
         ensures { MatchOption result (slice_get self.now.all layer ≡ None)
             (λ view. slice_get self.now.all layer ≡ Some view) }
@@ -84,7 +84,7 @@ impl<A: Allocator> Layers<A> {
         }
     }
 
-    /// The image of a layer, where all are held whole.
+    /// The image of a layer, if all are held in full.
     pub(crate) fn image(&self, layer: usize) -> &Image<A>
         requires whole { self.now.whole ≡ true }
         requires there { layer < length self.now.all }
@@ -94,7 +94,7 @@ impl<A: Allocator> Layers<A> {
     }
 }
 
-// One of images that are held whole, lent.
+// One of the images held in full, lent.
 fn view_of_whole<A: Allocator>(images: &[Image<A>], at: usize) -> Option<ImageView<'_>>
     ensures { MatchOption result (slice_get images.now at ≡ None)
         (λ view. slice_get images.now at ≡ Some view) }
@@ -110,7 +110,7 @@ fn view_of_kept<A: Allocator>(images: &[KeptImage<A>], at: usize) -> Option<Imag
     Some(images.get(at)?.view())
 }
 
-// Adds images that are held whole, lent.
+// Adds images held in full, lent.
 fn add_whole<'a, A: Allocator>(
     views: &mut Vec<ImageView<'a>, A>,
     images: &'a [Image<A>],
