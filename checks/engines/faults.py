@@ -83,7 +83,7 @@ def check_what_a_killed_one_left(snapshotter):
     hold("the layer", ["layer.romfs"], os.listdir(root + "/snapshots/1"))
 
 
-def check_random_kills(snapshotter, count=40):
+def check_random_kills(snapshotter, count=25):
     """Killed at random moments of a round of calls: each time all is as some call left it, and what
     was committed stays."""
     draw = random.Random(7)

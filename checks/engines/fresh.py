@@ -83,6 +83,11 @@ echo %(end)s
 END = "END OF THE PAGE"
 # so many lines of one that failed are shown
 LINES = 60
+CONFIGURED = """
+mkdir -p /etc/containerd
+cat > /etc/containerd/config.toml <<'EOF'
+%sEOF
+"""
 # what makes an image a system extension
 RELEASE = "usr/lib/extension-release.d/extension-release.app"
 
@@ -99,7 +104,7 @@ def script():
     for title in ("Install", "Configure", "Run"):
         for kind, text in found[title]:
             if kind == "toml":
-                text = "mkdir -p /etc/containerd\ncat > /etc/containerd/config.toml <<'EOF'\n%sEOF\n" % text
+                text = CONFIGURED % text
             parts += lines_for(text)
     (_, extension), = blocks(OTHERS)["System extensions"]
     return "\n".join([*parts, MORE % {"image": IMAGE, "extension": extension, "end": END}])

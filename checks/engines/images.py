@@ -54,8 +54,8 @@ def lowest():
         made.entry("dev/fifo", kind=tarfile.FIFOTYPE, mode=0o640)]
 
 
-# what images are made of beside the plain one: its second layer has an attribute that no image of
-# romfs holds; its third one has hard links over those of the lowest (containerd itself refuses links
+# kinds of images: the odd one's second layer has an attribute that no image of romfs holds; the
+# linked one's third layer has hard links over those of the lowest (containerd itself refuses links
 # to files of lower layers alone)
 PLAIN, ODD, LINKED = "plain", "odd", "linked"
 

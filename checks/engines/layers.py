@@ -311,7 +311,8 @@ def image_data(snapshotter, found):
     layout = made.layout(snapshotter.folder + "/layout", found)
     run_layers(layout.path, snapshotter.folder + "/images")
     data = []
-    for name in sorted(os.listdir(snapshotter.folder + "/images")):
+    names = sorted(os.listdir(snapshotter.folder + "/images"))
+    for name in (it for it in names if it.endswith(".romfs")):
         with open(os.path.join(snapshotter.folder, "images", name), "rb") as file:
             data.append(file.read())
     return data

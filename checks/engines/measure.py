@@ -14,7 +14,7 @@ import threading
 import time
 
 from checks import ROOT
-from checks.engines import cri, images, stargz
+from checks.engines import cri, images
 from checks.engines.layers import run_layers
 from checks.engines.machine import HOST, wait_until
 from checks.registry import made
@@ -132,8 +132,8 @@ class Stargz(Compared):
         return self.machine.at("stargz-root")
 
     def remote(self, *words):
-        subprocess.run(["ctr-remote", "-a", self.machine.at("c.sock"), "images", *words], check=True,
-                       stdin=subprocess.DEVNULL, stdout=subprocess.DEVNULL)
+        subprocess.run(["ctr-remote", "-a", self.machine.at("c.sock"), "images", *words],
+                       check=True, stdin=subprocess.DEVNULL, stdout=subprocess.DEVNULL)
 
     def convert(self):
         """Pushes the image in its form."""
@@ -256,7 +256,7 @@ def print_head(names):
 def install(machine):
     """Lets the machine run the snapshotter as it is installed, with its modules compiled."""
     found, place = machine.snapshotter, machine.at("installed")
-    subprocess.run([sys.executable, "-B", ROOT + "/packaging/install.py", found.program, "", place, ""],
-                   check=True, stdin=subprocess.DEVNULL, stdout=subprocess.DEVNULL)
+    words = [sys.executable, "-B", ROOT + "/packaging/install.py", found.program, "", place, ""]
+    subprocess.run(words, check=True, stdin=subprocess.DEVNULL, stdout=subprocess.DEVNULL)
     found.words = [place + "/bin/strata-snapshotter", *found.words[3:]]
     found.words.remove("--debug")

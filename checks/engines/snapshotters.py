@@ -42,9 +42,7 @@ class Snapshotter:
         with open(self.log, "ab") as log:
             self.process = subprocess.Popen(self.words, stdin=subprocess.DEVNULL, stdout=log,
                                             stderr=log)
-        wait_until("the snapshotter answers", self.listens)
-        # gRPC itself would wait for a second before it tries again
-        self.connect()
+        wait_until("the snapshotter answers", self.answers)
         return self
 
     def connect(self):
@@ -53,11 +51,20 @@ class Snapshotter:
         self.channel = grpc.insecure_channel("unix:" + self.socket,
                                              [("grpc.use_local_subchannel_pool", 1)])
 
-    def listens(self):
+    def answers(self):
+        """Whether it answers a call: what one that was killed has just started may keep its socket
+        open for a moment."""
         if self.process.poll() is not None:
             raise Failed("the snapshotter ended with %d" % self.process.returncode)
         with socket.socket(socket.AF_UNIX) as it:
-            return it.connect_ex(self.socket) == 0
+            # gRPC itself would wait for a second before it tries again
+            if it.connect_ex(self.socket) != 0:
+                return False
+        self.connect()
+        if not isinstance(self.tried("List"), str):
+            return True
+        self.channel.close()
+        return False
 
     def stop(self, number=signal.SIGTERM):
         """Ends it; its status."""

@@ -69,7 +69,7 @@ def comments_of(path):
 
 def odd_comments():
     """A line for each odd turn in the comments of sources."""
-    kinds = "tools/*.py", "checks/*.py", "packaging/*.py"
+    kinds = "crates/*.rt", "crates/*.antt", "tools/*.py", "checks/*.py", "packaging/*.py"
     listed = subprocess.run(["git", "ls-files", *kinds], cwd=ROOT, stdout=subprocess.PIPE, text=True, check=True)
     for path in listed.stdout.split():
         if path not in ("packaging/launcher.py", "checks/gate/phrases.py"):

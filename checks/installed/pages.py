@@ -9,7 +9,7 @@ import subprocess
 import termios
 
 from checks import ROOT
-from checks.installed.roots import Failed, LeftOut, hold, hold_in
+from checks.installed.roots import LeftOut, hold, hold_in
 from strata_mount.options import CLEARS, IGNORED, IGNORED_FRONTS, KERNEL, SETS, STRATA
 
 SNAPSHOTTER = "man8/strata-snapshotter.8"

@@ -7,7 +7,7 @@ import subprocess
 import time
 
 from checks.installed.mounts import hold_stack, places, servers, settle
-from checks.installed.roots import Failed, hold, hold_in
+from checks.installed.roots import Failed, hold
 
 LINE = re.compile(r"\d+\.\d{6} (\d+)( {5})?( .*)")
 

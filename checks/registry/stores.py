@@ -13,7 +13,7 @@ import tarfile
 from checks import ROOT
 from checks.plain import plain
 from checks.registry import made
-from checks.registry.rooms import LAYERS, NAME, LeftOut, hold, shown_by
+from checks.registry.rooms import LAYERS, LeftOut, hold, shown_by
 
 
 def mounted_layers(room, name, store=None):
@@ -122,7 +122,7 @@ def check_archives(room):
         room.layers("pull", "oci:" + out, "taken:1", store=elsewhere)
         hold("images", list(map(made.digest, images)),
              ["sha256:" + os.path.basename(it) for it in mounted_layers(room, "taken:1", elsewhere)])
-    for line, more in (("no image of romfs", [b"text"]), ("no image of romfs", [b""]),
+    for line, more in (("not a romfs image", [b"text"]), ("not a romfs image", [b""]),
                        (".strata.romfs is not alone in its archive", [images[0], b"other"])):
         names = (".strata.romfs", "other")
         wrong = made.layout(room.name(), [made.archive(*map(made.entry, names, more))])

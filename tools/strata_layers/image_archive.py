@@ -44,7 +44,7 @@ def image_pieces(pieces):
         is_begun = True
         yield data
     if not is_begun:
-        raise Refused("no image of romfs")
+        raise Refused("not a romfs image")
 
 
 def write_image(entries, file):

@@ -131,6 +131,7 @@ class Maker:
 def image_of_archive(source, out, lost):
     """Makes the image of an archive of tar; `source.read(n)` gives at most n bytes of it, and none
     at its end."""
+    from strata_layers import tars  # a folder needs none of it
     image = Image(lambda: out, VOLUME_NAME)
     Maker(image, lost).put_archive(tars.Tar(source).entries())
     tars.read_rest(source)

@@ -4,7 +4,7 @@ podman looks for a layer by its blob's digest before it fetches it:
     DIR/DIGEST/diff             the folder on which the layer is mounted, alone
     DIR/DIGEST/layer.romfs      its image
     DIR/DIGEST/info             its digests and sizes
-    DIR/DIGEST/blob             nothing: a store has no blobs, so podman can't push or save the layer
+    DIR/DIGEST/blob             empty: a store has no blobs, so podman can't push or save the layer
 
 overlayfs lays the mounts on one another, so in these images a whiteout is what it is there: a
 device of the numbers 0, 0. An opaque folder has one for each name that a layer below has in it.

@@ -16,7 +16,7 @@ from strata_format.refused import Refused
 from strata_snapshotter import places
 from strata_snapshotter.faults import InvalidArgument, Unavailable
 from strata_snapshotter.folder_image import write_folder_image
-from strata_snapshotter.given_image import given_image, hold_image
+from strata_snapshotter.given_image import hold_image
 from strata_snapshotter.state import Form
 
 LAYERS_MOST = 128

@@ -1,4 +1,4 @@
--- The order of rows that are kept, and where one of them stands.
+-- The order of kept rows, and the position of one.
 use Rattle.std.specs.Prelude.{◌≤◌, ◌<◌, ◌^◌, ◌==◌, ℕ, List, Option, All, length}
 use Rattle.std.specs.List.{position}
 use Rattle.std.specs.List.Sorted.{IsNonDecreasingBy}
@@ -11,6 +11,6 @@ pub record AreOrdered (rows : List AttributeRow) : Type 0 where
   pub modes : All (λ row. row.mode ≤ MAX_MODE) rows
   pub few : length rows < 2 ^ 32
 
--- where the row for the header at p stands among these, counted from 0, if there is one
+-- the position of the row for the header at p among these, counted from 0, if there is one
 abbrev pub position_at : List AttributeRow → ℕ → Option ℕ
 position_at rows p = position (λ row. row.place == p) rows

@@ -11,8 +11,8 @@ use held_image::read::word;
 use romfs_format::limits::{MAX_MODE, SECOND, TRAILER_HEAD_SIZE};
 use romfs_format::{ImageFault, Rule};
 
-/// The fault of the attribute trailer of an image, by all its bytes; none where it has no trailer,
-/// or one that keeps its rule.
+/// The fault of an image's attribute trailer, from all bytes of the image; none if it has no
+/// trailer, or one that keeps its rule.
 ///
 /// It goes over the bytes of the trailer twice, and takes no memory.
 #[tactic(auto, unfolding(romfs_format::specs::Trailer::trailer))]

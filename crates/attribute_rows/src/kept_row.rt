@@ -8,15 +8,15 @@ use std::marker::Model;
 /// How many numbers the lower half of a row's seconds can be.
 const HALF: u64 = 0x1_0000_0000;
 
-/// A row of an attribute trailer in 28 bytes: its seconds stand in two halves, since a number of
-/// eight bytes would make it 32. A clause sees the row.
+/// A row of an attribute trailer in 28 bytes: its seconds are two halves, since an eight-byte
+/// number would make it 32. A clause sees the row.
 #[derive(Drop)]
 pub(crate) struct KeptRow {
     place: u32,
     mode: u32,
     uid: u32,
     gid: u32,
-    // Lower half first, as x86 has them, so that both are read at once.
+    // Lower half first, as on x86, where one load then reads both.
     seconds_low: u32,
     seconds_high: u32,
     nanoseconds: u32,

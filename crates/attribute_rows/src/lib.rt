@@ -1,11 +1,10 @@
 //! Attribute trailers: owners, modes and times of an image's files, in a table behind its full size
 //! (`Trailer`, of `romfs_format`).
 //!
-//! [`trailer_fault`] says whether the trailer of an image that is held, whole or by what is kept of
-//! it, is broken: it goes over its bytes twice, and takes no memory. [`Rows`] keeps the rows of one
-//! that is not, in 28 bytes each, and finds the row of a header by halves, or by where it stands.
-//! Both promise what the definitions of `romfs_format` say; `specs/` has the words between
-//! (`Faults`, `Order`).
+//! [`trailer_fault`] says whether the trailer of a held image, in full or in part, is broken: it
+//! passes over the bytes twice and takes no memory. [`Rows`] keeps the rows of a good one, in 28
+//! bytes each, and finds the row of a header by binary search or by position. Their contracts use
+//! the definitions of `romfs_format`; `specs/` has those in between (`Faults`, `Order`).
 #![tactic(auto)]
 
 mod check;

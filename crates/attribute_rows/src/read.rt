@@ -13,7 +13,7 @@ use romfs_format::read::padded;
 use romfs_format::{AttributeRow, read as fields};
 use std::marker::Model;
 
-/// Where the trailer of an image begins, if it has one.
+/// The start of an image's trailer, if it has one.
 #[tactic(auto, unfolding(romfs_format::specs::Trailer::trailer))]
 pub(crate) fn trailer_place(image: &Held<'_>) -> Option<u32>
     requires { HEAD_SIZE ≤ length image.now }
@@ -36,9 +36,9 @@ pub(crate) fn trailer_place(image: &Held<'_>) -> Option<u32>
 #[derive(Drop)]
 pub(crate) struct Trailer<'t> {
     image: &'t Held<'t>,
-    /// Where it begins.
+    /// Its start.
     place: u32,
-    /// Where the image ends.
+    /// The end of the image.
     end: usize,
 }
 
@@ -73,7 +73,7 @@ impl<'t> Trailer<'t> {
         self.end - self.place as usize
     }
 
-    /// The word at a place, counted from where the trailer begins.
+    /// The word at a place, counted from the start of the trailer.
     pub(crate) fn word(&self, at: usize) -> u32
         requires { at + 4 ≤ length self.now }
         ensures { result ≡ word_of self.now at }
@@ -89,7 +89,7 @@ impl<'t> Trailer<'t> {
         long_word(self.image, self.place as usize + at)
     }
 
-    /// So many bytes from such a place on, if they are at hand in one piece.
+    /// This many bytes from such a place on, if they are at hand in one piece.
     pub(crate) fn slice(&self, at: usize, len: usize) -> Option<&'t [u8]>
         requires { at + len ≤ length self.now }
         ensures { IfSome result (λ part. part.now ≡ take len (drop at self.now)) }
@@ -97,7 +97,7 @@ impl<'t> Trailer<'t> {
         slice_at(self.image, self.place as usize + at, len)
     }
 
-    /// The sum of the whole words of so many bytes.
+    /// The sum of the complete words in this many bytes.
     pub(crate) fn sum(&self, len: usize) -> u32
         requires { len ≤ length self.now }
         ensures { result ≡ word_sum (take len self.now) % 2 ^ 32 }
@@ -106,7 +106,7 @@ impl<'t> Trailer<'t> {
     }
 }
 
-/// Where a row begins in its trailer.
+/// The start of a row in its trailer.
 pub(crate) fn row_start(number: u32) -> usize
     ensures value { result ≡ row_start number }
     ensures small { result < 2 ^ 40 }

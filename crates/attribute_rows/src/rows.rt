@@ -42,10 +42,10 @@ impl<A: Allocator> Rows<A> {
         }
     }
 
-    /// The rows of the trailer of an image, by all its bytes; none where it has no trailer. A
-    /// trailer is not broken.
+    /// The rows of an image's trailer, from all bytes of the image; none if it has no trailer. A
+    /// trailer must not be broken.
     ///
-    /// It takes 28 bytes for each row. The error comes only where memory was refused.
+    /// Takes 28 bytes a row. Fails only if memory was refused.
     #[tactic(auto, unfolding(romfs_format::specs::Trailer::trailer))]
     pub fn of(alloc: A, image: &Held<'_>) -> Result<Rows<A>, AllocError>
         requires long { HEAD_SIZE ≤ length image.now }
@@ -77,8 +77,8 @@ impl<A: Allocator> Rows<A> {
         self.get(self.position(place, 0)?)
     }
 
-    /// Where that row stands among all, counted from 0. It is looked for first at a position that
-    /// is guessed, and else takes as many steps.
+    /// The position of that row, counted from 0. A guessed position is tried first; otherwise it
+    /// takes as many steps.
     pub fn position(&self, place: u32, guess: u32) -> Option<u32>
         ensures value { result ≡ position_at self.now place }
         ensures small { IfSome result (λ position. position + 1 < 2 ^ 32) }

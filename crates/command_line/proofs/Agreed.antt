@@ -1,6 +1,6 @@
--- What the words of a line settle. Words name one command, and each verb has its own word; so two
--- lines of the same words say the same (`lines_agree`), and words with a line have no fault
--- (`lines_are_faultless`), nor have words that ask for the version (`version_is_faultless`).
+-- What the arguments of a line determine. Arguments name one command, and each verb has its own name; so two lines of the same arguments
+-- are equal (`lines_agree`), and arguments with a line have no fault (`lines_are_faultless`), nor have those that ask for the version
+-- (`version_is_faultless`).
 use Rattle.std.proofs.Common.{◌≡◌, ◌∙◌, ◌==◌, ℕ, cond, ap, refl, sym, subst, List, [], ◌∷◌, Option, Some, unwrap_or, option_map, slice_index, inl, inr}
 use Rattle.clap.specs.Kinds.{IsAmong, Kinds}
 use Rattle.clap.specs.Walk.{Row, Text}
@@ -69,7 +69,7 @@ faultless words line (Fault (Usage text)) is told = elim told [
       bad.crossed))
 ]
 
--- words that have a line meet no fault but want of memory
+-- words that have a line meet no fault but lack of memory
 pub lines_are_faultless : LinesAreFaultless
 lines_are_faultless = record { only_memory = faultless }
 
@@ -93,6 +93,6 @@ version_faultless words (Usage text) is told = elim told [
   | inr (inr bad) ↦ absurd (not_taken words is bad.taken)
 ]
 
--- words that ask for the version alone meet no fault but want of memory
+-- arguments that ask only for the version meet no fault but lack of memory
 pub version_is_faultless : VersionIsFaultless
 version_is_faultless = record { only_memory = version_faultless }

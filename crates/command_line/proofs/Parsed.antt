@@ -66,7 +66,7 @@ parsed_kind a words error is kinds = elim (kinds (ap is_simple_and_free is ∙ p
       inr (subst P (ap (λ x. fault_of x words) is) among)
 ]
 
--- where it gives an error, the words are refused for its kind, or ask for the version
+-- if it gives an error, the arguments are refused for its kind, or ask for the version
 pub parsed_fault : (a : App) (words : List Text) (error : Error) (told : NoLine) → a ≡ program
     → (is_simple_and_free a ≡ true → HasKind (fault_of a words) error)
     → TellsKind (kind_of error) told → IsNoLine words told

@@ -1,6 +1,5 @@
--- The worked command lines, by computation. What words come to is one value (`told`), so that each
--- example computes once: what is wrong with them, the command that they name, and what is seen of its
--- rows. The numbers of a line are tested by a function that computes (`is_numbered`).
+-- The worked command lines, by computation. The result of words is one value (`told`), so each example computes once: what is wrong with
+-- them, the command that they name, and its rows. The numbers of a line are tested by a function that computes (`is_numbered`).
 use Rattle.std.proofs.Common.{◌≡◌, ◌∙◌, ◌&&◌, ◌^◌, ℕ, Bool, codes, refl, ap, sym, subst, true, false, true≢false, nat_lt, nat_le, length, unwrap_or, option_map, List, [], ◌∷◌, Option, Some, None, IfSome}
 use Rattle.std.specs.Char.{digit_value}
 use Rattle.std.specs.List.{All, list_all}
@@ -132,13 +131,13 @@ are_in_range rows e =
     let tests = both (owns (first_of (codes "owner") rows)) (list_all (is_in_range rows) numbers) e in
     record { each = numbers_passed rows numbers tests.1; owner = owner_passed (first_of (codes "owner") rows) tests.0 }
 
--- ---- what words come to
+-- ---- the result of words
 
--- what is wrong with the words, and the command that they name, with what is seen of its rows
+-- what is wrong with the words, and the command that they name, with its rows
 told : {X : Type 0} → (List Row → X) → List Text → Kinds × Option (Text × X)
 told see words = (faults_in words, option_map (λ p. let rows = p.1 in (p.0, see rows)) (command_in words))
 
--- the words are a command of the program, of whose rows this is seen
+-- the words are a command of the program, with these rows
 record Shows {X : Type 0} (see : List Row → X) (words : List Text) (name : Text) (x : X) : Type 0 where
   taken : IsTaken words
   rows : List Row

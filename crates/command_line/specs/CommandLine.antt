@@ -1,4 +1,4 @@
--- The command line: the program as `clap` sees it, and what the words after its name say.
+-- The command line: the program for `clap`, and the meaning of the arguments after its name.
 use Rattle.std.specs.Prelude.{◌≡◌, ◌≢◌, ◌⊎◌, ℕ, Bool, true, false, List, [], ◌∷◌, ◌++◌, codes, is_some, ◌&&◌, ◌||◌}
 use Rattle.std.specs.Prelude.{Option, Some, IfSome, MatchOption, option_map, unwrap_or}
 use Rattle.std.specs.Prelude.{Result, IfOk, ◌≤◌, vec_len}
@@ -48,7 +48,7 @@ wanted_option name = record (value_option name) { required = true }
 abbrev pub flag : Text → Rule
 flag name = record (new_rule name) { long = Some name; action = Some SetTrue }
 
--- words of this name, one or more
+-- arguments of this name, one or more
 abbrev pub words : Text → Rule
 words name = record (new_rule name) {
   value_names = 1;
@@ -66,7 +66,7 @@ rule_for argument = elim argument.form [
   | forms.Words value ↦ words argument.name.now
 ]
 
--- the command of this name, with these options and words
+-- the command of this name, with these options and arguments
 abbrev pub command_with : Text → List Rule → App
 command_with name rules = on_top (λ s. record s { rules = rules }) (new_app name)
 
@@ -79,8 +79,8 @@ abbrev pub images : List Rule
 images = flag (codes "strict") ∷ flag (codes "attributes") ∷ flag (codes "whole")
     ∷ words (codes "image") ∷ []
 
--- the images that are served, what the client is told of them, whom their files belong to, and
--- whether they stay in theirs
+-- the served images, what the client learns about them, the owner of their files, and whether they
+-- stay in theirs
 abbrev pub served_images : List Rule
 served_images = flag (codes "lasting") ∷ value_option (codes "owner") ∷ flag (codes "in-files")
     ∷ images
@@ -101,11 +101,11 @@ socket_command = command_with (codes "socket") (plan_options ++ (
 abbrev pub images_command : Text → App
 images_command name = command_with name images
 
--- the command that was made, where there was memory for it, is this one
+-- the command that was made, if there was memory for it, is this one
 abbrev pub IsApp : {E : Type 0} → Result Command E → App → Type 0
 IsApp made app = IfOk made (λ command. app_of command ≡ app)
 
--- the program's name, which is no word of the line; it wants a command, or tells its version
+-- the program's name, which is no argument; it needs a command, or prints its version
 abbrev pub top_command : App
 top_command = on_top
     (λ s. record s { no_binary_name = true; has_version = true; subcommand_required = true })
@@ -117,27 +117,28 @@ program = with_subcommand (with_subcommand (with_subcommand
     (with_subcommand top_command serve_command.top) socket_command.top)
     (images_command (codes "check")).top) (images_command (codes "list")).top
 
--- what is wrong with the words, by the kinds of `clap`
+-- what is wrong with the arguments, by the kinds of `clap`
 unfoldable pub faults_in : List Text → Kinds
 faults_in words = fault_of program words
 
--- the name of the command that the words say, and the rows of values that they give it
+-- the name of the command in the arguments, and the rows of values that they give it
 unfoldable pub command_in : List Text → Option (Text × List Row)
 command_in words = subcommand_of program words
 
--- the words are a command of the program
+-- the arguments are a command of the program
 abbrev pub IsTaken : List Text → Type 0
 IsTaken words = faults_in words ≡ []
 
--- the words are refused for this: `clap` may answer them so
+-- the arguments are refused for this: `clap` may answer so
 abbrev pub IsRefusedFor : ErrorKind → List Text → Type 0
 IsRefusedFor why words = IsAmong why (faults_in words)
 
--- the words ask for the version
+-- the arguments ask for the version
 abbrev pub AsksVersion : List Text → Type 0
 AsksVersion = IsRefusedFor kinds.DisplayVersion
 
--- the words are no command of the program, and refused for another reason than to tell the version
+-- the arguments are no command of the program, and refused for another reason than to print the
+-- version
 pub record IsRefused (words : List Text) : Type 0 where
   pub why : ErrorKind
   pub refused : IsRefusedFor why words
@@ -149,7 +150,7 @@ pub record IsRefused (words : List Text) : Type 0 where
 abbrev pub IsNumberTo : ℕ → Text → Type 0
 IsNumberTo most text = IsNumeral 10 text × IsInRange 1 most (digits_value 10 text)
 
--- the number that a text writes, or the default where there is no text
+-- the number in a text, or the default without a text
 abbrev pub number_or : ℕ → Option Text → ℕ
 number_or default text = option_map_or (digits_value 10) text default
 
@@ -158,7 +159,7 @@ pub record IsNumberOf (most default : ℕ) (given : Option Text) (number : ℕ) 
   pub numbered : IfSome given (IsNumberTo most)
   pub value : number ≡ number_or default given
 
--- an option that says a number from 1 to `most`, and what it says where it is left out
+-- an option with a number from 1 to `most`, and its default
 pub record Number : Type 0 where
   pub name : Text
   pub most : ℕ
@@ -287,14 +288,14 @@ names_both_of rows = is_given (codes "device") rows
 abbrev pub AreCrossed : List Row → Type 0
 AreCrossed rows = names_both_of rows ≡ true
 
--- the line says what the rows of a command give, whose numbers are in their ranges, and which name
--- no file beside the device
+-- the line has what the rows of a command give, whose numbers are in range, and which name no file
+-- beside the device
 pub record HoldsRows (rows : List Row) (line : Line) : Type 0 where
   pub numbered : HaveNumbersInRange rows
   pub apart : ¬ AreCrossed rows
   pub says : Says line (parts_of line.verb rows)
 
--- the words are a command of the program, and the line says the same
+-- the arguments are a command of the program, and the line says the same
 pub record IsLineOf (words : List Text) (line : Line) : Type 0 where
   pub taken : IsTaken words
   pub rows : List Row
@@ -324,7 +325,7 @@ pub record IsReadFrom (verb : Verb) (rows : List Row) (line : Line) : Type 0 whe
   pub some_image : 1 ≤ vec_len line.images
   pub socket : NamesSocket line
 
--- the words are a command of the program, but for a number that is none, or is out of its range
+-- the arguments are a command of the program, except for a malformed number, or one out of range
 pub record IsMisnumbered (words : List Text) : Type 0 where
   pub taken : IsTaken words
   pub name : Text
@@ -332,7 +333,7 @@ pub record IsMisnumbered (words : List Text) : Type 0 where
   pub command : command_in words ≡ Some (name, rows)
   pub wrong : ¬ HaveNumbersInRange rows
 
--- the words are a command of the program, but name a file beside the device
+-- the arguments are a command of the program, but name a file beside the device
 pub record IsCrossed (words : List Text) : Type 0 where
   pub taken : IsTaken words
   pub name : Text
@@ -340,18 +341,18 @@ pub record IsCrossed (words : List Text) : Type 0 where
   pub command : command_in words ≡ Some (name, rows)
   pub crossed : AreCrossed rows
 
--- the words are no command of the program, or misnumbered, or name a file beside the device, or
+-- the arguments are no command of the program, or misnumbered, or name a file beside the device, or
 -- memory ran out
 abbrev pub IsLineFault : List Text → LineFault → Type 0
 IsLineFault words (Usage text) = IsRefused words ⊎ (IsMisnumbered words ⊎ IsCrossed words)
 IsLineFault words Memory = Unit {0}
 
--- the words ask for the version, or have a fault
+-- the arguments ask for the version, or have a fault
 abbrev pub IsNoLine : List Text → NoLine → Type 0
 IsNoLine words Version = AsksVersion words
 IsNoLine words (Fault fault) = IsLineFault words fault
 
--- an error of `clap` of this kind is told as this
+-- an error of `clap` of this kind becomes this
 abbrev pub TellsKind : ErrorKind → NoLine → Type 0
 TellsKind why Version = why ≡ kinds.DisplayVersion
 TellsKind why (Fault Memory) = Unit {0}

@@ -44,8 +44,8 @@ plain verb images = record {
 abbrev pub at_socket : Text → Text → LineParts
 at_socket path images = record (plain verbs.Socket images) { listen = Some path }
 
--- the words are a command with numbers in their ranges and no file beside the device, and each line
--- of them says this
+-- the words are a command with numbers in range and no file beside the device, and each line of
+-- them says this
 pub record ReadsAs (text : Text) (parts : LineParts) : Type 0 where
   pub taken : IsTaken (words_of text)
   pub numbered : ¬ IsMisnumbered (words_of text)
@@ -58,7 +58,7 @@ every_option =
     codes "serve --workers 2 --batch 3 --requests q --replies r --balances b --readers 6"
     ++ codes " --owner 7:8 --attributes --strict --whole --in-files --lasting f"
 
--- words that are a command, and what they say
+-- words that are a command, and their meaning
 pub record TakenLines : Type 0 where
   pub check_one : ReadsAs (codes "check e.img") (plain verbs.Check (codes "e.img"))
   pub check_two : ReadsAs (codes "check b a") (plain verbs.Check (codes "b a"))
@@ -143,8 +143,8 @@ pub record TakenLines : Type 0 where
 abbrev pub HasOneFault : Text → ErrorKind → Type 0
 HasOneFault text why = faults_in (words_of text) ≡ why ∷ []
 
--- words that are no command, and why: where it is `DisplayVersion` they ask for the version; or
--- words that are one that names a file beside the device
+-- words that are no command, and why: `DisplayVersion` if they ask for the version; or words of a
+-- command that names a file beside the device
 pub record RefusedLines : Type 0 where
   pub no_words : faults_in [] ≡ kind.MissingSubcommand ∷ []
   pub asks_version : HasOneFault (codes "--version") kind.DisplayVersion

@@ -9,18 +9,18 @@ use Rattle.command_line.specs.declared.options.NoLine.{NoLine}
 use Rattle.command_line.specs.declared.options.NoLine.TheVariants.{Fault}
 use Rattle.command_line.specs.CommandLine.{IsLineFault, IsLineOf, IsNoLine, LineParts, Says, faults_in}
 
--- two lines of the same words say the same
+-- two lines of the same arguments are equal
 pub record LinesAgree : Type 0 where
   pub both_say : (words : List Text) (a b : Line) → IsLineOf words a → IsLineOf words b
       → (parts : LineParts) × Says a parts × Says b parts
 
--- words that have a line meet no fault but want of memory, and do not ask for the version
+-- arguments that have a line meet no fault but lack of memory, and do not ask for the version
 pub record LinesAreFaultless : Type 0 where
   pub only_memory : (words : List Text) (line : Line) (fault : NoLine) → IsLineOf words line
       → IsNoLine words fault → fault ≡ Fault Memory
 
--- words that `clap` refuses to tell the version, and for nothing else, meet no fault but want of
--- memory
+-- arguments that `clap` refuses to print the version, and for nothing else, meet no fault but lack
+-- of memory
 pub record VersionIsFaultless : Type 0 where
   pub only_memory : (words : List Text) (fault : LineFault)
       → faults_in words ≡ DisplayVersion ∷ [] → IsLineFault words fault → fault ≡ Memory

@@ -10,7 +10,7 @@ use Rattle.node_attr.specs.declared.owner.Owner.{Owner}
 abbrev pub IsId : Text → Type 0
 IsId text = IsNumeral 10 text × (digits_value 10 text < 2 ^ 32)
 
--- what stands before the first colon
+-- the text before the first colon
 abbrev pub user_in : Text → Text
 user_in = before_first (λ c. c == 58)
 
@@ -27,7 +27,7 @@ abbrev pub owner_in : Text → Owner
 owner_in text =
     record { uid = digits_value 10 (user_in text); gid = digits_value 10 (group_in text) }
 
--- whom a text says, or user and group 0 where there is no text
+-- the owner in a text, or user and group 0 without a text
 abbrev pub owner_or_root : Option Text → Owner
 owner_or_root text = option_map_or owner_in text (record { uid = 0; gid = 0 })
 

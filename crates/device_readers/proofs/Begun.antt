@@ -1,5 +1,4 @@
--- Readers that served did so in a session that had begun (`went_on`); one that served alone came to
--- its end before (`ended_before`).
+-- Readers that served did so in a session that had begun (`went_on`); one that served alone ended before (`ended_before`).
 use Rattle.std.proofs.Common.{◌≡◌, ◌∙◌, sym, subst, false, List, ◌∷◌, None, Some, Result}
 use Rattle.std.specs.List.{AllZip}
 use Rattle.reply_model.specs.declared.session.Session.{Session}

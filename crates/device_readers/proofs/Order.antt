@@ -1,4 +1,4 @@
--- Which end is told of readers: none of theirs stands before it, and it is one of theirs.
+-- The reported end of readers: none of theirs ranks before it, and it is one of theirs.
 use Rattle.std.proofs.Common.{◌≡◌, ◌∙◌, ◌≤◌, ◌⊎◌, refl, ap, Bool, true, false, inl, inr, List, [], ◌∷◌, nat_le, arith}
 use Rattle.std.proofs.lemmas.Bool.{leb-false, leb-true}
 use Rattle.device_readers.specs.declared.ends.End.{End}
@@ -7,14 +7,14 @@ use Rattle.device_readers.specs.Ends.{first_told, place_of_end}
 use Rattle.device_readers.specs.Seats.{SeatState, end_of_all, own_end}
 use Rattle.device_readers.specs.Laws.{HasReader, IsToldFirst}
 
--- the former is told where it stands first, and the latter where that does
+-- the former is reported if it ranks first, and the latter if that does
 low_told : (a b : End) → nat_le (place_of_end a) (place_of_end b) ≡ true → first_told a b ≡ a
 low_told a b e = rw e refl
 
 high_told : (a b : End) → nat_le (place_of_end a) (place_of_end b) ≡ false → first_told a b ≡ b
 high_told a b e = rw e refl
 
--- of two ends the one that is told stands before neither
+-- the reported one of two ends ranks before neither
 before_both : (a b : End) → (place_of_end (first_told a b) ≤ place_of_end a) × (place_of_end (first_told a b) ≤ place_of_end b)
 before_both a b = cases (nat_le (place_of_end a) (place_of_end b)) refl
   where

@@ -1,7 +1,6 @@
--- What all readers come to, seat by seat. A call at each place of a list makes a relation of both
--- lists (`zipped`); seats that are new, but for the first, which has served, may be served on
--- (`ready_all`); and what the opening and then all of them did is what is promised of readers
--- (`served_by_one`, `served_by_all`).
+-- The results of all readers, seat by seat. A call at each place of a list makes a relation of both lists (`zipped`); seats that are new,
+-- but for the first, which has served, may be served on (`ready_all`); and what the opening and then all of them did is what is promised of
+-- readers (`served_by_one`, `served_by_all`).
 use Rattle.std.proofs.Common.{◌≡◌, sym, ap, subst, refl, ℕ, zero, suc, ◌<◌, ◌≤◌, List, [], ◌∷◌, length, map, drop, replicate, slice_index_or, slice_set, Option, None, Some, arith}
 use Rattle.std.specs.List.{AllByRecursion, AllZip}
 use Rattle.devices.specs.declared.limits.TheConstants.{MAX_TURNS}

@@ -1,5 +1,5 @@
--- What readers moved together. The sums of what messages move one by one do not go by their order
--- (`total_shuffled`); in a session that no message changes a stream moves just that (`kept`).
+-- What readers moved together. The sums of what messages move one by one do not depend on their order (`total_shuffled`); in a session that
+-- no message changes a stream moves exactly that (`kept`).
 use Rattle.std.proofs.Common.{◌≡◌, ◌∙◌, sym, ap, subst, refl, ℕ, suc, ◌+◌, ◌<◌, ℤ, pos, negsuc, ◌+ℤ◌, ◌-ℤ◌, List, [], ◌∷◌, ◌++◌, map, flat_map, sum_by, IsPermutation, Some, Result, Ok, Err, arith}
 use Rattle.std.specs.List.{AllByRecursion, AllZip}
 use Rattle.std.proofs.lemmas.Int.{ints}
@@ -123,7 +123,7 @@ counted by nodes (done ∷ more) (messages ∷ others) c place there =
     let b = counted by nodes more others c.1 place there in
     omega (arith, ints)
 
--- the stream of a reader that came to its end left what its messages moved
+-- the stream of a reader that ended left what its messages moved
 module _ {A : Type 0} (session : Session) (over : Sourced) (within : Bounds) where
   came_one : (t : Trace) (result : Result (Done A) Stop) → IsRunWithin session over within t result
       → (parts : List (List (List ℕ))) × CameOf (answering_from session over) within.counted (done_of (Some result)) parts

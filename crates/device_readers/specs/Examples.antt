@@ -1,10 +1,10 @@
--- Worked examples: of two ends the one that is told, in the order of the table of faults.
+-- Worked examples: the one of two ends that is reported, in the order of the table of faults.
 use Rattle.std.specs.Prelude.{◌≡◌, true, false}
 use Rattle.serve_core.specs.declared.stop.Stop.TheVariants as stops
 use Rattle.device_readers.specs.declared.ends.End.TheVariants.{AtEnd, TakenAway, Stopped}
 use Rattle.device_readers.specs.Ends.{end_of_stop, first_told}
 
--- of each two neighbours of the table the upper one; and of two that stand alike the former
+-- the upper of each two neighbours in the table; and the former of two that rank alike
 pub record OrderExamples : Type 0 where
   pub read : first_told (Stopped stops.Write) (Stopped stops.Read) ≡ Stopped stops.Read
   pub write : first_told (Stopped (stops.BadLength 0 39)) (Stopped stops.Write)
@@ -19,8 +19,8 @@ pub record OrderExamples : Type 0 where
   pub alike : first_told (Stopped (stops.CutOff 1)) (Stopped (stops.CutOff 2))
       ≡ Stopped (stops.CutOff 1)
 
--- a failed read says that the mount was taken away where its own side is gone, a failed write where
--- either is; nothing else says so
+-- a failed read means an unmount if its own side is gone, a failed write if either is; nothing else
+-- does
 pub record GoneExamples : Type 0 where
   pub read : end_of_stop stops.Read true false ≡ TakenAway
   pub read_there : end_of_stop stops.Read false true ≡ Stopped stops.Read

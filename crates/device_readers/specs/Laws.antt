@@ -1,5 +1,5 @@
--- What readers come to, for a caller: which end is told, when one alone serves, and what they moved
--- together.
+-- The results of readers, for a caller: which end is reported, when only one serves, and what they
+-- moved together.
 use Rattle.std.specs.Prelude.{◌≡◌, ◌≤◌, ◌⊎◌, ⊤, ℕ, ℤ, pos, ◌+ℤ◌, List, [], ◌∷◌, Result, Ok, Err}
 use Rattle.std.specs.List.{AllByRecursion}
 use Rattle.fuse_wire.specs.Requests.{asked}
@@ -21,7 +21,7 @@ use Rattle.device_readers.specs.declared.ends.End.{End}
 use Rattle.device_readers.specs.Ends.{place_of_end}
 use Rattle.device_readers.specs.Seats.{SeatState, devices_of, own_end}
 
--- this end is told before that of each of the readers, or stands alike
+-- this end ranks before that of each of the readers, or alike
 abbrev pub IsToldFirst : {A : Type 0} → End → List (SeatState A) → Type 0
 IsToldFirst end seats = AllByRecursion (λ s. place_of_end end ≤ place_of_end (own_end s)) seats
 
@@ -30,15 +30,15 @@ abbrev pub HasReader : {A : Type 0} → End → List (SeatState A) → Type 0
 HasReader end [] = ⊥
 HasReader end (seat ∷ seats) = (end ≡ own_end seat) ⊎ HasReader end seats
 
--- a reader's messages were served over a stack as a stream that begins in this session; where they
--- ended, or a read failed, they are no whole messages after which it has begun
+-- a reader's messages were served over a stack as a stream that begins in this session; if they
+-- ended, or a read failed, they are no complete messages after which it has begun
 pub record HasServedBefore {A : Type 0} (first : Session) (by : Sourced) (within : Bounds)
     (t : Trace) (result : Result (Done A) Stop) : Type 0 where
   pub run : IsRunWithin first by within t result
   pub ended : (done : Done A) → result ≡ Ok done → HasNotBegun (answering_from first by) t.got
   pub failed : result ≡ Err Read → HasNotBegun (answering_from first by) t.got
 
--- these messages were read, whole, and what was put begins the replies to them
+-- these complete messages were read, and what was put begins the replies to them
 pub record IsAnswered (by : Answering) (messages : List (List ℕ)) (t : Trace) : Type 0 where
   pub rest : List ℕ
   pub split : IsSplit t.got messages rest
@@ -65,7 +65,7 @@ abbrev pub sum_at : {A : Type 0} → ℕ → List (Done A) → ℤ
 sum_at place [] = pos 0
 sum_at place (done ∷ more) = balance_at done.balances.items place +ℤ sum_at place more
 
--- each of these streams left what its messages moved, of so many of the first nodes
+-- each of these streams left what its messages moved, of this many of the first nodes
 abbrev pub CameOf : {A : Type 0} → Answering → ℕ → List (Done A) → List (List (List ℕ)) → Type 0
 CameOf by nodes [] [] = ⊤
 CameOf by nodes (done ∷ more) (messages ∷ others) =

@@ -28,8 +28,8 @@ pub record IsGoneByFailure {A : Type 0} (seat : SeatState A) : Type 0 where
   pub input : IsTrue seat.ends.input_gone → 0 < (devices_of seat).source.counts.failures
   pub output : IsTrue seat.ends.output_gone → 0 < (devices_of seat).sink.counts.failures
 
--- a reader served what its devices brought: what it came to stands so between them as they were and
--- are, and its seat holds it
+-- a reader served what its devices brought: its result holds between them as they were and are, and
+-- its seat has it
 pub record HasDone {A : Type 0} (is : Result (Done A) Stop → Devices → Devices → Type 0)
     (old new : SeatState A) : Type 0 where
   pub result : Result (Done A) Stop
@@ -43,7 +43,7 @@ abbrev pub HasServed : {A : Type 0} → Session → Sourced → Bounds → SeatS
     → Type 0
 HasServed first by within old new = HasDone (RunsWithin first by within) old new
 
--- a reader served over a stack until its session had begun, if it had; else to the end of its
+-- a reader served over a stack until its session had begun, if it did; else to the end of its
 -- stream, or until it stopped
 abbrev pub HasOpened : {A : Type 0} → Session → Shared → SeatState A → SeatState A
     → Option (Begun A) → Type 0
@@ -53,8 +53,8 @@ HasOpened first over old new (Some begun) =
 HasOpened first over old new None =
     HasDone (λ result. Does (λ t. IsNotOpenedOver first over.by over.within t result)) old new
 
--- the reader of the first seat served until the session had begun, and this came of it; from then
--- on all of them served, each between its own devices, in streams that begin in that session
+-- the reader of the first seat served until the session had begun, with this result; from then on
+-- all of them served, each between its own devices, in streams that begin in that session
 pub record AreServedByAll {A : Type 0} (first : Session) (by : Sourced) (within : Bounds)
     (old new : List (SeatState A)) (before : Done A) : Type 0 where
   pub leader : SeatState A
@@ -66,7 +66,7 @@ pub record AreServedByAll {A : Type 0} (first : Session) (by : Sourced) (within 
   pub opened : HasOpened first (shared by within) leader began (Some begun)
   pub each : AllZip (HasServed begun.session by within) (began ∷ others) new
 
--- the reader of the first seat served alone, and the session had not begun where it ended
+-- the reader of the first seat served alone, and ended before the session had begun
 pub record IsServedByOne {A : Type 0} (first : Session) (by : Sourced) (within : Bounds)
     (old new : List (SeatState A)) : Type 0 where
   pub leader : SeatState A
@@ -76,8 +76,8 @@ pub record IsServedByOne {A : Type 0} (first : Session) (by : Sourced) (within :
   pub new_is : new ≡ ended ∷ others
   pub opened : HasOpened first (shared by within) leader ended None
 
--- readers served a stack and its sources, behind what came before their session; or one alone,
--- which ended before the session had begun
+-- readers served a stack and its sources, after what came before their session; or only one, which
+-- ended before the session had begun
 abbrev pub AreServedBy : {A : Type 0} → Session → Shared → List (SeatState A)
     → List (SeatState A) → Option (Done A) → Type 0
 AreServedBy first over old new (Some before) =

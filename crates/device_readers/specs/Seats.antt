@@ -1,4 +1,4 @@
--- The readers of one open /dev/fuse: what a contract sees of where each of them stands.
+-- The readers of one open /dev/fuse: what a contract sees of each seat.
 use Rattle.std.specs.Prelude.{◌≡◌, ℕ, false, List, [], ◌∷◌, ◌++◌, Option, None, Result}
 use Rattle.std.specs.List.{AllByRecursion}
 use Rattle.devices.specs.Counting.{no_pulls, no_pushes}
@@ -11,7 +11,7 @@ use Rattle.device_readers.specs.declared.ends.End.TheVariants.{AtEnd}
 use Rattle.device_readers.specs.declared.seat.Seat.{Seat}
 use Rattle.device_readers.specs.Ends.{done_of, end_of, first_told}
 
--- the two ends of the mount as a reader has them, and what its stream came to, if it served one
+-- the two ends of the mount as a reader has them, and the result of its stream, if it served one
 pub record SeatState (A : Type 0) : Type 0 where
   pub ends : MountEnds
   pub result : Option (Result (Done A) Stop)
@@ -25,7 +25,7 @@ seat_of remaining seat =
 abbrev pub devices_of : {A : Type 0} → SeatState A → Devices
 devices_of seat = seat.ends.devices
 
--- of a reader that has not begun, where this is left to read
+-- of a reader that has not begun, with this left to read
 abbrev pub new_seat : {A : Type 0} → Option (List ℕ) → SeatState A
 new_seat left = record {
   ends = record {
@@ -44,12 +44,12 @@ AreNew {A} seats = AllByRecursion (λ seat. (left : Option (List ℕ)) × (seat 
 abbrev pub own_end : {A : Type 0} → SeatState A → End
 own_end seat = end_of seat.result seat.ends.input_gone seat.ends.output_gone
 
--- the end that is told of readers
+-- the end that is reported for readers
 abbrev pub end_of_all : {A : Type 0} → List (SeatState A) → End
 end_of_all [] = AtEnd
 end_of_all (seat ∷ seats) = first_told (own_end seat) (end_of_all seats)
 
--- what their streams came to that were served to their end
+-- the results of those streams that were served to their end
 abbrev pub done_of_all : {A : Type 0} → List (SeatState A) → List (Done A)
 done_of_all [] = []
 done_of_all (seat ∷ seats) = done_of seat.result ++ done_of_all seats

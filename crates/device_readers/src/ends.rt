@@ -8,16 +8,16 @@ use serve_core::Stop;
 /// How a reader ended, or several together.
 #[derive(Clone, Copy, PartialEq, Eq)]
 pub enum End {
-    /// Its stream came to its end, or none was served.
+    /// Its stream ended, or none was served.
     AtEnd,
-    /// The mount was taken away.
+    /// The file system was unmounted.
     TakenAway,
     /// It stopped for this.
     Stopped(Stop),
 }
 
-// The end of a reader that stopped: the mount was taken away where a read failed and its side is
-// gone, or a write failed and one side is.
+// The end of a reader that stopped: an unmount if a read failed and its side is gone, or if a write
+// failed and either side is.
 pub(crate) fn end_of_stop(stop: Stop, input_gone: bool, output_gone: bool) -> End
     ensures { result ≡ end_of_stop stop input_gone output_gone }
 {
@@ -33,7 +33,7 @@ pub(crate) fn end_of_stop(stop: Stop, input_gone: bool, output_gone: bool) -> En
     }
 }
 
-// Of two ends the one that is told.
+// The one of two ends that is reported.
 pub(crate) fn first_told(low: End, high: End) -> End
     ensures { result ≡ first_told low high }
 {
@@ -44,7 +44,7 @@ pub(crate) fn first_told(low: End, high: End) -> End
     }
 }
 
-// Where an end stands in the order in which ends are told.
+// The rank of an end in the order of reporting.
 fn place_of_end(end: End) -> u8
     ensures { result ≡ place_of_end end }
 {
@@ -55,7 +55,7 @@ fn place_of_end(end: End) -> u8
     }
 }
 
-// Where a fault stands in the table of faults and their exit statuses.
+// The rank of a fault in the table of faults and exit statuses.
 fn place_of(stop: Stop) -> u8
     ensures { result ≡ place_of stop }
 {

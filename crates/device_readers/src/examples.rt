@@ -1,13 +1,13 @@
-//! Worked examples: ends, and which of two is told.
+//! Worked examples: ends, and which of two is reported.
 
 ghost use Rattle.device_readers.specs.Examples.{GoneExamples, OrderExamples};
 
-/// Faults stand before a mount that was taken away, and in the order of their table.
+/// Faults rank before an unmount, in the order of their table.
 pub fn order_example()
     ensures { OrderExamples }
 {}
 
-/// When a failure says that the mount was taken away.
+/// When a failure means an unmount.
 pub fn gone_example()
     ensures { GoneExamples }
 {}

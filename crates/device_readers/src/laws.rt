@@ -18,16 +18,16 @@ ghost use Rattle.device_readers.specs.Laws.{CameOf, HasReader, HasServedBefore, 
 
 use std::alloc::Allocator;
 
-/// The end that is told is that of one of the readers, if it is no end without a fault, and no
-/// reader's end is told before it.
+/// The reported end is the end of some reader, unless it is an end without a fault, and no reader's
+/// end ranks before it.
 pub fn first_fault_is_told<A: Allocator>()
     ensures first { (seats : List (SeatState A)) → IsToldFirst (end_of_all seats) seats }
     ensures one { (seats : List (SeatState A)) →
         (end_of_all seats ≡ AtEnd) ⊎ HasReader (end_of_all seats) seats }
 {}
 
-/// Where something came of the stream before the session, it had begun, in the stream of the first
-/// reader. All of them served in it from then on, each between its own devices.
+/// If the stream before the session has a result, the session began in the stream of the first
+/// reader. From then on all readers served in it, each between its own devices.
 pub fn readers_go_on_in_the_session<A: Allocator>()
     ensures { (first : Session) (over : Sourced) (within : Bounds)
         (old new : List (SeatState A)) (before : Done A) →
@@ -37,8 +37,8 @@ pub fn readers_go_on_in_the_session<A: Allocator>()
         × AllZip (HasServed session over within) (began ∷ others) new }
 {}
 
-/// Where nothing came, the first reader served alone: where its stream ended or a read failed, what
-/// it got is no whole messages after which the session has begun. No other has begun.
+/// If it has none, the first reader served alone: if its stream ended or a read failed, the
+/// messages that it got did not begin a session. No other reader began.
 pub fn one_ends_before_the_session<A: Allocator>()
     ensures { (first : Session) (over : Sourced) (within : Bounds)
         (old new : List (SeatState A)) → AreServedBy first (shared over within) old new None →
@@ -47,10 +47,10 @@ pub fn one_ends_before_the_session<A: Allocator>()
         × HasDone (λ result. Does (λ t. HasServedBefore first over within t result)) leader ended }
 {}
 
-/// Each reader read messages of its own, and what it put begins the replies to them. What the
-/// messages of all readers move is, of each node, what one stream of all of them moves, in whatever
-/// order, where none of them changes the session. Streams that end leave just what their messages
-/// moved, of the nodes whose lookups they count.
+/// Each reader read messages of its own, and put a beginning of the replies to them. For each node,
+/// the messages of all readers move what one stream of them moves, in any order, if none changes
+/// the session. Streams that end leave just what their messages moved, of the nodes whose lookups
+/// they count.
 #[tactic(auto, using(crate::proofs::Sums::summed))]
 pub fn moves_are_summed<A: Allocator>()
     ensures read { (session : Session) (over : Sourced) (within : Bounds)

@@ -1,12 +1,12 @@
 //! One open `/dev/fuse`, served by several readers over one table and the files of its layers.
 //!
-//! Each reader has a [`Seat`]: the two devices that it reads messages from and writes replies to,
-//! both over the one descriptor. [`serve_by_readers`] begins with the reader of the first seat,
-//! which serves until INIT is answered. The others begin in the session that it leaves: each in a
-//! thread of its own, by a `run_from` of its own over the same table and files. The kernel
-//! gives each message to one read; no contract says so. Readers share nothing but what they borrow,
-//! and wait for nothing but, at last, for one another. Each seat then holds what its reader came
-//! to, and [`end_of_all`] is the [`End`] that is told of all of them. [`laws`] say what that means.
+//! Each reader has a [`Seat`]: the two devices for its messages and replies, both over the one
+//! descriptor. [`serve_by_readers`] begins with the reader of the first seat, which serves until
+//! INIT is answered. The others begin in the session that it leaves: each in a thread of its own,
+//! by a `run_from` of its own over the same table and files. The kernel gives each message to one
+//! read; no contract says so. Readers share only what they borrow, and wait only for one another at
+//! the end. Each seat then holds the result of its reader, and [`end_of_all`] is the [`End`] that
+//! is reported for all. [`laws`] say what that means.
 #![tactic(auto)]
 
 pub mod ends;

@@ -18,16 +18,16 @@ use serve_core::{Begun, Done, Gate, Served, SharedAllocator, Terms};
 use std::io::{Read, Write};
 use std::thread::{Threads, for_each_mut};
 
-/// Serves the requests of an open `/dev/fuse` over a table and its files by the readers of these
-/// seats, on these terms, and waits until all have ended. Each seat then holds what its reader came
-/// to. Each reader counts lookups for itself, as the terms say.
+/// Serves the requests of an open `/dev/fuse` over a table and its files with the readers in these
+/// seats, on these terms, and waits until all have ended. Each seat then holds the result of its
+/// reader. Each reader counts lookups for itself, as the terms say.
 ///
 /// The reader of the first seat serves alone until the session has begun. Then the others begin in
-/// that session, and each answers what it reads as [`serve_core::run_from`] does, with buffers
-/// and balances of its own. One that ends, or stops for a fault or for want of memory, ends alone:
-/// the others serve on. Where no thread can be started for a reader, it begins once another has
-/// ended. What came before the session of all is the result; where the first reader ended before
-/// that there is none, and no other has begun.
+/// that session, and each answers what it reads as [`serve_core::run_from`] does, with buffers and
+/// balances of its own. One that ends, or stops for a fault or lack of memory, ends alone: the
+/// others continue. If no thread can be started for a reader, it begins once another has ended. The
+/// result is that of the stream before the session; if the first reader ended before that, there is
+/// none, and no other has begun.
 pub fn serve_by_readers<
     R: Threads + Sync,
     A: SharedAllocator,
@@ -89,9 +89,9 @@ fn serve_together<
     for_each_mut(rt, seats, readers, &serve);
 }
 
-/// The end that is told of the readers of these seats: a fault, if one of them has one; of several
-/// the first in the table of faults and exit statuses, and of these that of the first reader. Else
-/// that the mount was taken away, if one of them has met that.
+/// The end that is reported for the readers in these seats: a fault, if any has one, the first in
+/// the table of faults and exit statuses, and of equal ones that of the first reader. Otherwise an
+/// unmount, if any has met that.
 pub fn end_of_all<I: Read + Drop, O: Write + Drop, A: SharedAllocator>(
     seats: &[Seat<I, O, A>],
 ) -> End

@@ -17,19 +17,18 @@ use std::alloc::{AllocError, Allocator};
 use std::io::{Read, Write};
 use std::thread::Threads;
 
-/// Where one reader stands: the devices that it reads messages from and writes replies to, and what
-/// it came to.
+/// The place of one reader: the devices for its messages and replies, and its result.
 #[derive(Drop)]
 pub struct Seat<I, O, A: Allocator> {
     input: MessageTap<I, A>,
     output: ReplySpout<O>,
-    /// What its stream came to, once it was served to its end or stopped.
+    /// The result of its stream, once it ended or stopped.
     pub result: Option<Result<Done<A>, Stop>>,
 }
 
 impl<I: Read + Drop, O: Write + Drop, A: SharedAllocator> Seat<I, O, A> {
-    /// A seat whose reader has not begun, with a room of 135,168 bytes for messages. Where memory
-    /// for the room is refused it is `AllocError`, and nothing was read.
+    /// A seat whose reader has not begun, with a room of 135,168 bytes for messages. `AllocError`
+    /// if memory for the room is refused; nothing was read then.
     pub fn new(alloc: A, reader: I, writer: O) -> Result<Self, AllocError>
         ensures { IfOk result (λ seat.
             seat_of I.remaining seat ≡ new_seat (I.remaining reader)) }
@@ -94,8 +93,8 @@ impl<I: Read + Drop, O: Write + Drop, A: SharedAllocator> Seat<I, O, A> {
     }
 }
 
-/// Seats of so many readers that have not begun, all over the same reader and writer. Where memory
-/// is refused for one it is `AllocError`, and nothing was read.
+/// Seats for this many readers that have not begun, all over the same reader and writer.
+/// `AllocError` if memory is refused for one; nothing was read then.
 pub fn seats_over<I: Read + Copy + Drop, O: Write + Copy + Drop, A: SharedAllocator>(
     alloc: A,
     readers: u32,

@@ -3,12 +3,12 @@ use Rattle.std.specs.Prelude.{ℕ, List, Option}
 use Rattle.devices.specs.declared.counts.Pulls.{Pulls}
 use Rattle.devices.specs.declared.counts.Pushes.{Pushes}
 
--- of a source: the bytes that it has left, where they are known, and its counts
+-- of a source: its remaining bytes, if they are known, and its counts
 pub record SourceState : Type 0 where
   pub left : Option (List ℕ)
   pub counts : Pulls
 
--- of a sink: the bytes that it holds, where they are known, and its counts
+-- of a sink: the bytes that it holds, if they are known, and its counts
 pub record SinkState : Type 0 where
   pub held : Option (List ℕ)
   pub counts : Pushes

@@ -26,7 +26,7 @@ pub struct Listening<'a> {
 }
 
 impl<'a> Listening<'a> {
-    /// The clients of this listener, of which none was given so far.
+    /// The clients of this listener, none given so far.
     pub fn new(listener: &'a UnixListener) -> Listening<'a>
         ensures { ⟦<Listening<'a> as Clients>⟧.counts result ≡ no_accepts }
     {

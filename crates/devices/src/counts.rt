@@ -10,7 +10,7 @@ use std::io::Write;
 /// What a pull was.
 #[derive(Clone, Copy)]
 pub enum LastPull {
-    /// It gave so many bytes, at least one.
+    /// It gave this many bytes, at least one.
     Bytes(u64),
     /// It met the end of the stream.
     End,

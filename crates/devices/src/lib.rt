@@ -10,7 +10,7 @@
 //! - [`limits`] has the most bytes of a pull, and the most pulls.
 //!
 //! What a call changes is said in `specs/Counting`, one function a call: a count stays at 2^64 - 1.
-//! No call takes memory beyond what the reader or writer takes. The crate stands on std alone.
+//! No call takes memory beyond what the reader or writer takes. The crate uses only std.
 #![tactic(auto)]
 
 mod clients;

@@ -4,6 +4,6 @@
 /// The most bytes of one pull from a source: 64 KiB.
 pub const PULL_SIZE: usize = 65_536;
 
-/// The most pulls of one stream, so that all its bytes are counted in 64 bits, and of one file that
-/// is read whole.
+/// The most pulls of one stream, whose bytes are then counted in 64 bits, and of one file that is
+/// read in full.
 pub const MAX_TURNS: u64 = 1 << 40;

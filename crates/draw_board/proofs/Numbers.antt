@@ -1,5 +1,5 @@
--- The numbers among positions, and the history of a counter. `all_numbers` says which numbers so
--- many draws give, and `both_numbers` that of two hands none is lost.
+-- The numbers among positions, and the history of a counter. `all_numbers` says which numbers this many draws give, and `both_numbers` that
+-- of two hands none is lost.
 use Rattle.std.proofs.Common.{◌≡◌, ℕ, zero, suc, ◌+◌, ◌<◌, ◌≤◌, cond, Bool, true, false, ltb, List, [], ◌∷◌, ◌++◌, refl, sym, ap, ◌∙◌, arith, lt-ltb, le-ltb, sum_by}
 use Rattle.std.specs.List.{range_with_len}
 use Rattle.std.proofs.lemmas.List.FromFn.{map-range_with_len_more}

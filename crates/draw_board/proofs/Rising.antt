@@ -1,6 +1,5 @@
--- Rising lists: what stands in them, and how two are merged. The main lemmas are `rises-whole`,
--- that a rising list that fills its range is the range, and `unites`, that a merged list which
--- rises is of two lists with no position in common.
+-- Rising lists: their elements, and how two are merged. The main lemmas are `rises-whole`, that a rising list that fills its range is the
+-- range, and `unites`, that a merged list which rises comes from two lists with no position in common.
 use Rattle.std.proofs.Common.{◌≡◌, ℕ, suc, ◌+◌, ◌<◌, ◌≤◌, ◌≢◌, cond, eqb, List, [], ◌∷◌, ◌++◌, length, sym, refl, ap, ◌∙◌, subst, arith, length-append, eq-eqb, ne_eqb, lt-ltb, le-ltb, lt_of_not-le}
 use mathlib.Core.Logic.{dite}
 use native.Mathlib.Decide.{ℕ_discrete, dec_le}

@@ -1,6 +1,5 @@
--- Each step keeps the rule: `draws`, `announces`, `looks`, `splits` and `joins`. They go by `moved`
--- and `unmoved`, which put a new view in a seat and ask what it does to the sums of all views.
--- `closes` is what the rule says at the end.
+-- Each step keeps the rule: `draws`, `announces`, `looks`, `splits` and `joins`. They use `moved` and `unmoved`, which put a new view in a
+-- seat and compute the sums of all views. `closes` is what the rule says at the end.
 use Rattle.std.proofs.Common.{◌≡◌, ℕ, ◌+◌, ◌-◌, ◌%◌, ◌^◌, ◌<◌, ◌≤◌, ◌≢◌, ◌⊎◌, cond, eqb, max, List, [], ◌∷◌, ◌++◌, length, get_or, set, sym, refl, ap, ◌∙◌, subst, inl, inr, ⊎_elim, arith, length-set, length-append, get_or-set_same, lt-ltb, le-ltb, lt_of_not-le, sum_by}
 use mathlib.Core.Logic.{dite}
 use mathlib.Core.Option.{none, some, some-injective, some-ne-none}
@@ -30,7 +29,7 @@ shared v = v.share
 abbrev misses : View → ℕ
 misses v = v.left
 
--- after a draw at p the view has so many misses left: as many where p is a number, else one less
+-- after a draw at p the view has this many misses left: as many where p is a number, else one less
 abbrev IsCharged : View → ℕ → Type 0
 IsCharged v p = ((p < v.total) × ((after_draw v p).left ≡ v.left)) ⊎ ((v.total ≤ p) × ((after_draw v p).left + 1 ≡ v.left))
 
@@ -78,7 +77,7 @@ moved key s r n id me w h fits once all_drawn all_shares bounded = let wide = r.
       bounded = subst (λ (z : ℕ). z + sum_by misses (set s.views id w) ≤ key.0 + key.1) (sym now) bounded;
     }
 
--- a hand with a miss left may draw, which keeps the rule and tells a position that it had not seen
+-- a hand with a miss left may draw, which keeps the rule and gives a position that is new to it
 pub draws : (key : Key) (slots id : ℕ) (me : Seated) → 1 ≤ me.0.left → 1 ≤ me.0.share
     → Allows (IsSoundBoard key) slots id me 0 (λ n. (n + 1) % 2 ^ 64) (drew (step slots 0 1 0 none) me)
 draws key slots id me some_left live s r _ at small = (

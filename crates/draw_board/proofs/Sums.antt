@@ -1,5 +1,5 @@
--- Sums over the elements of a list, of which one changes or is all. `sum_by-set` is the change;
--- `all_here` is its counterpart for a sum that stands at one place.
+-- Sums over the elements of a list, of which one changes or is all. `sum_by-set` is the change; `all_here` is its counterpart for a sum at
+-- one place.
 use Rattle.std.proofs.Common.{◌≡◌, ℕ, zero, suc, ◌+◌, ◌≤◌, List, [], ◌∷◌, sum_by, set, sym, refl, ap, arith}
 use mathlib.Core.Option.{some, some-injective, some-ne-none}
 use lib.ListN.{get_elem?}

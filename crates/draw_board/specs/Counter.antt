@@ -7,7 +7,7 @@ pub record Drawn : Type 0 where
   pub position : ℕ
   pub answer : Option ℕ
 
--- a draw answers its position where that is a number below the total, and from the total on nothing
+-- a draw returns its position if that is a number below the total, and from the total on nothing
 abbrev pub draw_answer : ℕ → ℕ → Option ℕ
 draw_answer total position = if nat_lt position total then Some position else None
 

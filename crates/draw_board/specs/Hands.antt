@@ -1,4 +1,4 @@
--- What is said of a board and its hands, and what a call changes.
+-- A board and its hands, and what a call changes.
 use Rattle.std.specs.Prelude.{◌≡◌, ℕ, ◌+◌, ◌-◌, ◌<◌, ◌≤◌, max, List, [], ◌∷◌, ◌++◌, Option, MatchOption, map}
 use Rattle.atomic_table.specs.Seated.{TableId}
 use Rattle.draw_board.specs.declared.hand.Hand.{Hand}
@@ -30,11 +30,11 @@ left hand = hand.misses
 abbrev pub share : Hand → ℕ
 share hand = hand.seat.me.0.share
 
--- the hand has seen that each position below this one was drawn
+-- the hand knows that each position below this one was drawn
 abbrev pub seen_below : Hand → ℕ
 seen_below hand = hand.seat.me.0.seen
 
--- the hand is of the board with this word, total and misses
+-- the hand belongs to the board with this word, total and misses
 pub record IsOf (word : TableId) (key : Key) (hand : Hand) : Type 0 where
   pub of_word : hand.seat.table_id ≡ word
   pub told : (hand.seat.me.0.total ≡ key.0) × (hand.seat.me.0.misses ≡ key.1)
@@ -51,7 +51,7 @@ IsHandOf board hand = IsOf board.table.shared.table_id board.table.shared.key ha
 abbrev pub IsBoard : {A : Type 0} → Board A → ℕ → ℕ → Type 0
 IsBoard board total misses = (total_of board ≡ total) × (misses_of board ≡ misses)
 
--- a board's first hand has all misses, no position, and nothing seen
+-- a board's first hand has all misses, no position, and knows nothing
 pub record IsFirstHand {A : Type 0} (board : Board A) (hand : Hand) : Type 0 where
   pub of_board : IsHandOf board hand
   pub left : left hand ≡ misses_of board
@@ -68,7 +68,7 @@ abbrev pub GivesBack : Hand → Hand → Type 0
 GivesBack lent back =
     IsOf lent.seat.table_id (known_key lent.seat.me.0) back × (share back ≡ share lent)
 
--- a draw of the counter, at a position that the hand had not seen, is added to the hand's
+-- a draw of the counter, at a position new to the hand, is added to the hand's
 pub record TakesDraw (total : ℕ) (old new : Hand) (answer : Option ℕ) : Type 0 where
   pub position : ℕ
   pub answered : answer ≡ draw_answer total position
@@ -85,8 +85,8 @@ SpendsMissAtNone old new answer =
 abbrev pub TakesNumber : ℕ → Hand → Hand → ℕ → Type 0
 TakesNumber total old new number = (number < total) × (positions new ≡ positions old ++ number ∷ [])
 
--- some misses go from the giver, which keeps some, to another hand, which has drawn nothing,
--- and has seen what the giver had
+-- some misses go from the giver, which keeps some, to another hand, which has drawn nothing, and
+-- knows what the giver knew
 pub record MovesMisses {A : Type 0} (board : Board A) (old new other : Hand)
     (misses : ℕ) : Type 0 where
   pub some_moved : 0 < misses
@@ -102,7 +102,7 @@ pub record MovesMisses {A : Type 0} (board : Board A) (old new other : Hand)
   pub other_positions : positions other ≡ []
   pub other_seen : seen_below other ≡ seen_below old
 
--- the hand has the misses of both, and has seen what both had
+-- the hand has the misses of both, and knows what both knew
 pub record TakesIn {A : Type 0} (board : Board A) (old other new : Hand) : Type 0 where
   pub of_board : IsHandOf board new
   pub left : left new ≡ left old + left other

@@ -2,7 +2,7 @@
 use Rattle.std.specs.Prelude.{ℕ, suc, ◌+◌, ◌≤◌, List, [], ◌∷◌, ◌++◌, if◌then◌else◌, ◌==◌, nat_lt, count_by, filter}
 use Rattle.std.specs.List.Sorted.{IsPermutation}
 
--- how often a position stands in the list
+-- how often a position occurs in the list
 abbrev pub times : ℕ → List ℕ → ℕ
 times position positions = count_by (λ other. other == position) positions
 

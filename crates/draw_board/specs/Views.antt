@@ -1,4 +1,4 @@
--- What hands know, the rule that holds between any two steps, and what each step changes and tells.
+-- What hands know, the rule that holds between any two steps, and what each step changes and gives.
 use Rattle.std.specs.Prelude.{◌≡◌, ℕ, suc, ◌+◌, ◌-◌, ◌^◌, ◌<◌, ◌≤◌, max, List, [], ◌∷◌, ◌++◌, length, slice_index, if◌then◌else◌, nat_lt, sum_by}
 use mathlib.Core.Option.{some}
 use lib.ListN.{get_elem?}
@@ -18,13 +18,13 @@ Table = State (Unit {0}) View
 abbrev pub Seated : Type 0
 Seated = Me (Unit {0}) View
 
--- a view by itself: its positions rise below what it has seen; after a miss it has seen the total
+-- a view by itself: its positions rise below what it knows; after a miss it knows the total
 pub record IsSoundView (v : View) : Type 0 where
   pub rises : RisesWithin 0 v.positions v.seen
   pub within_share : v.left ≤ v.share
   pub missed : v.left < v.share → v.total ≤ v.seen
 
--- a view beside its board: nothing at or above the word was seen; without a share it is spent
+-- a view beside its board: nothing at or above the word is known; without a share it is spent
 pub record FitsBoard (key : Key) (word : ℕ) (v : View) : Type 0 where
   pub sound : IsSoundView v
   pub passed : v.seen ≤ word
@@ -58,11 +58,11 @@ view key positions left share seen asked = record {
   asked = asked;
 }
 
--- the first view: no position, all misses, nothing seen
+-- the first view: no position, all misses, nothing known
 abbrev pub first_view : Key → View
 first_view key = view key [] key.1 key.1 0 0
 
--- after a draw at position p: a miss, where p is no number, costs one
+-- after a draw at position p: a miss (p is no number) costs one
 abbrev pub after_draw : View → ℕ → View
 after_draw v p = view (known_key v) (v.positions ++ p ∷ []) left v.share (suc p) v.asked
   where
@@ -73,7 +73,7 @@ after_draw v p = view (known_key v) (v.positions ++ p ∷ []) left v.share (suc 
 abbrev pub giver_view : View → View
 giver_view v = view (known_key v) v.positions (v.left - v.asked) (v.share - v.asked) v.seen v.asked
 
--- the new one has no position, has seen what the giver had, and has announced nothing
+-- the new one has no position, knows what the giver knew, and has announced nothing
 abbrev pub given_view : View → View
 given_view v = view (known_key v) [] v.asked v.asked v.seen 0
 
@@ -87,7 +87,7 @@ joined_view v w =
 abbrev pub spent_view : View
 spent_view = view (0, 0) [] 0 0 0 0
 
--- a draw tells that its position had not been seen
+-- a draw shows that its position was new
 abbrev pub drew : Step (Unit {0}) → Seated → ℕ → Seated → Type 0
 drew _ before p after =
     (after ≡ (after_draw before.0 p, before.1)) × (before.0.seen ≤ p) × IsSoundView after.0
@@ -96,6 +96,6 @@ drew _ before p after =
 abbrev pub announced : Step (Unit {0}) → Seated → ℕ → Seated → Type 0
 announced step before _ after = after ≡ (record before.0 { asked = step.first }, before.1)
 
--- a look changes nothing, and tells what the rule says of the view
+-- a look changes nothing, and gives what the rule says about the view
 abbrev pub looked : Step (Unit {0}) → Seated → ℕ → Seated → Type 0
 looked _ before _ after = (after ≡ before) × IsSoundView after.0 × (after.0.share ≤ after.0.misses)

@@ -1,7 +1,7 @@
 //! The shared word, and what hands do with it.
 //!
 //! The word counts the draws that took a step. So a draw's *position* is what it found there: a
-//! number where that is below the total, and else a *miss*. A hand has a number of misses to spend,
+//! number if that is below the total, otherwise a *miss*. A hand has a number of misses to spend,
 //! and draws no more once it has none left; the misses of all hands, set at the start, keep the
 //! word from wrapping. A hand's *share* is its misses left and spent, so the hand with all shares
 //! is the only one, and may close the board: its draws are then one history of a counter that one
@@ -45,11 +45,10 @@ impl<A: Allocator> Board<A> {
     ghost use Rattle.draw_board.specs.Hands.{total_of, misses_of, draws, left, positions, seen_below, share, IsBoard, IsFirstHand, IsHandOf, KeepsShare, MovesMisses, SpendsMissAtNone, TakesDraw, TakesIn, TakesNumber};
 
     /// Starts a board with the numbers below `total`, and its first hand with all of its `misses`.
-    /// A board of no numbers is fine; a hand with no miss could never be told that all numbers are
+    /// A board of no numbers is fine; a hand with no miss could never learn that all numbers are
     /// drawn.
     ///
-    /// `AllocError` where there is no memory for the word; no other call on a board asks for
-    /// memory.
+    /// `AllocError` if there is no memory for the word; no other call on a board asks for memory.
     pub fn start(alloc: A, total: u32, misses: u32) -> Result<(Board<A>, Hand), AllocError>
         requires { 1 ≤ misses }
         ensures board { IfOk result (λ made. IsBoard made.0 total misses) }
@@ -59,20 +58,19 @@ impl<A: Allocator> Board<A> {
         Ok((Board { table, total }, Hand { seat, misses }))
     }
 
-    /// Draws the next number, in one atomic step. `None` where all numbers are drawn already, which
-    /// costs the hand one miss; a hand that has no miss left answers it without a step, and stays
-    /// as it is.
+    /// Draws the next number, in one atomic step. `None` if all numbers are drawn already, which
+    /// costs the hand one miss; a hand with no miss left returns it without a step, unchanged.
     ///
     /// It takes no lock and no memory, and waits for nobody. Many threads may draw at a time, each
     /// with a hand of its own.
     pub fn draw(&self, hand: &mut Hand) -> Option<u32>
         requires { IsHandOf self.now hand.old }
 
-        // Each step is a draw of one counter, at a position that the hand had not seen.
+        // Each step is a draw of one counter, at a position new to the hand.
         ensures step { 0 < left hand.old → TakesDraw (total_of self.now) hand.old hand.new result }
         ensures number { IfSome result (TakesNumber (total_of self.now) hand.old hand.new) }
 
-        // Nothing is answered only where the hand has seen that all numbers were drawn.
+        // None is returned only if the hand knows that all numbers were drawn.
         ensures drawn { IfNone result (total_of self.now ≤ seen_below hand.new) }
         ensures misses { 0 < left hand.old → SpendsMissAtNone hand.old hand.new result }
         ensures no_miss { left hand.old ≡ 0 → (result ≡ None) × (hand.new ≡ hand.old) }
@@ -90,10 +88,10 @@ impl<A: Allocator> Board<A> {
         }
     }
 
-    /// Gives so many of the hand's misses to a new hand, which has drawn nothing, and has seen what
-    /// the giver has.
+    /// Gives this many of the hand's misses to a new hand, which has drawn nothing and knows what
+    /// the giver knows.
     ///
-    /// [`Few`] where `misses` is 0, or where the giver would keep none; the hand is then as before.
+    /// [`Few`] if `misses` is 0 or the giver would keep none; the hand is then unchanged.
     pub fn split(&self, hand: &mut Hand, misses: u32) -> Result<Hand, Few>
         requires { IsHandOf self.now hand.old }
         ensures few { IsErr result ↔ ((misses ≡ 0) ⊎ (left hand.old ≤ misses)) }
@@ -110,7 +108,7 @@ impl<A: Allocator> Board<A> {
         Ok(Hand { seat, misses })
     }
 
-    /// Takes another hand in: its draws, its misses, and what it has seen.
+    /// Takes over another hand: its draws, its misses, and what it knows.
     pub fn rejoin(&self, hand: &mut Hand, other: Hand)
         requires { IsHandOf self.now hand.old × IsHandOf self.now other }
         ensures positions { Unites (positions hand.old) (positions other) (positions hand.new) }

@@ -3,14 +3,14 @@
 use crate::view::View;
 use atomic_table::Seat;
 
-/// The right to draw from one board, for one thread at a time: the draws that it made, in proofs
-/// alone, and the number of misses that it has left.
+/// The right to draw from one board, for one thread at a time: its draws so far, in proofs alone,
+/// and the number of misses left.
 #[derive(Drop)]
 pub struct Hand {
     pub(crate) seat: Seat<(), View>,
     pub(crate) misses: u32,
 }
 
-/// The hand has too few misses to give so many away and keep one.
+/// The hand has too few misses to give this many and keep one.
 #[derive(Clone, Copy, Debug, PartialEq, Eq)]
 pub struct Few;

@@ -4,9 +4,8 @@
 //! a [`Hand`] of its own until nothing is left. That no number is drawn twice, and none left out,
 //! is promised; which hand draws which, and that a thread gets on, is not. `specs/Hands.antt` says
 //! what a call changes, `specs/Views.antt` the rule that holds between any two steps, [`laws`] what
-//! callers may want of them. A draw costs one `fetch_add`; no call takes a lock or waits for
-//! another thread, and only [`Board::start`] takes memory. The crate stands on `atomic_table`
-//! alone.
+//! follows for callers. A draw costs one `fetch_add`; no call takes a lock or waits for another
+//! thread, and only [`Board::start`] takes memory. The crate uses only `atomic_table`.
 #![tactic(auto)]
 
 mod board;

@@ -3,7 +3,7 @@
 use crate::view::View;
 use atomic_table::{Join, Play, Split, TableRule};
 
-// The rule that holds between any two steps. It is told the board's total and misses.
+// The rule that holds between any two steps. It depends on the board's total and misses.
 pub(crate) struct Drawing;
 
 impl TableRule<(), View, (u32, u32)> for Drawing {
@@ -33,7 +33,7 @@ impl Play<(), View> for Announce {
     ghost then = { announced };
 }
 
-// A look: a step that changes nothing, and tells what the rule says of the hand's view.
+// A look: a step that changes nothing, and gives what the rule says about the hand's view.
 pub(crate) struct Look;
 
 impl Play<(), View> for Look {
@@ -53,7 +53,7 @@ impl Split<View> for Part {
     ghost right = { given_view };
 }
 
-// A rejoin: one view has what both had.
+// A rejoin: one view of what both views had.
 pub(crate) struct Rejoin;
 
 impl Join<View> for Rejoin {

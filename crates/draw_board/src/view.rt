@@ -1,4 +1,4 @@
-//! What a hand knows, as data that stands in proofs alone.
+//! What a hand knows, as data in proofs alone.
 
 ghost use Rattle.std.specs.Prelude.{ℕ, List};
 
@@ -12,9 +12,9 @@ pub(crate) struct View {
     pub ghost left: { ℕ },
     /// The misses that it has left, and those that it has spent.
     pub ghost share: { ℕ },
-    /// It has seen that each position below this one was drawn.
+    /// It knows that each position below this one was drawn.
     pub ghost seen: { ℕ },
-    /// The board's total, since what a step tells cannot read the board's own.
+    /// The board's total, since the facts of a step cannot read the board's own.
     pub ghost total: { ℕ },
     /// The board's misses.
     pub ghost misses: { ℕ },

@@ -1,7 +1,7 @@
 //! The tests of `draw_board`: threads that draw at a time, and that a board can be started. No
 //! contract can say these.
 //!
-//! They stand in a crate of their own, since only they start threads and wait for them.
+//! They have a crate of their own, since only they start threads and wait for them.
 //!
 //! - `draws`: what one thread draws through several hands, and memory that is refused.
 //! - `threads`: several threads draw from one board.

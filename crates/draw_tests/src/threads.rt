@@ -21,7 +21,7 @@ const CALLS: u32 = 1010;
 /// How often each number of threads draws.
 const ROUNDS: u32 = 50;
 
-/// What a thread gives back.
+/// What a thread returns.
 #[derive(Drop)]
 struct Drawn {
     numbers: Result<Vec<u32>, AllocError>,
@@ -86,7 +86,7 @@ fn both(
     Ok(all)
 }
 
-/// Draws in so many threads at a time, each with a hand of `misses` misses.
+/// Draws in this many threads at a time, each with a hand of `misses` misses.
 #[cycle(crowd)]
 fn draw_in<R: Threads + Wait + Sync>(
     rt: &R,
@@ -134,8 +134,8 @@ fn draw_in<R: Threads + Wait + Sync>(
     )
 }
 
-/// Lets so many threads draw, each with so many misses. Says whether they drew each number once,
-/// and took a step for each number and each miss.
+/// Lets this many threads draw, each with this many misses. Says whether they drew each number
+/// once, and took a step for each number and each miss.
 fn draws_each_once<R: Threads + Wait + Sync>(
     rt: &R,
     alloc: Global,

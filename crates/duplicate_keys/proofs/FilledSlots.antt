@@ -20,7 +20,7 @@ pub record Fell (keys : List ℕ) (slots : ℕ) (some crowded : List Bool) (i : 
   pub many : (a b : ℕ) → a < b → b < i → slot_of (slice_index keys a) slots ≡ slot_of (slice_index keys b) slots
       → at crowded (slot_of (slice_index keys b) slots) ≡ true
 
--- before the first key so many slots may say anything
+-- before the first key this many slots may say anything
 pub fell_none : (keys : List ℕ) (slots : ℕ) (some crowded : List Bool) → length some ≡ slots → length crowded ≡ slots
     → Fell keys slots some crowded 0
 fell_none keys slots some crowded l m = record {

@@ -1,21 +1,20 @@
--- What is told of each key, one after the other. Told says it of the first keys: it holds of none
--- (told_none) and with one key more (told_more), so that after the last it is what is promised of
--- the list (all_told).
+-- What is known of each key, one after the other. Told says it for the first keys: it holds for none (told_none) and with one more key
+-- (told_more), so after the last it is the promise about the list (all_told).
 use Rattle.std.proofs.Common.{◌≡◌, ◌∙◌, sym, ap, subst, ℕ, ◌+◌, ◌<◌, ◌⊎◌, inl, inr, List, [], ◌∷◌, ◌++◌, length, get_or, Bool, true, false, refl, arith, length-append}
 use Rattle.std.proofs.lemmas.List.{get_or_at, get_or_append_left}
 use Rattle.duplicate_keys.specs.Once.{IsOnce, AreSeenOnce}
 use Rattle.duplicate_keys.proofs.Keyed.{below_or_at}
 
--- of each of the first i keys it is told, and only of those that stand once
+-- it is known for each of the first i keys, and true only for those that occur once
 pub record Told (keys : List ℕ) (once : List Bool) (i : ℕ) : Type 0 where
   pub level : length once ≡ i
   pub each : (k : ℕ) → k < i → get_or once k false ≡ true → IsOnce keys k
 
--- before the first key nothing is told
+-- nothing before the first key
 pub told_none : (keys : List ℕ) (once : List Bool) → once ≡ [] → Told keys once 0
 told_none keys once e = record { level = ap length e; each = λ k l. absurd (omega arith) }
 
--- one key more is told of, as standing once only where it does
+-- one more key, true only if it occurs once
 pub told_more : (keys : List ℕ) (once once' : List Bool) (i : ℕ) (is : Bool) → once' ≡ once ++ is ∷ [] → (is ≡ true → IsOnce keys i)
     → Told keys once i → Told keys once' (i + 1)
 told_more keys once once' i is p own t = record {
@@ -31,6 +30,6 @@ told_more keys once once' i is p own t = record {
         subst (IsOnce keys) (sym m) (own (sym (get_or_at once is [] false (length once) refl) ∙ ap (λ n. get_or (once ++ is ∷ []) n false)
         (sym at) ∙ ap (λ xs. get_or xs k false) (sym p) ∙ e))
 
--- after the last key it is told of each place, and only of keys that stand once
+-- after the last key it is known for each place, and true only for keys that occur once
 pub all_told : (keys : List ℕ) (once : List Bool) (i : ℕ) → i ≡ length keys → Told keys once i → AreSeenOnce keys once
 all_told keys once i e t = record { level = t.level ∙ e; each = λ k l o. t.each k (let m = e in omega arith) o }

@@ -1,4 +1,4 @@
--- Names with numbers, in an order in which equal names stand together, and classes of the numbers.
+-- Names with numbers, in an order that keeps equal names together, and classes of the numbers.
 use Rattle.std.specs.Prelude.{◌≡◌, ◌≢◌, ℕ, ◌+◌, ◌-◌, ◌*◌, ◌%◌, ◌^◌, ◌<◌, ◌⊎◌, min, List, ◌∷◌, length, drop, get_or, All, Option, Some}
 use Rattle.std.specs.Cmp.Lexicographic.{slice_cmp}
 use Rattle.std.specs.List.{Contains}
@@ -20,7 +20,7 @@ ends_mixed n name = mixed (big_number n name) (big_number n (drop (length name -
 abbrev pub name_hash : List ℕ → ℕ
 name_hash name = ends_mixed (min (length name) 8) name
 
--- how they stand by their names, each name after its hash
+-- their order by names, each name after its hash
 abbrev pub numbered_cmp : NumberedName → NumberedName → Ordering
 numbered_cmp x y = slice_cmp nat_cmp (x.hash ∷ x.name.now) (y.hash ∷ y.name.now)
 
@@ -41,7 +41,7 @@ pub record HoldTheShared (name : ℕ → Option (List ℕ)) (n : ℕ)
   pub every : (k : ℕ) (q : List ℕ) → k < n → name k ≡ Some q
       → ((h : NumberedName) × Contains named h × (h.number ≡ k)) ⊎ IsItsAlone name n k
 
--- these in an order in which equal names stand together
+-- these in an order that keeps equal names together
 pub record AreInNameOrder (name : ℕ → Option (List ℕ)) (n : ℕ)
     (named : List NumberedName) : Type 0 where
   pub are : HoldTheShared name n named
@@ -52,7 +52,7 @@ pub record AreNumbersBelow (n : ℕ) (numbers : List ℕ) : Type 0 where
   pub sized : length numbers ≡ n
   pub each : (k : ℕ) → k < n → get_or numbers k 0 ≡ k
 
--- of the numbers up to n, two have one class exactly where both are below n and have one name
+-- of the numbers up to n, two have one class exactly if both are below n and have one name
 pub record AreClasses (key : ℕ → Option (List ℕ)) (n : ℕ) (class : List ℕ) : Type 0 where
   pub sized : length class ≡ n + 1
   pub below : (i : ℕ) → i < n + 1 → get_or class i 0 < n + 1

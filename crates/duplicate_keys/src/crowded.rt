@@ -15,7 +15,7 @@ const SLOTS_A_KEY: usize = 8;
 /// How many slots there are at most.
 const MAX_SLOTS: usize = 0xffff_ffff;
 
-/// How many slots there are for so many keys.
+/// How many slots there are for this many keys.
 pub(crate) fn slots_for(keys: usize) -> usize
     ensures { result < 2 ^ 32 }
 {
@@ -53,8 +53,8 @@ pub(crate) fn is_alone<A: Allocator>(crowded: &SlotSet<A>, slots: usize, key: u6
     slot < slots && !crowded.contains(slot)
 }
 
-// Where a key falls among this many slots. Small multiples of 16, as places of headers are, have
-// slots of their own.
+// The slot of a key among this many. Small multiples of 16, as places of headers are, have slots of
+// their own.
 fn slot_of(key: u64, slots: usize) -> usize
     requires { slots < 2 ^ 32 }
     ensures { result ≡ slot_of key slots }

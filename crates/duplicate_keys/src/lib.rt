@@ -1,12 +1,11 @@
-//! Which keys of a list stand in it once, and classes of those that do not.
+//! Which keys occur once in a list, and classes of the others.
 //!
-//! Of a list of which few keys are alike, [`seen_once`] tells of most that stand in it once that
-//! they do: each key falls into a slot, and one that fell into its slot alone stands in the list
-//! once; of the others nothing is said. It takes two steps and three bytes a key. For what is left,
-//! mostly short, [`classes`] gives numbers one class exactly where they have one name
-//! ([`NumberedName`], [`hash_of`]): they are sorted by hash and name, so that those of one name
-//! stand side by side. A number that is not given has a class of its own. It takes n log n steps,
-//! whatever the names, and 4 bytes for each number.
+//! If few keys of a list are equal, [`seen_once`] finds most keys that occur once: each key falls
+//! into a slot, and a key alone in its slot occurs once; nothing is known about the others. It
+//! takes two steps and three bytes a key. For the rest, mostly short, [`classes`] gives numbers one
+//! class exactly if they have one name ([`NumberedName`], [`hash_of`]): it sorts them by hash and
+//! name, which puts equal names side by side. A number that is not given has a class of its own. It
+//! takes n log n steps, whatever the names, and 4 bytes for each number.
 #![tactic(auto)]
 
 mod crowded;

@@ -38,10 +38,10 @@ pub fn hash_of(name: &[u8]) -> u64
 }
 
 /// The classes of the numbers below this one by their names, each a number, with one more for none;
-/// None only where no two of them have one name.
+/// None only if no two of them have the same name.
 ///
-/// A name that one number alone has may be left out, and a number may be given twice: then there
-/// may be classes though all names differ. `AllocError` comes only where memory was refused.
+/// The name of a single number may be left out, and a number may be given twice: then there may be
+/// classes though all names differ. `AllocError` only if memory was refused.
 pub fn classes<'a, A: Allocator + Copy>(
     alloc: A,
     named: Vec<NumberedName<'a>, A>,
@@ -68,7 +68,7 @@ fn mix(first: u64, last: u64) -> u64
     first.wrapping_mul(0x9e37_79b9_7f4a_7c15).wrapping_add(last)
 }
 
-// How names stand by their hashes, and by all their bytes where these are equal.
+// The order of names by hash, and by all bytes if hashes are equal.
 fn order(x: &NumberedName<'_>, y: &NumberedName<'_>) -> Ordering
     ensures { result ≡ numbered_cmp x.now y.now }
 {
@@ -88,7 +88,7 @@ fn sorted<'a, A: Allocator>(named: Vec<NumberedName<'a>, A>) -> Vec<NumberedName
     named
 }
 
-// Whether two names are the same that stand side by side.
+// Whether two adjacent names are equal.
 fn has_alike(named: &[NumberedName<'_>]) -> bool
     ensures { result ≡ false → (name : ℕ → Option (List ℕ)) (n : ℕ)
         → AreInNameOrder name n named.now → AreNamesApart name n }

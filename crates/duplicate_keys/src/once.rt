@@ -1,4 +1,4 @@
-//! Which keys stand once.
+//! Which keys occur once.
 
 ghost use Rattle.std.specs.Prelude.{IfOk};
 ghost use Rattle.duplicate_keys.specs.Once.{AreSeenOnce};
@@ -6,10 +6,10 @@ ghost use Rattle.duplicate_keys.specs.Once.{AreSeenOnce};
 use crate::crowded::{crowded, is_alone, slots_for};
 use std::alloc::{AllocError, Allocator};
 
-/// For each of these keys whether it was seen that no other place of the list has the same key.
-/// Where it was not seen, it may be so all the same.
+/// For each of these keys whether it was found to occur once in the list. A key that was not found
+/// may still occur once.
 ///
-/// `AllocError` comes only where memory was refused.
+/// `AllocError` only if memory was refused.
 pub fn seen_once<A: Allocator + Copy>(alloc: A, keys: &[u64]) -> Result<Vec<bool, A>, AllocError>
     ensures { IfOk result (λ once. AreSeenOnce keys.now once.items) }
 {

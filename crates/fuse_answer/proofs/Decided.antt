@@ -1,6 +1,5 @@
--- What READDIR and READDIRPLUS are answered, or why they are refused: `rows_decided` and
--- `cut_decided` are the main lemmas. Both go by the node's kind to its place (`at_directory`), and
--- there take from `Listed` that a listing has the definitions' rows.
+-- The answers to READDIR and READDIRPLUS, or why they are refused: `rows_decided` and `cut_decided` are the main lemmas. Both go from the
+-- node's kind to its place (`at_directory`), and there take from `Listed` that a listing has the definitions' rows.
 use Rattle.std.proofs.Common.{◌≡◌, ◌∙◌, sym, ap, ℕ, ◌≤◌, [], ◌∷◌, Bool, true, false, cond, Option, Some, None, Result, Ok, Err, MatchOption, MatchResult, refl, arith}
 use Rattle.std.specs.Prelude.{nat_lt, not, ◌||◌}
 use Rattle.std.proofs.lemmas.Bool.{le-ltb}

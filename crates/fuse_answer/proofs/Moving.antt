@@ -80,7 +80,7 @@ module _ {A : Type 0} (l : Listing A) where
   none_before_it : (index : ℕ) → l.with_entries ≡ false → moves_before l index ≡ []
   none_before_it index plain = ap (λ b. cond b (given index) []) plain
 
-  -- so many rows leave room for one more
+  -- this many rows leave room for one more
   pub room_for_row : (index : ℕ) (now : List ℤ) → index - l.from ≤ 2 ^ 123 → AreWithin (2 ^ 123 + (index - l.from)) now
       → AreWithin (2 ^ 124) now
   room_for_row index now few within = within_less (2 ^ 123 + (index - l.from)) (2 ^ 124) now (omega arith) within
@@ -162,7 +162,7 @@ split_next done rest later all f is split = append_assoc done (f ∷ []) later �
 all_done : (done rest all : List Forget) → rest ≡ [] → done ++ rest ≡ all → done ≡ all
 all_done done rest all none split = sym (append-nil done) ∙ ap (λ t. done ++ t) (sym none) ∙ split
 
--- so many of all items were taken back, and these are left
+-- this many of all items were taken back, and these are left
 pub record IsTaken (stack : Stacked) (all rest : List Forget) (count : ℕ) (old new : List ℤ) : Type 0 where
   pub done : List Forget
   pub split : done ++ rest ≡ all

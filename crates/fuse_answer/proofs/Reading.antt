@@ -1,7 +1,6 @@
--- A node's data, of which parts are read: how many they are (`part_long`), where they stand in the image of their layer (`part_there`), and
--- that a READ is answered those that it asks for (`read_decided`). What may be told of them: with no bytes the reply itself
--- (`nothing_told`), and so without a file (`table_told`) and from bytes that are held (`held_appended`); from the file of their layer what
--- it gives (`file_read`).
+-- Reading parts of a node's data: their length (`part_long`), their place in the image of their layer (`part_there`), and that a READ gets
+-- what it asks for (`read_decided`). Possible replies: with no bytes the reply itself (`nothing_told`), also without a file (`table_told`)
+-- and from held bytes (`held_appended`); from the file of their layer what it gives (`file_read`).
 use Rattle.std.proofs.Common.{◌≡◌, ◌∙◌, sym, ap, subst, ℕ, ◌+◌, ◌-◌, ◌≤◌, min, inl, List, [], ◌++◌, length, take, drop, map, Bool, Bor, Option, Some, None, Result, Ok, Err, refl, arith, length-drop}
 use Rattle.std.specs.Prelude.{slice_get}
 use Rattle.std.specs.Option.{option_map}
@@ -43,7 +42,7 @@ module _ (layers : List (List ℕ)) (layer : ℕ) (node : Node) (p : Place) (hol
   pub all_data : take node.part.len (drop 0 (data_of layers p)) ≡ data_of layers p
   all_data = let l = data_long in take_all node.part.len (data_of layers p) (omega arith)
 
-  -- those from an offset on that are there are as many as are asked for, up to the end
+  -- existing bytes from an offset on are as many as requested, up to the end
   same_part : (offset size : ℕ) → take (min size (node.part.len - offset)) (drop offset (data_of layers p))
       ≡ take size (drop offset (data_of layers p))
   same_part offset size =
@@ -90,7 +89,7 @@ module _ (A : Type 0) (stack : Stacked) (agreed : Agreement) (n offset size : �
     moves_are = refl;
   }
 
-  -- a READ of a regular file is answered its data from the offset on, as many as are asked for, up to the end
+  -- a READ of a regular file gets its data from the offset on, as many as are asked for, up to the end
   pub read_decided : (node : Bor Node) (len : ℕ) → IsNodeOf stack n node.now → node.now.kind ≡ Regular → size ≤ MAX_DATA_SIZE
       → len ≡ min size (node.now.part.len - offset)
       → DecidesAt {A = A} stack agreed n (read offset size) (Ok (Data (record { node = node; offset = offset; len = len })))
@@ -111,7 +110,7 @@ gives_none : (given : Option (List (List ℕ))) (fails : Bool) (place : ℕ) →
 gives_none None fails place = tt
 gives_none (Some choices) fails place = tt
 
--- a reply without data is told as it is, whatever its data would be read from
+-- a reply without data is unchanged, whatever its data would be read from
 pub nothing_told : (reading : Option Reading) (unique : ℕ) → IsTold reading unique (reply_with unique []) (reply_with unique [])
 nothing_told None unique = refl
 nothing_told (Some reading) unique = inl (record {
@@ -125,7 +124,7 @@ nothing_told (Some reading) unique = inl (record {
 pub none_taken : (n : ℕ) (xs : List ℕ) → n ≡ 0 → [] ≡ take n xs
 none_taken n xs e = rw e refl
 
--- what is told of bytes that are held is appended as it is defined
+-- the reply from held bytes is appended as it is defined
 pub held_appended : {E : Type 0} (xs : List ℕ) (place unique : ℕ) (bytes : List ℕ) (result : Result (Unit {0}) E) (before after : Filled)
     → bytes ≡ bytes_at xs place (length bytes)
     → AppendsTold result before after (read_from (held xs) place) unique (reply_with unique bytes)
@@ -137,7 +136,7 @@ held_appended xs place unique bytes (Ok x) before after there a =
     (data_behind unique bytes ∙ there ∙ ap (λ l. take (length l) (drop place xs)) (sym (data_behind unique bytes))) a.0.1 in
     (a.0.2 ∙ ap (λ l. before.items ++ l) same, a.1, a.2, a.3)
 
--- the reply of an error is told as it is
+-- the reply of an error is unchanged
 pub error_told : (reading : Option Reading) (unique : ℕ) (errno : Errno)
     → IsTold reading unique (error_reply unique errno) (error_reply unique errno)
 error_told None unique errno = refl
@@ -150,7 +149,7 @@ error_told (Some reading) unique errno = inl (record {
 })
 
 module _ {D : Type 0} (source : D → Source) (files : List D) (stack : Stacked) (offset : ℕ) (p : Place) where
-  -- the data of a layer that has no file are told as they are held
+  -- the data of a layer without a file are given as they are held
   pub table_told : slice_get files p.0 ≡ None → (unique : ℕ) (defined : List ℕ)
       → IsTold (data_reading (sourced stack (map source files)) offset p) unique defined defined
   table_told none unique defined = rw (slice_get-map source files p.0 ∙ ap (option_map source) none) refl

@@ -115,7 +115,7 @@ reply_long before head rows items is long =
     let both = length-append before head in
     omega arith
 
--- where there was room for a header and so many bytes, and the header was put, there is room for these
+-- where there was room for a header and this many bytes, and the header was put, there is room for these
 pub room_left : (before made head headed : List ℕ) (made_room headed_room size : ℕ) → made ≡ before → headed ≡ made ++ head
     → length head ≡ 16 → length before + (16 + size) ≤ made_room → made_room ≤ headed_room → length headed + size ≤ headed_room
 room_left before made head headed made_room headed_room size kept put long room grown =

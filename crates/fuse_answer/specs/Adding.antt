@@ -1,10 +1,10 @@
--- What calls leave that add to balances what rows of a listing give.
+-- The effect of calls that add to balances what rows of a listing give.
 use Rattle.std.specs.Prelude.{ℕ, ◌-◌, ◌+◌, ◌^◌, ℤ, List}
 use Rattle.lookup_balances.specs.Balances.{AreWithin, IsMoved}
 use Rattle.fuse_answer.specs.declared.listing.Listing.{Listing}
 use Rattle.fuse_answer.specs.Listings.{moves_before}
 
--- where balances had risen by what the rows before one index give, they have by what those before
+-- if balances had risen by what the rows before one index give, they now have by what those before
 -- another do; and each row moves a balance by one at most
 pub record AddsGiven {A : Type 0} (l : Listing A) (from until : ℕ)
     (before after : List ℤ) : Type 0 where

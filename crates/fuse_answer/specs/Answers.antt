@@ -1,4 +1,4 @@
--- What is decided about a request: its answer's data and moves, or its refusal.
+-- The decision about a request: its answer's data and moves, or its refusal.
 use Rattle.std.specs.Prelude.{◌≡◌, ℕ, Bool, true, false, List, [], ◌∷◌, Option, Some, None, MatchOption, MatchResult, Result, Ok, Err, pos, ◌+◌, ◌<◌, ◌≤◌, take, drop}
 use Rattle.std.specs.List.{filter_map}
 use Rattle.std.specs.Option.{option_map}
@@ -30,7 +30,7 @@ use Rattle.fuse_answer.specs.declared.outcome.FilePart.{FilePart}
 use Rattle.fuse_answer.specs.declared.outcome.Answer.TheVariants.{Done, Terms, Entry, NoEntry, Attributes, Opened, Target, Data, Totals, Rows, Forgotten, AllForgotten}
 use Rattle.fuse_answer.specs.Listings.{listed_data, listed_moves, IsWhole}
 
--- so many bytes of a node's data, from an offset on
+-- this many bytes of a node's data, from an offset on
 abbrev pub node_data : Stacked → Node → ℕ → ℕ → List ℕ
 node_data stack node offset len = take len (drop offset (data_of stack.layers (placed node.place)))
 
@@ -88,7 +88,7 @@ abbrev pub TellsEntry : {A : Type 0} → Stacked → ℕ → Result (Answer A) E
 TellsEntry stack node result =
     MatchOption (attr_at stack node) (result ≡ Err ENOENT) (λ attr. result ≡ Ok (Entry attr))
 
--- the node holds where the data of its place lie
+-- the node has the place of its data
 abbrev pub HoldsOwnData : Stacked → Node → Type 0
 HoldsOwnData stack node = HoldsData stack.layers node.place.layer node (placed node.place)
 
@@ -98,7 +98,7 @@ IsInFile stack part =
     HoldsOwnData stack part.node.now
     × (0 < part.len → part.offset + part.len ≤ part.node.now.part.len)
 
--- its data lie where they are read, and have a length that a reply's header can say
+-- its data are where they are read, and have a length that a reply's header can hold
 abbrev pub IsSized : {A : Type 0} → Stacked → Answer A → Type 0
 IsSized stack (Target node) = HoldsOwnData stack node.now
 IsSized stack (Data part) = IsInFile stack part

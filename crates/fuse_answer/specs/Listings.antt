@@ -47,7 +47,7 @@ IsPaddedAt l index padded =
 abbrev pub row_size : Bool → ℕ → ℕ
 row_size with_entries n = dirent_size n + (if with_entries then 128 else 0)
 
--- how many pieces of these sizes fit whole in the room, one after another
+-- how many pieces of these sizes fit completely in the room, one after another
 abbrev pub fit_count : ℕ → List ℕ → ℕ
 fit_count room [] = 0
 fit_count room (n ∷ sizes) = if nat_le n room then 1 + fit_count (room - n) sizes else 0
@@ -65,7 +65,7 @@ name_lengths children = 1 ∷ 2 ∷ map (λ line. length line.name) children
 abbrev pub row_sizes : Bool → List Line → List ℕ
 row_sizes with_entries children = map (row_size with_entries) (name_lengths children)
 
--- up to which index a listing answers rows: as many as fit whole in its room
+-- up to which index a listing answers rows: as many as fit completely in its room
 unfoldable pub until_of : {A : Type 0} → Listing A → ℕ
 until_of l =
     l.from + fit_count l.room (drop l.from (row_sizes l.with_entries l.children.now))
@@ -113,11 +113,11 @@ bytes_before stack l index =
 abbrev pub listed_data : {A : Type 0} → Stacked → Listing A → List ℕ
 listed_data stack l = flat_map (line_bytes stack l.with_entries) (lines_answered l)
 
--- what they give, where they come with entries
+-- what they give, if they have entries
 abbrev pub listed_moves : {A : Type 0} → Listing A → List Move
 listed_moves l = if l.with_entries then lines_given (lines_answered l) else []
 
--- what the rows before an index give, where they come with entries
+-- what the rows before an index give, if they have entries
 abbrev pub moves_before : {A : Type 0} → Listing A → ℕ → List Move
 moves_before l index =
     if l.with_entries then lines_given (take (index - l.from) (drop l.from (lines_of l))) else []
@@ -133,7 +133,7 @@ RowSize with_entries name room result =
     MatchOption result (room < row_size with_entries name) (λ n. (n ≡ row_size with_entries name)
     × (n ≤ room))
 
--- the rows from an index on that fit in a size: up to this index, and with so many bytes
+-- the rows from an index on that fit in a size: up to this index, and with this many bytes
 pub record Fits (with_entries : Bool) (children : List Line)
     (from size until bytes : ℕ) : Type 0 where
   pub until_is : until ≡ from + fit_count size (drop from (row_sizes with_entries children))
@@ -161,7 +161,7 @@ pub record AreListed {A : Type 0} (stack : Stacked) (node offset size : ℕ) (wi
   pub from_is : l.from ≡ min offset (2 + length l.children.now)
   pub room_is : l.room ≡ size
 
--- they are listed; none where the number is no directory
+-- they are listed; none if the number is no directory
 abbrev pub ListsRows : {A : Type 0} → Stacked → ℕ → ℕ → ℕ → Bool → Option (Listing A) → Type 0
 ListsRows stack node offset size with_entries result =
     MatchOption result (parent_at stack node ≡ None) (AreListed stack node offset size with_entries)

@@ -1,4 +1,4 @@
--- What a call leaves of replies or of a vector that it appends to, and of balances.
+-- The effect of a call on replies or a vector that it appends to, and on balances.
 use Rattle.std.specs.Prelude.{◌≡◌, ◌+◌, ◌<◌, ◌≤◌, ◌^◌, ℤ, unsigned_abs, List, ◌++◌, length, map, Result, OnOk, OnErr, vec_len, vec_capacity}
 use Rattle.std.specs.List.{All}
 use Rattle.std.specs.declared.vec.Vec.{Vec}
@@ -15,7 +15,7 @@ use Rattle.reply_model.specs.Readings.{Sourced, sourced, reading_of}
 use Rattle.lookup_balances.specs.Balances.{IsMoved}
 use Rattle.fuse_answer.specs.declared.served.Served.{Served}
 
--- the call appends exactly these; or, where the vector has no room for them and gets none, nothing
+-- the call appends exactly these; or, if the vector has no room for them and gets none, nothing
 abbrev pub Puts : {X A E : Type 0} → Result (Unit {0}) E → Vec X A → Vec X A → List X → Type 0
 Puts result before after appended =
     OnOk result (after.items ≡ before.items ++ appended)
@@ -23,8 +23,7 @@ Puts result before after appended =
     × OnErr result (vec_capacity before < vec_len before + length appended)
     × (vec_capacity before ≤ vec_capacity after)
 
--- the call appends exactly these; or, where the vector has no room for them and gets none,
--- something
+-- the call appends exactly these; or, if the vector has no room for them and gets none, something
 abbrev pub Grows : {X A E : Type 0} → Result (Unit {0}) E → Vec X A → Vec X A → List X → Type 0
 Grows {X = X} result before after appended =
     OnOk result (after.items ≡ before.items ++ appended)
@@ -40,20 +39,19 @@ AreSmall moves = All (λ m. unsigned_abs m.amount ≤ 2 ^ 64) moves
 abbrev pub sourced_by : {A D : Type 0} → (D → Source) → Served A D → Sourced
 sourced_by source served = sourced served.table.now (map source served.files.now)
 
--- what may be told as the reply to a request is appended; or, where there is no room for it,
--- nothing
+-- a possible reply to a request is appended; or, if there is no room for it, nothing
 abbrev pub PutsReply : {E : Type 0} → Sourced → Session → Asked → Result (Unit {0}) E → Filled
     → Filled → Type 0
 PutsReply by s q result before after =
     AppendsTold result before after (reading_of by q) q.unique (reply by.stack s q)
 
--- what a request over a stack moves is appended; or, where there is no room for it, nothing
+-- what a request over a stack moves is appended; or, if there is no room for it, nothing
 abbrev pub PutsMoves : {A E : Type 0} → Stacked → Session → Asked → Result (Unit {0}) E → Vec Move A
     → Vec Move A → Type 0
 PutsMoves stack s q result before after =
     Puts result before after (moves stack s q)
 
--- the balances rise by these moves; or, where memory is refused, they are as before
+-- the balances rise by these moves; or, if memory is refused, they are unchanged
 abbrev pub AddsMoves : {E : Type 0} → List Move → Result (Unit {0}) E → List ℤ → List ℤ → Type 0
 AddsMoves moves result before after =
     OnOk result (IsMoved moves before after) × OnErr result (after ≡ before)

@@ -35,7 +35,7 @@ pub(crate) fn add_answer_moves<A: Allocator>(
     }
 }
 
-/// Adds what a row gives, where rows come with entries.
+/// Adds what a row gives, if rows have entries.
 #[inline(always)]
 pub(crate) fn add_row<A: Allocator>(rows: &Listing<'_, A>, index: usize, balances: &mut [i128])
     requires from { rows.now.from ≤ index }
@@ -75,7 +75,7 @@ fn add_entry<A: Allocator>(rows: &Listing<'_, A>, index: usize, balances: &mut [
     }
 }
 
-// Takes back what is forgotten of a node, where the number is in use.
+// Takes back forgotten lookups from a node, if the number is in use.
 #[inline(always)]
 fn take_back<A: Allocator>(table: &Table<A>, forget: Forget, balances: &mut [i128])
     requires { AreWithin (2 ^ 124) balances.old }

@@ -3,11 +3,11 @@
 //! [`answer`] appends the reply to a request, [`moves`] what it gives and takes,
 //! [`answer_and_move`] does both with one look-up, and [`after`] is the session after the request:
 //! exactly what `reply`, `moves` and `session_after` of `reply_model` say, over a table's layers
-//! and the paths that they show. `decide` takes no memory: it says with which error a request is
-//! refused, or what it is answered (`outcome`). `write` and `balances` tell that and decide
-//! nothing; [`moves`] decides anew, and lists (`move_list`). A reply takes as many steps as it has
-//! bytes, a name's look-up some more by the logarithm of its directory's size. It grows its vector
-//! at most once, by what the answer has; where that is refused, the vector is as before.
+//! and the paths that they show. `decide` takes no memory: it finds the error that refuses a
+//! request, or its answer (`outcome`). `write` and `balances` carry that out and decide nothing;
+//! [`moves`] decides anew, and lists (`move_list`). A reply takes as many steps as it has bytes, a
+//! name's look-up some more by the logarithm of its directory's size. It grows its vector at most
+//! once, by the size of the answer; if that is refused, the vector is unchanged.
 #![tactic(auto)]
 
 mod balances;

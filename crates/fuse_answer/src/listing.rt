@@ -1,9 +1,9 @@
 //! The rows of a directory that READDIR and READDIRPLUS are answered.
 //!
-//! Rows have indices from 0 on: `.`, `..`, and then the children. The rows that a request is
-//! answered are those from its offset on that fit whole in its size. An answer says where they
-//! begin and how much room they have: up to which row they go shows as they are put, so each is
-//! looked at once, and no row before the offset is.
+//! Rows have indices from 0 on: `.`, `..`, and then the children. A request is answered with the
+//! rows from its offset on that fit completely in its size. An answer has their start and their
+//! room: the last row is found while they are written, so each is read once, and none before the
+//! offset.
 
 ghost use Rattle.std.specs.Prelude.{◌≡◌, ◌≤◌, ◌<◌, ◌+◌, length, min, slice_index};
 ghost use Rattle.fuse_wire.specs.declared.limits.TheConstants.{MAX_DATA_SIZE};
@@ -19,11 +19,11 @@ use romfs_format::Kind;
 use std::alloc::Allocator;
 use table_reader::{Row, Table};
 
-/// The bytes of a `struct fuse_entry_out`, which stands before each row of READDIRPLUS.
+/// The bytes of a `struct fuse_entry_out`, which precedes each row of READDIRPLUS.
 const ENTRY_SIZE: usize = 128;
 
-/// Which rows of a directory a request is answered: those from the index `from` on, as many as fit
-/// whole in `room` bytes.
+/// The rows of a directory that answer a request: those from the index `from` on, as many as fit
+/// completely in `room` bytes.
 #[derive(Drop)]
 pub(crate) struct Listing<'a, A: Allocator> {
     pub(crate) with_entries: bool,
@@ -34,8 +34,8 @@ pub(crate) struct Listing<'a, A: Allocator> {
     pub(crate) room: usize,
 }
 
-/// What READDIR is answered, or READDIRPLUS, where rows come with entries: the rows after the first
-/// `offset` ones, as many as fit whole in the size.
+/// The answer to READDIR, or to READDIRPLUS if rows have entries: the rows after the first `offset`
+/// ones, as many as fit completely in the size.
 #[inline(always)]
 pub(crate) fn list<'a, A: Allocator>(
     table: &'a Table<A>,
@@ -100,8 +100,7 @@ pub(crate) fn fit<A: Allocator>(rows: &Listing<'_, A>) -> (usize, usize)
     (until, rows.room - room)
 }
 
-// The rows after the first `offset` ones that fit in the size; none where the number is no
-// directory.
+// The rows after the first `offset` ones that fit in the size; none if the number is no directory.
 #[inline(always)]
 fn listed<'a, A: Allocator>(
     table: &'a Table<A>,
@@ -164,7 +163,7 @@ fn name_length<A: Allocator>(children: &[Row<A>], index: usize) -> usize
     }
 }
 
-// The bytes of a row whose name has so many, if there is room for them.
+// The bytes of a row whose name has this many, if there is room for them.
 #[inline(always)]
 fn row_size(with_entries: bool, name_length: usize, room: usize) -> Option<usize>
     requires { room ≤ MAX_DATA_SIZE }

@@ -1,8 +1,8 @@
 //! The lookups that a request gives and takes, as a list.
 //!
-//! An answer is gone over as in `balances`, which adds in place and cannot fail. Here memory may be
-//! refused at each move: one traversal for both would bring that outcome, and what is promised
-//! where it comes, to the path of each reply.
+//! The traversal is that of `balances`, which adds in place and cannot fail. Here memory may be
+//! refused at each move: one traversal for both would bring that outcome, with its promise, into
+//! the path of each reply.
 
 ghost use Rattle.std.specs.Prelude.{◌≤◌, ◌<◌, ◌+◌, ◌^◌, ◌∷◌, [], length, unsigned_abs};
 ghost use Rattle.fuse_wire.specs.Reads.{asked_of, items_of};
@@ -24,8 +24,8 @@ use table_reader::{Guess, Table};
 /// each row of a READDIRPLUS but `.` and `..`, and what FORGET and BATCH_FORGET take back. Numbers
 /// that are not in use, and requests that are refused, change nothing.
 ///
-/// The session is the one before the request. `AllocError` comes only where the vector had no room
-/// for the moves and got none; it is then as before. No amount is of more than 64 bits.
+/// The session is the one before the request. `AllocError` only if the vector had no room for the
+/// moves and got none; it is then unchanged. No amount has more than 64 bits.
 pub fn moves<A: Allocator, M: Allocator>(
     table: &Table<A>,
     session: Session,
@@ -46,7 +46,7 @@ pub fn moves<A: Allocator, M: Allocator>(
     grown
 }
 
-// Appends what an answer gives and takes, or some of it where memory is refused.
+// Appends what an answer gives and takes, or some of it if memory is refused.
 fn grow<A: Allocator, M: Allocator>(
     table: &Table<A>,
     answer: &Answer<'_, A>,
@@ -101,7 +101,7 @@ fn put_given<A: Allocator, M: Allocator>(
     }
 }
 
-// Appends what is taken back of a node, where the number is in use.
+// Appends what is taken back from a node, if the number is in use.
 fn put_taken<A: Allocator, M: Allocator>(
     table: &Table<A>,
     forget: Forget,

@@ -47,8 +47,8 @@ pub(crate) fn read_link<'a, A: Allocator>(
     }
 }
 
-/// What OPEN is answered: the access mode is the lowest two bits of the flags. A client that need
-/// not ask is told so last.
+/// The answer to OPEN: the access mode is the lowest two bits of the flags. A client that need not
+/// ask learns so last.
 #[inline(always)]
 pub(crate) fn open_file<'a, A: Allocator>(
     table: &'a Table<A>,
@@ -67,7 +67,7 @@ pub(crate) fn open_file<'a, A: Allocator>(
     }
 }
 
-/// What OPENDIR is answered. A client that need not ask is told so last.
+/// The answer to OPENDIR. A client that need not ask learns so last.
 #[inline(always)]
 pub(crate) fn open_directory<'a, A: Allocator>(
     table: &'a Table<A>,

@@ -11,7 +11,7 @@ use table_reader::Node;
 pub(crate) struct FilePart<'a> {
     /// The file.
     pub node: &'a Node,
-    /// How many of its bytes stand before them.
+    /// How many of its bytes precede them.
     pub offset: u64,
     /// How many they are.
     pub len: u32,
@@ -36,7 +36,7 @@ pub(crate) enum Answer<'a, A: Allocator> {
     Target(&'a Node),
     /// Bytes of a file.
     Data(FilePart<'a>),
-    /// The blocks and the nodes of the whole tree.
+    /// The blocks and the nodes of the entire tree.
     Totals { blocks: u64, nodes: u64 },
     /// Rows of a directory.
     Rows(Listing<'a, A>),

@@ -28,12 +28,12 @@ struct InSession<'r, 'b> {
     guess: Guess,
 }
 
-/// Appends the reply to a request: nothing for FORGET, BATCH_FORGET and INTERRUPT, else a header
-/// with the data of the answer, or with the error that refuses the request. Data that stay in a
-/// file are read into the reply; where they cannot be had whole, it is EIO's.
+/// Appends the reply to a request: nothing for FORGET, BATCH_FORGET and INTERRUPT, otherwise a
+/// header with the data of the answer, or with the error that refuses the request. Data in a file
+/// are read into the reply, which is EIO if they cannot be read in full.
 ///
 /// The session is the one before the request ([`after`](crate::after) says the next). `AllocError`
-/// comes only where there was no room for the reply and none was got; all is then as before.
+/// only if there was no room for the reply and none was got; nothing changed then.
 pub fn answer<A: Allocator, D: Contents, O: Allocator>(
     served: Served<'_, A, D>,
     session: Session,
@@ -50,11 +50,11 @@ pub fn answer<A: Allocator, D: Contents, O: Allocator>(
 /// Appends the reply to a request, as [`answer`] does, and adds what the request gives and takes to
 /// the balances of the nodes, in which node n has the place n - 1. It looks the request up once.
 ///
-/// A guess of the row that a LOOKUP finds ([`Table::guess`]) makes it faster where it is right, and
-/// changes nothing else.
+/// A right guess of the row that a LOOKUP finds ([`Table::guess`]) makes it faster, and changes
+/// nothing else.
 ///
-/// `AllocError` comes only where there was no room for the reply and none was got; the replies and
-/// the balances are then as before.
+/// `AllocError` only if there was no room for the reply and none was got; the replies and the
+/// balances are then unchanged.
 #[inline(always)]
 pub fn answer_and_move<A: Allocator, D: Contents, O: Allocator>(
     served: Served<'_, A, D>,

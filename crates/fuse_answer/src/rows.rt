@@ -63,8 +63,8 @@ pub(crate) fn line_at<'a, A: Allocator>(rows: &Listing<'a, A>, index: usize) -> 
     }
 }
 
-// Makes room for a header and the rows. Where there is room for as many bytes as rows may take,
-// which is so mostly, it is not asked how many they do.
+// Makes room for a header and the rows. Their exact size is computed only if there is less room
+// than rows may take, which is rare.
 #[inline(always)]
 fn make_room<A: Allocator, O: Allocator>(
     rows: &Listing<'_, A>,
@@ -80,8 +80,8 @@ fn make_room<A: Allocator, O: Allocator>(
     Ok(())
 }
 
-// Appends the rows, where there is room for them, and adds what they give: up to the first that
-// does not fit in what the others leave of the listing's room, or to the last.
+// Appends the rows, if there is room for them, and adds what they give: up to the first that does
+// not fit in the rest of the listing's room, or to the last.
 #[inline(always)]
 fn put_listed<A: Allocator, O: Allocator>(
     table: &Table<A>,
@@ -110,8 +110,8 @@ fn put_listed<A: Allocator, O: Allocator>(
     Ok(())
 }
 
-// Appends the row of READDIRPLUS with this index, where its name is short, as long as the replies
-// have no more bytes than this then. Else, or without room, it is false, and nothing is appended.
+// Appends the row of READDIRPLUS with this index if its name is short and the replies then have at
+// most this many bytes. Otherwise, or without room, it is false, and nothing is appended.
 #[inline(always)]
 fn put_short<A: Allocator, O: Allocator>(
     table: &Table<A>,
@@ -192,7 +192,7 @@ fn row_at<'a, A: Allocator>(
     (row, entry)
 }
 
-// The name of the row with this index, with zeros behind it, where it is short.
+// The name of the row with this index, followed by zeros, if it is short.
 #[inline(always)]
 fn padded_at<'a, A: Allocator>(rows: &Listing<'a, A>, index: usize) -> Option<&'a [u8; 22]>
     requires { index < 2 + length rows.now.children.now }

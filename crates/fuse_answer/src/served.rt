@@ -6,10 +6,10 @@ use image_bytes::InMemory;
 use std::alloc::{AllocError, Allocator};
 use table_reader::Table;
 
-/// The table of a stack, and beside it the files in which its layers' data stay, the lowest first.
+/// The table of a stack, and the files with its layers' data, lowest first.
 ///
-/// The data of a regular file in a layer that has a file here are read from it when they are asked
-/// for; all other data are those that the table holds, with zeros where it keeps only some.
+/// The data of a regular file in a layer that has a file here are read from it on demand; all other
+/// data are those in the table, with zeros for what it does not keep.
 pub struct Served<'a, A: Allocator, D> {
     pub table: &'a Table<A>,
     pub files: &'a [D],
@@ -24,7 +24,7 @@ impl<'a, A: Allocator, D> Clone for Served<'a, A, D> {
 impl<'a, A: Allocator, D> Copy for Served<'a, A, D> {}
 
 impl<'a, A: Allocator> Served<'a, A, InMemory<'a>> {
-    /// A table of images that are held whole: all data are its own.
+    /// A table of images held in full: all data are its own.
     pub fn held(table: &'a Table<A>) -> Self
         requires { table.now.whole ≡ true }
         ensures table { result.table.now ≡ table.now }

@@ -21,8 +21,8 @@ use image_bytes::Contents;
 use std::alloc::{AllocError, Allocator};
 use table_reader::{Node, Part, Table};
 
-/// Appends the reply with an answer. Data that stay in a file are read into it; where they cannot
-/// be had whole, the reply is EIO's.
+/// Appends the reply with an answer. Data in a file are read into it; if they cannot be read in
+/// full, the reply is EIO.
 #[inline(always)]
 pub(crate) fn write<A: Allocator, D: Contents, O: Allocator>(
     served: Served<'_, A, D>,
@@ -86,7 +86,7 @@ fn put_part<A: Allocator, D: Contents, O: Allocator>(
     }
 }
 
-// Where the data of a node begin in the image of its layer.
+// The offset of a node's data in the image of its layer.
 #[inline(always)]
 fn data_start(node: &Node) -> u32
     ensures { result ≡ node.now.part.start }

@@ -1,4 +1,4 @@
--- What the last answer of a device was, by what a push or a pull came to.
+-- The last answer of a device, from the result of a push or a pull.
 use Rattle.std.proofs.Common.{◌≡◌, ◌==◌, ◌∙◌, sym, ap, eqb-true, refl, ℕ, ℤ, pos, negsuc, Bool, true, false, if◌then◌else◌, ◌⊎◌, inl, inr, List, Option, Some, None, Result, Ok, Err}
 use Rattle.devices.specs.Counting.{up}
 use Rattle.devices.specs.declared.failed.Failed.{Failed}
@@ -24,7 +24,7 @@ unwanted (Some (pos n)) u = ap (λ k. Some (pos k)) (unwanted_at n (n == 2) (n =
 unwanted (Some (negsuc n)) u = absurd (cc)
 unwanted None u = absurd (cc)
 
--- ENODEV alone says at a write that the mount was taken away
+-- only ENODEV means at a write an unmount
 gone_write_at : (n : ℕ) (two nineteen : Bool) → (n == 19) ≡ nineteen
     → (if two then Unwanted else (if nineteen then Gone else Fault)) ≡ Gone → n ≡ 19
 gone_write_at n true b e u = absurd (cc)

@@ -21,7 +21,7 @@ is_again Unwanted = false
 is_again Gone = false
 is_again Fault = false
 
--- a read was interrupted, and is to be tried again
+-- a read was interrupted, and must be tried again
 abbrev pub asks_again : Answer → Bool
 asks_again (Bytes n) = false
 asks_again (Failure number) = is_again (read_trouble number)

@@ -10,34 +10,34 @@ use Rattle.fuse_device.specs.Answers.{as_failed}
 use Rattle.fuse_device.specs.Troubles.{gone_after, write_trouble}
 use Rattle.fuse_device.specs.Writes.{HasWritten, WriterState}
 
--- the bytes begin with a whole reply of n bytes, as its first four bytes say
+-- the bytes begin with a complete reply of n bytes, as its first four bytes say
 pub record BeginsReply (bytes : List ℕ) (n : ℕ) : Type 0 where
   pub says : little_number 4 bytes ≡ n
   pub header : 16 ≤ n
   pub whole : n ≤ length bytes
 
--- they begin with no whole reply
+-- they do not begin with a complete reply
 abbrev pub BeginsNone : List ℕ → Type 0
 BeginsNone bytes = (n : ℕ) → ¬ BeginsReply bytes n
 
--- so many bytes are within the first reply
+-- this many bytes are within the first reply
 abbrev pub IsWithinFirst : List ℕ → ℕ → Type 0
 IsWithinFirst bytes taken = (n : ℕ) × BeginsReply bytes n × (taken ≤ n)
 
--- what the trouble of the write of a reply of n bytes comes to: at ENOENT nobody waits for it, and
--- it counts as taken, whole
+-- the result of trouble in the write of a reply of n bytes: at ENOENT nobody waits for it, and it
+-- counts as fully taken
 abbrev pub after_trouble : ℕ → Trouble → Result ℕ Trouble
 after_trouble n Unwanted = Ok n
 after_trouble n Again = Err Again
 after_trouble n Gone = Err Gone
 after_trouble n Fault = Err Fault
 
--- what the write of a reply of n bytes comes to
+-- the result of the write of a reply of n bytes
 abbrev pub after_write : ℕ → Answer → Result ℕ Trouble
 after_write n (Bytes taken) = Ok taken
 after_write n (Failure number) = after_trouble n (write_trouble number)
 
--- one write of the first reply was made, and the outcome is what it came to
+-- one write of the first reply was made, and the outcome is its result
 pub record WritesFirst (bytes : List ℕ) (outcome : Result ℕ Trouble)
     (old new : WriterState) : Type 0 where
   pub n : ℕ
@@ -53,7 +53,7 @@ pub record WritesNone (bytes : List ℕ) (outcome : Result ℕ Trouble)
   pub kept : new ≡ old
   pub outcome_is : outcome ≡ Err Fault
 
--- what a writer was asked for these bytes, and what that came to
+-- what a writer was asked for these bytes, and the result
 abbrev pub Writes : List ℕ → Result ℕ Trouble → WriterState → WriterState → Type 0
 Writes bytes outcome old new =
     WritesFirst bytes outcome old new ⊎ WritesNone bytes outcome old new

@@ -12,8 +12,8 @@ use Rattle.fuse_device.specs.declared.trouble.Trouble.TheVariants.{Again, Unwant
 use Rattle.fuse_device.specs.Answers.{answer_of, as_failed, asks_again}
 use Rattle.fuse_device.specs.Troubles.{gone_after, read_trouble}
 
--- what it has left, where that is known, how many reads were made, how many of them were not
--- interrupted, and what the last was answered
+-- what it has left, if that is known, how many reads were made, how many of them were not
+-- interrupted, and the answer to the last
 pub record ReaderState : Type 0 where
   pub left : Option (List ℕ)
   pub reads : ℕ
@@ -38,7 +38,7 @@ inner_reader reader = reader.reader
 abbrev pub settled_after : ℕ → Answer → ℕ
 settled_after settled answer = if asks_again answer then settled else up settled
 
--- one read was made, and came to this
+-- one read was made, with this result
 pub record HasRead (into : List ℕ) (result : Result ℕ Error) (old new : ReaderState)
     : Type 0 where
   pub counted : new.reads ≡ up old.reads
@@ -46,20 +46,20 @@ pub record HasRead (into : List ℕ) (result : Result ℕ Error) (old new : Read
   pub last : new.last ≡ Some (answer_of result)
   pub left : ReadConsumes old.left new.left result into
 
--- what the trouble of the last read comes to: where that was interrupted, all tries are spent
+-- the result of trouble in the last read: if that was interrupted, all tries are spent
 abbrev pub spent_trouble : Trouble → Trouble
 spent_trouble Again = Fault
 spent_trouble Unwanted = Unwanted
 spent_trouble Gone = Gone
 spent_trouble Fault = Fault
 
--- what the last read comes to
+-- the result of the last read
 abbrev pub after_read : Answer → Result ℕ Trouble
 after_read (Bytes n) = Ok n
 after_read (Failure number) = Err (spent_trouble (read_trouble number))
 
--- some reads were made, each but the last was interrupted, and the outcome is what the last came
--- to; where that was interrupted, too, all tries are spent
+-- some reads were made, each but the last was interrupted, and the outcome is that of the last; if
+-- that was interrupted, too, all tries are spent
 pub record ReadsLast (outcome : Result ℕ Trouble) (old new : ReaderState) : Type 0 where
   pub tries : ℕ
   pub some : 0 < tries

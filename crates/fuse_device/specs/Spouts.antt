@@ -1,4 +1,4 @@
--- write(2) on /dev/fuse: what a contract sees of a sink of replies beside its counts.
+-- write(2) on /dev/fuse: what a contract sees of a sink of replies besides its counts.
 use Rattle.std.specs.Prelude.{ℕ, Bool, List, Option}
 use Rattle.fuse_device.specs.declared.sink.ReplySpout.{ReplySpout}
 use Rattle.fuse_device.specs.Writes.{WriterState, inner_writer, noted_writer}

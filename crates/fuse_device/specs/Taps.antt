@@ -1,4 +1,4 @@
--- read(2) on /dev/fuse: what a contract sees of a source of messages beside its bytes and counts.
+-- read(2) on /dev/fuse: what a contract sees of a source of messages besides its bytes and counts.
 use Rattle.std.specs.Prelude.{ℕ, Bool, List, Option}
 use Rattle.std.specs.Io.Buffered.{reader_capacity, reader_remaining}
 use Rattle.std.specs.declared.io.BufReader.{BufReader}

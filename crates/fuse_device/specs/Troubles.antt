@@ -1,10 +1,10 @@
--- errno(3), fuse(4): what an error number of /dev/fuse says, where an error has one.
+-- errno(3), fuse(4): the meaning of an error number of /dev/fuse, if an error has one.
 use Rattle.std.specs.Prelude.{ℕ, ℤ, pos, negsuc, Bool, true, Option, Some, None, Result, Ok, Err, if◌then◌else◌, ◌==◌}
 use Rattle.fuse_device.specs.declared.trouble.Trouble.{Trouble}
 use Rattle.fuse_device.specs.declared.trouble.Trouble.TheVariants.{Again, Unwanted, Gone, Fault}
 
 -- of a read: ENOENT (2), EINTR (4), EAGAIN (11) and ECONNABORTED (103) are tried again, and ENODEV
--- (19) comes once the mount was taken away
+-- (19) comes after an unmount
 abbrev pub read_number : ℤ → Trouble
 read_number (pos n) =
     if n == 2 then Again else (if n == 4 then Again else
@@ -17,8 +17,7 @@ abbrev pub read_trouble : Option ℤ → Trouble
 read_trouble (Some number) = read_number number
 read_trouble None = Fault
 
--- of a write: at ENOENT (2) nobody waits for this reply, and ENODEV (19) comes once the mount was
--- taken away
+-- of a write: at ENOENT (2) nobody waits for this reply, and ENODEV (19) comes after an unmount
 abbrev pub write_number : ℤ → Trouble
 write_number (pos n) = if n == 2 then Unwanted else (if n == 19 then Gone else Fault)
 write_number (negsuc n) = Fault
@@ -28,7 +27,7 @@ abbrev pub write_trouble : Option ℤ → Trouble
 write_trouble (Some number) = write_number number
 write_trouble None = Fault
 
--- whether a device is gone after a call, by whether it was and what the call came to
+-- whether a device is gone after a call, from whether it was and the result of the call
 abbrev pub gone_after : Bool → Result ℕ Trouble → Bool
 gone_after gone (Ok n) = gone
 gone_after gone (Err Again) = gone

@@ -6,7 +6,7 @@ use Rattle.fuse_device.specs.declared.answer.Answer.{Answer}
 use Rattle.fuse_device.specs.declared.answer.Answer.TheVariants.{Bytes, Failure}
 use Rattle.fuse_device.specs.declared.noted_writer.NotedWriter.{NotedWriter}
 
--- what it holds, where that is known, how many writes were made, and what the last was answered
+-- what it holds, if that is known, how many writes were made, and the answer to the last
 pub record WriterState : Type 0 where
   pub held : Option (List ℕ)
   pub writes : ℕ
@@ -24,7 +24,7 @@ noted_writer contents writer = writer_state (contents writer.writer) writer.writ
 abbrev pub inner_writer : {W : Type 0} → NotedWriter W → W
 inner_writer writer = writer.writer
 
--- a writer took the first so many bytes, or none where the write failed
+-- a writer took this many first bytes, or none if the write failed
 abbrev pub AnswerAppends : Option (List ℕ) → Option (List ℕ) → Answer → List ℕ → Type 0
 AnswerAppends old new (Bytes n) bytes = Appends old new (take n bytes)
 AnswerAppends old new (Failure number) bytes = Keeps old new

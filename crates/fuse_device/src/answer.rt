@@ -7,9 +7,9 @@ use std::io::Result as IoResult;
 /// What a read or a write was answered.
 #[derive(Clone, Copy)]
 pub enum Answer {
-    /// It read or wrote so many bytes.
+    /// It read or wrote this many bytes.
     Bytes(usize),
-    /// It failed, with this number where the error is the system's.
+    /// It failed, with this number if the error is the system's.
     Failure(Option<i32>),
 }
 

@@ -16,14 +16,14 @@ use std::io::Write;
 /// A reply's header.
 const HEADER_SIZE: usize = 16;
 
-/// A sink over a writer that takes one whole reply a write.
+/// A sink over a writer that takes one complete reply a write.
 ///
-/// A push takes the first whole reply of its bytes, by the length in the first four of them, in one
-/// write, and no more. Where the writer takes less of it, the push says how much. A reply for which
-/// nobody waits any more (a write answered ENOENT) is let go: it counts as taken, as a kernel that
-/// knows no such request wants nothing of it. So what the other side holds is not known. Bytes that
-/// begin with no whole reply fail, and so does any other error of a write, an interrupted one too:
-/// nothing was taken then. There is no buffer and no copy.
+/// A push takes the first complete reply of its bytes, by the length in its first four bytes, in
+/// one write, and no more. If the writer takes less of it, the push says how much. A reply for
+/// which nobody waits any more (a write answered ENOENT) is dropped: it counts as taken, since the
+/// kernel knows no such request. What the other side holds is therefore not known. A push fails if
+/// its bytes do not begin with a complete reply, or at any other error of a write, also an
+/// interrupted one: nothing was taken then. There is no buffer and no copy.
 #[derive(Drop)]
 pub struct ReplySpout<W> {
     writer: NotedWriter<W>,
@@ -51,7 +51,7 @@ impl<W: Write> ReplySpout<W> {
         }
     }
 
-    /// Whether a push failed since the mount was taken away: a write answered ENODEV. It stays so.
+    /// Whether a push failed because of an unmount: a write answered ENODEV. It stays so.
     pub fn is_gone(&self) -> bool
         ensures gone { result ≡ spout_gone self.now }
         ensures failed { IsTrue result
@@ -104,7 +104,7 @@ impl<W: Write> Sink for ReplySpout<W> {
     }
 }
 
-// Writes the first reply of the bytes, once, and says how much of it is done with: all of it, where
+// Writes the first reply of the bytes, once, and says how much of it is finished: all of it, if
 // nobody waits for it.
 fn write_first<W: Write>(writer: &mut NotedWriter<W>, bytes: &[u8]) -> Result<usize, Trouble>
     ensures first { IfOk result (IsWithinFirst bytes.now) }
@@ -120,7 +120,7 @@ fn write_first<W: Write>(writer: &mut NotedWriter<W>, bytes: &[u8]) -> Result<us
     }
 }
 
-// Lets a reply of this length go where nobody waits for it.
+// Drops a reply of this length if nobody waits for it.
 fn let_go(len: usize, trouble: Trouble) -> Result<usize, Trouble>
     ensures { result ≡ after_trouble len trouble }
 {
@@ -130,7 +130,7 @@ fn let_go(len: usize, trouble: Trouble) -> Result<usize, Trouble>
     }
 }
 
-// How long the reply is that the bytes begin with, where it is whole.
+// The length of the reply at the front of the bytes, if it is complete.
 fn first_reply(bytes: &[u8]) -> Option<usize>
     ensures { MatchOption result (BeginsNone bytes.now) (BeginsReply bytes.now) }
 {

@@ -14,19 +14,19 @@ use std::alloc::{AllocError, Allocator};
 use std::io::{BufReader, Read};
 
 /// The room for a message, in bytes: 132 KiB. The kernel refuses a read into less than 131,152
-/// bytes where a write may have 128 KiB of data.
+/// bytes if a write may have 128 KiB of data.
 const ROOM: usize = 135_168;
 
 /// How often a pull reads at most.
 const TRIES: u32 = 1024;
 
-/// A source over a reader that gives one whole message a read.
+/// A source over a reader that gives one complete message a read.
 ///
-/// A pull gives what the room holds of the last message. Where it holds nothing, the pull reads
-/// once, and reads again while that is interrupted (EINTR, EAGAIN, ENOENT, ECONNABORTED), 1,024
-/// times at most. It reads into a room of 135,168 bytes, or straight into the pull's own where that
-/// is at least as large. What a pull has no room for stays for the next one. A read of no byte is
-/// the end, and any other error fails the pull. Pulls take no memory.
+/// A pull gives what the room holds of the last message. If it holds nothing, the pull reads once,
+/// and again while that is interrupted (EINTR, EAGAIN, ENOENT, ECONNABORTED), at most 1,024 times.
+/// It reads into a room of 135,168 bytes, or straight into the pull's own if that is at least as
+/// large. What does not fit stays for the next pull. A read of no byte is the end, and any other
+/// error fails the pull. Pulls take no memory.
 #[derive(Drop)]
 pub struct MessageTap<R, A: Allocator> {
     reader: NotedReader<BufReader<R, A>>,
@@ -38,9 +38,8 @@ pub struct MessageTap<R, A: Allocator> {
 impl<R: Read + Drop, A: Allocator> MessageTap<R, A> {
     ghost use Rattle.fuse_device.specs.Taps.{room_of, tap_gone};
 
-    /// A source of the bytes that the reader has left, never pulled so far, with its room. Where
-    /// memory for the room is refused it is `AllocError`, nothing was read, and the reader is
-    /// dropped.
+    /// A source of the reader's remaining bytes, not pulled yet, with its room. `AllocError` if
+    /// memory for the room is refused; nothing was read then, and the reader is dropped.
     pub fn new(alloc: A, reader: R) -> Result<MessageTap<R, A>, AllocError>
         ensures state { IfOk result (λ tap. ⟦<MessageTap<R, A> as Source>⟧.state tap
             ≡ source_state (R.remaining reader) no_pulls) }
@@ -57,7 +56,7 @@ impl<R: Read + Drop, A: Allocator> MessageTap<R, A> {
         }
     }
 
-    /// Whether a pull failed since the mount was taken away: a read answered ENODEV. It stays so.
+    /// Whether a pull failed because of an unmount: a read answered ENODEV. It stays so.
     pub fn is_gone(&self) -> bool
         ensures gone { result ≡ tap_gone self.now }
         ensures failed { IsTrue result

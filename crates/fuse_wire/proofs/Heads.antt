@@ -7,7 +7,7 @@ use Rattle.std.proofs.Math.Seq.{take-append-add}
 use Rattle.fuse_wire.specs.Replies.{reply_head, reply_with}
 use Rattle.fuse_wire.proofs.Sizes.{length-head}
 
--- bytes with others in place of so many from a place on
+-- bytes with others in place of this many from a place on
 abbrev replaced : ℕ → ℕ → List ℕ → List ℕ → List ℕ
 replaced start n new bytes = take start bytes ++ (new ++ drop n (drop start bytes))
 

@@ -26,7 +26,7 @@ front_items (suc k) bytes =
     ∙ drop-take 16 (16 * k) bytes in
     rw (first, rest, front_items k (drop 16 bytes)) refl
 
--- the bytes of the first items, count of them or as many as are whole, hold these items alone
+-- the bytes of the first items, count of them or as many as are complete, hold these items alone
 pub whole_items : (count : ℕ) (bytes : List ℕ) → forgets_in (length (take (16 * min count (length bytes / 16)) bytes) / 16)
     (take (16 * min count (length bytes / 16)) bytes) ≡ forgets_in (min count (length bytes / 16)) bytes
 whole_items count bytes = go (min count (length bytes / 16)) (omega arith)

@@ -27,7 +27,7 @@ unfolding reply_with
 length-reply_with unique bytes = length-append (reply_head unique (length bytes)) bytes
     ∙ ap (λ n. n + length bytes) (length-head unique (length bytes))
 
--- INIT is answered 64 bytes where it is told the version alone
+-- INIT is answered with 64 bytes if it gets only the version
 pub length-version : length (init_out Version) ≡ 64
 unfolding init_out u32 zeros
 length-version = refl

@@ -1,5 +1,5 @@
--- Data that are held are told as they are: the reply is the one that is defined (held_told). A reply whose data are read behind its header
--- (told_whole), or that of EIO, set over it (told_unread).
+-- Held data are answered as they are: the reply is the defined one (held_told). A reply whose data are read after its header (told_whole),
+-- or that of EIO, set over it (told_unread).
 use Rattle.std.proofs.Common.{◌≡◌, ◌∙◌, sym, ap, subst, ℕ, ◌+◌, ◌-◌, ◌<◌, ◌≤◌, List, ◌++◌, length, take, drop, Some, arith, inl, inr, true, false, refl, append_assoc, take-append-drop, length-append, length-drop}
 use Rattle.std.proofs.lemmas.List.{take_at, drop_at, take-take, length-take}
 use Rattle.image_bytes.specs.Sources.{Source, MayGive, MayLack, held}

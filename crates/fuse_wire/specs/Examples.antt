@@ -1,4 +1,4 @@
--- Worked examples: what each opcode asks, and rows of directories and attributes as bytes.
+-- Worked examples: what each opcode requests, and rows of directories and attributes as bytes.
 use Rattle.std.specs.Prelude.{◌≡◌, ℕ, ◌^◌, List, [], ◌∷◌, ◌++◌, map, flat_map, replicate, codes}
 use Rattle.fuse_wire.specs.declared.flags.TheConstants.{ASYNC_READ, EXPORT_SUPPORT, DO_READDIRPLUS, READDIRPLUS_AUTO, NO_OPEN_SUPPORT, PARALLEL_DIROPS, MAX_PAGES, CACHE_SYMLINKS, NO_OPENDIR_SUPPORT, FOPEN_KEEP_CACHE, FOPEN_CACHE_DIR}
 use Rattle.fuse_wire.specs.declared.limits.TheConstants.{HEADER_SIZE, OUT_HEADER_SIZE, MAX_DATA_SIZE, MAX_READAHEAD, MAX_WRITE, MAX_MESSAGE_SIZE, MAX_REPLY_SIZE, MAX_NAME_SIZE, MAX_FORGETS}
@@ -8,11 +8,11 @@ use Rattle.node_attr.specs.declared.attr.Attr.{Attr}
 use Rattle.fuse_wire.specs.Structures.{u32, u64, zeros, attr, dirent}
 
 -- a body of 56 bytes: the numbers 2, 1, 9 and 7 of 64 bits, and zeros. As items of a BATCH_FORGET
--- it has three whole ones behind the first 8 bytes, and the count says two
+-- it has three complete ones after the first 8 bytes, and the count says two
 abbrev pub some_body : List ℕ
 some_body = u64 2 ++ u64 1 ++ u64 9 ++ u64 7 ++ zeros 24
 
--- each opcode by its number, and what it asks with that body
+-- each opcode by its number, and what it requests with that body
 pub record OpcodeExamples : Type 0 where
   pub lookup_1 : op_of 1 (codes "name" ++ zeros 1) ≡ at_node (lookup (codes "name"))
   pub forget_2 : op_of 2 some_body ≡ silent (forget 2)
@@ -63,7 +63,7 @@ pub record MessageExamples : Type 0 where
         op = at_node getattr;
       }
 
--- the items of a BATCH_FORGET: no more than the count says, and whole ones alone
+-- the items of a BATCH_FORGET: no more than the count says, and only complete ones
 pub record ForgetExamples : Type 0 where
   pub no_items : op_of 42 (u32 0xffffffff ++ zeros 4) ≡ silent (batch_forget [])
   pub count_zero : op_of 42 (zeros 24) ≡ silent (batch_forget [])
@@ -71,7 +71,7 @@ pub record ForgetExamples : Type 0 where
       (batch_forget (record { node = 3; nlookup = 4 } ∷ []))
   pub short : op_of 42 (zeros 7) ≡ malformed 42
 
--- names and their zeros fill whole 8 bytes
+-- names and their zeros fill a multiple of 8 bytes
 pub record DirentExamples : Type 0 where
   pub one_byte : dirent 1 2 4 (codes "n") ≡ u64 1 ++ u64 2 ++ u32 1 ++ u32 4 ++ codes "n" ++ zeros 7
   pub seven_bytes : dirent 1 2 4 (codes "nnnnnnn") ≡ u64 1 ++ u64 2 ++ u32 7 ++ u32 4

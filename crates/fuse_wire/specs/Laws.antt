@@ -34,7 +34,7 @@ pub record ReplySizes : Type 0 where
   pub open_file : (flags : ℕ) → length (open_out flags) ≡ 16
   pub statfs : (blocks files : ℕ) → length (statfs_out blocks files) ≡ 80
 
--- rows fill whole 8 bytes, and are no longer than they need be
+-- rows fill a multiple of 8 bytes, and are no longer than needed
 pub record RowSizes : Type 0 where
   pub dirent : (ino off file_type : ℕ) (name : List ℕ)
       → length (dirent ino off file_type name) ≡ dirent_size (length name)

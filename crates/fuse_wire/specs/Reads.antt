@@ -1,4 +1,4 @@
--- What a request that was read says, without where its names and items lie in memory.
+-- The content of a request that was read, without the places of its names and items in memory.
 use Rattle.std.specs.Prelude.{◌≡◌, ◌/◌, List, [], ◌∷◌, length, Option, MatchOption}
 use Rattle.fuse_wire.specs.declared.forget.Forget.{Forget}
 use Rattle.fuse_wire.specs.declared.forget.Forgets.{Forgets}
@@ -15,7 +15,7 @@ items_of f = forgets_in (length f.bytes.now / 16) f.bytes.now
 abbrev pub SplitsFirst : Forgets → Option (Forget × Forgets) → Type 0
 SplitsFirst f split = MatchOption split (items_of f ≡ []) (λ x. items_of f ≡ x.0 ∷ items_of x.1)
 
--- what is asked
+-- what is requested
 abbrev pub op_said : Read → Op
 op_said (Init major minor readahead flags) = init major minor readahead flags
 op_said (Lookup name) = at_node (lookup name.now)

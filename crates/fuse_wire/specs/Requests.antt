@@ -1,4 +1,4 @@
--- linux/fuse.h, fuse_in_header and the structures after it: what a message asks.
+-- linux/fuse.h, fuse_in_header and the structures after it: what a message requests.
 use Rattle.std.specs.Prelude.{ℕ, zero, suc, ◌/◌, List, [], ◌∷◌, length, drop, min, Bool, ◌==◌, nat_lt, Option, Some, None, find, if◌then◌else◌}
 use Rattle.std.specs.List.{list_any}
 use Rattle.std.specs.Option.{option_map, option_map_or}
@@ -7,7 +7,7 @@ use Rattle.fuse_wire.specs.declared.forget.Forget.{Forget}
 use Rattle.fuse_wire.specs.declared.opcode.TheConstants.{LOOKUP, FORGET, GETATTR, SETATTR, READLINK, SYMLINK, MKNOD, MKDIR, UNLINK, RMDIR, RENAME, LINK, OPEN, READ, WRITE, STATFS, RELEASE, FSYNC, SETXATTR, REMOVEXATTR, FLUSH, INIT, OPENDIR, READDIR, RELEASEDIR, FSYNCDIR, CREATE, INTERRUPT, DESTROY, BATCH_FORGET, FALLOCATE, READDIRPLUS, RENAME2, COPY_FILE_RANGE}
 use Rattle.fuse_wire.specs.Stream.{field}
 
--- what is asked about a node, with the fields that answers use
+-- what is requested about a node, with the fields that answers use
 pub data NodeOp : Type 0 where
   lookup : (name : List ℕ) → NodeOp
   getattr readlink : NodeOp
@@ -26,7 +26,7 @@ pub data SilentOp : Type 0 where
   batch_forget : (items : List Forget) → SilentOp
   interrupt : SilentOp
 
--- what is asked. A malformed request is one of a served opcode whose body is shorter than its
+-- what is requested. A malformed request is one of a served opcode whose body is shorter than its
 -- structure, or whose name is none
 pub data Op : Type 0 where
   init : (major minor readahead flags : ℕ) → Op
@@ -48,7 +48,7 @@ abbrev pub body_name : Option (List ℕ × List ℕ) → Option (List ℕ)
 body_name (Some (b ∷ name, [])) = Some (b ∷ name)
 body_name _ = None
 
--- what a LOOKUP asks with a body
+-- what a LOOKUP requests with a body
 abbrev pub lookup_of : List ℕ → Op
 lookup_of body =
     option_map_or (λ name. at_node (lookup name)) (body_name (cut_at_zero body)) (malformed LOOKUP)
@@ -70,12 +70,12 @@ abbrev pub forgets_in : ℕ → List ℕ → List Forget
 forgets_in zero bytes = []
 forgets_in (suc n) bytes = forget_one bytes ∷ forgets_in n (drop 16 bytes)
 
--- batch_forget_in: count and dummy, and then as many items as the count says and are whole in the
--- body
+-- batch_forget_in: count and dummy, and then as many items as the count says and are complete in
+-- the body
 unfoldable pub forgets_of : List ℕ → List Forget
 forgets_of body = forgets_in (min (field 4 0 body) (length (drop 8 body) / 16)) (drop 8 body)
 
--- the opcodes that are served, and what each asks with a body
+-- the opcodes that are served, and what each requests with a body
 abbrev pub served : List (ℕ × (List ℕ → Op))
 served =
     (LOOKUP, lookup_of)
@@ -114,13 +114,13 @@ modifying =
 abbrev pub is_in : ℕ → List ℕ → Bool
 is_in n ns = list_any (λ k. n == k) ns
 
--- what an opcode asks with a body
+-- what an opcode requests with a body
 unfoldable pub op_of : ℕ → List ℕ → Op
 op_of opcode body =
     if is_in opcode modifying then modify else
     option_map_or (λ row. row.1 body) (find (λ row. opcode == row.0) served) other
 
--- a request: the number that its reply repeats, the number of its node, and what is asked
+-- a request: the number that its reply repeats, the number of its node, and what is requested
 pub record Asked : Type 0 where
   pub unique : ℕ
   pub node : ℕ

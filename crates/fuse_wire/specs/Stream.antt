@@ -8,7 +8,7 @@ use Rattle.fuse_wire.specs.declared.limits.TheConstants.{HEADER_SIZE, MAX_MESSAG
 abbrev pub field : ℕ → ℕ → List ℕ → ℕ
 field n p m = little_number n (drop p m)
 
--- a message's length stands in its first four bytes
+-- a message's length is in its first four bytes
 abbrev pub said_length : List ℕ → ℕ
 said_length m = little_number 4 m
 

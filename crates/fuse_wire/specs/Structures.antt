@@ -62,7 +62,7 @@ has_no_opendir flags = has_bit 24 flags
 abbrev pub served_flags : Bool → ℕ
 served_flags lasting = if lasting then 0x01c66011 else 0x00446011
 
--- max_pages, where the client's flags have MAX_PAGES
+-- max_pages, if the client's flags have MAX_PAGES
 abbrev pub max_pages : Bool → ℕ → ℕ
 max_pages lasting flags = if has_bit 22 flags then (if lasting then 256 else 32) else 0
 
@@ -145,7 +145,7 @@ padding n = zeros (dirent_size n - (24 + n))
 unfoldable pub dirent : ℕ → ℕ → ℕ → List ℕ → List ℕ
 dirent ino off file_type name = dirent_front ino off file_type name ++ name ++ padding (length name)
 
--- direntplus: an entry_out, which is all zeros where the row has no entry, and the dirent
+-- direntplus: an entry_out, all zeros if the row has no entry, and the dirent
 unfoldable pub direntplus : Option Attr → ℕ → ℕ → ℕ → List ℕ → List ℕ
 direntplus entry ino off file_type name =
     option_map_or entry_out entry (zeros 128) ++ dirent ino off file_type name

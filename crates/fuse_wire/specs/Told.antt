@@ -1,5 +1,5 @@
--- What a client may be told: the reply that is defined; or, where its data are read, those that
--- reads gave behind the same header, or EIO.
+-- What a client may get: the defined reply; or, if its data are read, those that reads gave, after
+-- the same header, or EIO.
 use Rattle.std.specs.Prelude.{◌≡◌, ◌⊎◌, ◌<◌, ◌≤◌, ◌+◌, ◌-◌, ℕ, List, ◌++◌, length, take, drop, Bool, true, false, Option, Some, None, Result, OnOk, OnErr}
 use Rattle.image_bytes.specs.Sources.{Source, MayGive, MayLack}
 use Rattle.fuse_wire.specs.declared.errno.Errno.TheVariants.{EIO}
@@ -24,7 +24,7 @@ pub record IsUnread (reading : Reading) (unique : ℕ) (defined bytes : List ℕ
   pub is : bytes ≡ error_reply unique EIO
   pub lacks : MayLack reading.source (reading.place + (length defined - OUT_HEADER_SIZE))
 
--- what a request may be told whose reply is defined so, and whose data are read, or are not
+-- what a request may get whose reply is defined so, and whose data are read, or are not
 abbrev pub IsTold : Option Reading → ℕ → List ℕ → List ℕ → Type 0
 IsTold None unique defined bytes = bytes ≡ defined
 IsTold (Some reading) unique defined bytes =
@@ -34,8 +34,7 @@ IsTold (Some reading) unique defined bytes =
 abbrev pub read_from : Source → ℕ → Option Reading
 read_from source place = Some (record { source = source; place = place })
 
--- the call appends what may be told in the place of a reply; or, where there is no room for it and
--- none is got, nothing
+-- the call appends a possible reply; or, if there is no room for it and none is got, nothing
 abbrev pub AppendsTold : {E : Type 0} → Result (Unit {0}) E → Filled → Filled → Option Reading → ℕ
     → List ℕ → Type 0
 AppendsTold result before after reading unique defined =
@@ -45,13 +44,13 @@ AppendsTold result before after reading unique defined =
     × OnErr result (before.room < length before.items + length defined)
     × (before.room ≤ after.room)
 
--- behind what stood is what may be told in the place of a reply
+-- after the old bytes is a possible reply
 abbrev pub TakesTold : Option Reading → ℕ → List ℕ → List ℕ → List ℕ → Type 0
 TakesTold reading unique defined old new =
     (told : List ℕ) × IsTold reading unique defined told × (new ≡ old ++ told)
 
--- behind what stood are n bytes. Where it is true, they may be given from the place on; where it is
--- false, there are some, and the source may lack them
+-- after the old bytes are n bytes. If true, they may be given from the place on; if false, there
+-- are some, and the source may lack them
 pub record Fills (source : Source) (place n : ℕ) (full : Bool) (old new : List ℕ) : Type 0 where
   pub filled : List ℕ
   pub long : length filled ≡ n

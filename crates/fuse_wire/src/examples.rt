@@ -8,7 +8,7 @@ pub fn opcodes_example()
     ensures { OpcodeExamples }
 {}
 
-/// Where a message has its unique and its node.
+/// The places of a message's unique and node.
 pub fn message_example()
     ensures { MessageExamples }
 {}

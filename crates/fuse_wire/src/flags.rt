@@ -1,5 +1,5 @@
-//! Flags (linux/fuse.h, under the same names with the prefix `FUSE_`, or `FOPEN_` where the name
-//! says so).
+//! Flags (linux/fuse.h, under the same names with the prefix `FUSE_`, or `FOPEN_` if the name says
+//! so).
 
 ghost use Rattle.std.specs.Prelude.{◌≡◌};
 ghost use Rattle.fuse_wire.specs.Structures.{has_export, has_no_open, has_no_opendir};

@@ -11,7 +11,7 @@ pub(crate) const BATCH_FORGET_IN_SIZE: usize = 8;
 /// The size of a `struct fuse_forget_one`.
 const FORGET_ONE_SIZE: usize = 16;
 
-/// Where `nlookup` lies in a `struct fuse_forget_one`.
+/// The offset of `nlookup` in a `struct fuse_forget_one`.
 const NLOOKUP: usize = 8;
 
 /// A node, and how many lookups of it are forgotten (linux/fuse.h, `struct fuse_forget_one`).
@@ -38,7 +38,7 @@ impl Forget {
     }
 }
 
-/// The items of a message, in their order: whole ones alone, borrowed from it, and at most
+/// The items of a message, in order: only complete ones, borrowed from it, and at most
 /// [`MAX_FORGETS`](crate::limits::MAX_FORGETS).
 #[derive(Clone, Copy)]
 pub struct Forgets<'a> {
@@ -51,7 +51,7 @@ impl<'a> Forgets<'a> {
     ghost use Rattle.fuse_wire.specs.Requests.{forgets_of};
     ghost use Rattle.fuse_wire.specs.Reads.{items_of, SplitsFirst};
 
-    // The items in the body of a message: as many as its count says and are whole.
+    // The items in the body of a message: as many as its count says and are complete.
     #[tactic(auto, unfolding(crate::specs::Requests::forgets_of))]
     pub fn read(body: &'a [u8]) -> Self
         requires long { 8 ≤ length body.now }
@@ -72,7 +72,7 @@ impl<'a> Forgets<'a> {
         self.bytes.len() / FORGET_ONE_SIZE
     }
 
-    /// The first item and those after it; `None` where there is none.
+    /// The first item and those after it; `None` if there is none.
     #[tactic(auto, using(crate::proofs::Items::first_item))]
     pub fn split_first(self) -> Option<(Forget, Self)>
         ensures { SplitsFirst self.entry result }
@@ -85,7 +85,7 @@ impl<'a> Forgets<'a> {
     }
 }
 
-// The first items, so many of them, or as many as are whole.
+// The first items, this many, or as many as are complete.
 fn front(items: &[u8], count: usize) -> &[u8]
     ensures front { result.now ≡ take (16 * min count (length items.now / 16)) items.now }
     ensures whole { length result.now % 16 ≡ 0 }

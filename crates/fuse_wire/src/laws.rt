@@ -55,15 +55,15 @@ pub fn forgets_are_few()
     ensures reached { HEADER_SIZE + 8 + 16 * MAX_FORGETS ≤ MAX_MESSAGE_SIZE }
 {}
 
-/// The structures of replies have their sizes, and rows whole 8 bytes.
+/// The structures of replies have their sizes, and rows a multiple of 8 bytes.
 #[tactic(auto, using(crate::proofs::Bodies::reply_sizes, crate::proofs::Bodies::row_sizes))]
 pub fn structures_have_their_sizes()
     ensures replies { ReplySizes }
     ensures rows { RowSizes }
 {}
 
-/// A reply whose data are read from bytes that are held is the one that is defined, where these
-/// are the data that it should have: no read gives others, and none fails.
+/// A reply whose data are read from held bytes is the defined one, if these are the right data: no
+/// read gives others, and none fails.
 pub fn held_data_are_told()
     ensures { (xs : List ℕ) (place unique : ℕ) (defined bytes : List ℕ) →
         drop OUT_HEADER_SIZE defined

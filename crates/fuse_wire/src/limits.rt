@@ -1,6 +1,6 @@
-//! The limits of messages and replies, each said once: code reads the constants, and
-//! definitions, clauses and proofs name the same ones. Where Linux gives a limit, its name there
-//! stands beside it; the others are this project's.
+//! The limits of messages and replies, each given once: code reads the constants, and definitions,
+//! clauses and proofs name the same ones. A limit of Linux has its name there beside it; the others
+//! are this project's.
 
 /// The size of a `struct fuse_in_header` (linux/fuse.h), in bytes: no message is shorter.
 pub const HEADER_SIZE: usize = 40;
@@ -10,7 +10,7 @@ pub const OUT_HEADER_SIZE: usize = 16;
 
 /// The most bytes that one READ, READDIR or READDIRPLUS may ask for, so the most data of one reply:
 /// 1 MiB. This project's; Linux asks for no more than 256 pages (its `FUSE_MAX_MAX_PAGES`), which
-/// are as many bytes where a page has 4,096.
+/// are as many bytes if a page has 4,096.
 pub const MAX_DATA_SIZE: u32 = 1_048_576;
 
 /// The most bytes that a client may read ahead (`max_readahead` of linux/fuse.h, `struct
@@ -21,14 +21,14 @@ pub const MAX_READAHEAD: u32 = MAX_DATA_SIZE;
 /// fuse_init_out`): 32 pages of 4,096 bytes. This project's; no WRITE is served.
 pub const MAX_WRITE: u32 = 131_072;
 
-/// The most bytes of a message: 4,096 for its header and what stands beside data, and as many of
-/// data as a reply may have. This project's.
+/// The most bytes of a message: 4,096 for its header and all but data, and as many of data as a
+/// reply may have. This project's.
 pub const MAX_MESSAGE_SIZE: usize = 4_096 + MAX_DATA_SIZE as usize;
 
 /// The most bytes of a reply: its header and the most data.
 pub const MAX_REPLY_SIZE: usize = OUT_HEADER_SIZE + MAX_DATA_SIZE as usize;
 
-/// The most bytes of a name (`NAME_MAX` of linux/limits.h), which STATFS tells as `namelen`
+/// The most bytes of a name (`NAME_MAX` of linux/limits.h), which STATFS reports as `namelen`
 /// (linux/fuse.h, `struct fuse_kstatfs`). Targets of links are bounded by the rules of images.
 pub const MAX_NAME_SIZE: u32 = 255;
 

@@ -1,4 +1,4 @@
-//! The opcodes that are told apart (linux/fuse.h, `enum fuse_opcode`, with the prefix `FUSE_`).
+//! The opcodes that are distinguished (linux/fuse.h, `enum fuse_opcode`, with the prefix `FUSE_`).
 //! Every other number is answered as a request that is not served.
 
 pub const LOOKUP: u32 = 1;

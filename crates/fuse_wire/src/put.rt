@@ -1,5 +1,5 @@
-//! Replies and rows as bytes. Each writer appends exactly its bytes; where the vector has no room
-//! for them and gets none, it is as before.
+//! Replies and rows as bytes. Each writer appends exactly its bytes; if the vector has no room for
+//! them and gets none, it is unchanged.
 #![tactic(auto, unfolding(crate::specs::Replies::reply_with), using(crate::proofs::Sizes::sizes))]
 
 ghost use Rattle.std.specs.Prelude.{◌≡◌, ◌++◌, ◌<◌, ◌≤◌, ◌+◌, ◌-◌, ◌^◌, [], length, take, drop, vec_len, IsFalse};
@@ -27,7 +27,7 @@ const DIRENT_FRONT_SIZE: usize = 24;
 /// zeros behind it.
 pub const SHORT_ROW_SIZE: usize = 176;
 
-/// What stands behind a name, up to a multiple of 8 bytes: fewer than these.
+/// The padding after a name, up to a multiple of 8 bytes: fewer than these.
 const PADDING: [u8; 8] = [0; 8];
 
 /// Appends a reply without data: a `struct fuse_out_header` of 16 bytes alone, with no error.
@@ -52,8 +52,8 @@ pub fn put_data_head<A: Allocator>(
     Ok(())
 }
 
-/// Sets the header of the last reply, which begins at this place: it tells how many bytes of data
-/// stand behind it, and no error.
+/// Sets the header of the last reply, which begins at this place: it has the number of data bytes
+/// after it, and no error.
 #[inline(always)]
 pub fn set_data_head<A: Allocator>(out: &mut Replies<A>, start: usize, unique: u64)
     requires there { start + 16 ≤ length out.old.items }
@@ -95,7 +95,7 @@ pub fn put_data<A: Allocator>(
     put_three(out, &reply[..end], bytes, &[])
 }
 
-/// Appends the reply to an INIT that is not refused (`struct fuse_init_out`): 80 bytes, or 40 where
+/// Appends the reply to an INIT that is not refused (`struct fuse_init_out`): 80 bytes, or 40 if
 /// the client speaks a minor version below 23.
 pub fn put_init<A: Allocator>(
     out: &mut Replies<A>,
@@ -237,9 +237,9 @@ pub fn put_direntplus<A: Allocator>(
     put_row(out, &front[..end], row.name)
 }
 
-/// Appends a row of READDIRPLUS whose name has at most 22 bytes, and comes also with zeros behind
-/// it, up to 22. It is false, and nothing is appended, only where the replies would then have more
-/// than `most` bytes, or there is no room for [`SHORT_ROW_SIZE`] more.
+/// Appends a row of READDIRPLUS whose name has at most 22 bytes, given also with zeros up to 22. It
+/// is false, and nothing is appended, only if the replies would then have more than `most` bytes,
+/// or there is no room for [`SHORT_ROW_SIZE`] more.
 #[inline(always)]
 pub fn put_short_direntplus<A: Allocator>(
     out: &mut Replies<A>,
@@ -269,8 +269,8 @@ pub fn put_short_direntplus<A: Allocator>(
     true
 }
 
-// Sets such a row over bytes that stand already, from a place on, and returns where it ends. Of the
-// bytes that are set those behind the end say nothing.
+// Sets such a row over existing bytes, from a place on, and returns its end. The bytes set after
+// the end mean nothing.
 #[tactic(auto, unfolding(crate::specs::Structures::dirent), using(crate::proofs::Sizes::sizes))]
 #[inline(always)]
 fn set_direntplus(
@@ -328,8 +328,7 @@ fn put_row<A: Allocator>(out: &mut Replies<A>, front: &[u8], name: &[u8]) -> Res
     Ok(())
 }
 
-// The same, where there is room for more zeros than are wanted: eight are set at once, and cut to
-// these.
+// The same with room for more zeros than needed: eight are set at once, and cut to these.
 #[inline(always)]
 fn put_in_room<A: Allocator>(out: &mut Replies<A>, front: &[u8], name: &[u8], padding: usize)
     requires few { padding ≤ 8 }
@@ -348,8 +347,7 @@ fn put_in_room<A: Allocator>(out: &mut Replies<A>, front: &[u8], name: &[u8], pa
     out.len = set_padded(out.bytes.as_mut_slice(), out.len, front, name, padding);
 }
 
-// Sets the front of a row, its name, and zeros over bytes that stand already, and returns where
-// they end.
+// Sets the front of a row, its name, and zeros over existing bytes, and returns their end.
 #[inline(always)]
 fn set_padded(bytes: &mut [u8], at: usize, front: &[u8], name: &[u8], padding: usize) -> usize
     requires few { padding ≤ 8 }
@@ -365,7 +363,7 @@ fn set_padded(bytes: &mut [u8], at: usize, front: &[u8], name: &[u8], padding: u
     at + padding
 }
 
-// How many zeros stand behind a name of this many bytes.
+// How many zeros follow a name of this many bytes.
 #[inline(always)]
 fn padding(name_len: usize) -> usize
     requires { name_len < 2 ^ 32 }

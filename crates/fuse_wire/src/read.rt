@@ -11,12 +11,12 @@ use crate::structures::{error_head, head};
 use image_bytes::{Contents, fill};
 use std::alloc::{AllocError, Allocator};
 
-/// Appends a reply with so many bytes of data behind its header, read from a place on, in one
-/// growth; where there are some and they cannot be had whole, that of EIO. What is read goes into
-/// the reply at once, and nothing else of the reply's memory is told.
+/// Appends a reply with this many bytes of data after its header, read from a place on, in one
+/// growth; if there are some and they cannot be read in full, that of EIO. Data are read straight
+/// into the reply, and nothing else of the reply's memory is exposed.
 ///
-/// `AllocError` comes only where there was no room for the reply and none was got; what stands is
-/// then as before, and nothing was read.
+/// `AllocError` only if there was no room for the reply and none was got; nothing changed then, and
+/// nothing was read.
 pub fn put_read<A: Allocator, D: Contents>(
     out: &mut Replies<A>,
     unique: u64,
@@ -35,7 +35,7 @@ pub fn put_read<A: Allocator, D: Contents>(
     Ok(())
 }
 
-// The same over bytes that stand already. It returns the place behind the reply.
+// The same over existing bytes. It returns the place after the reply.
 fn set_read<D: Contents>(
     fields: &mut [u8],
     at: usize,
@@ -61,7 +61,7 @@ fn set_read<D: Contents>(
     }
 }
 
-// Fills what stands from a place on; false where there is some and it cannot be had whole.
+// Fills the bytes from a place on; false if there are some and they cannot be read in full.
 fn fill_at<D: Contents>(fields: &mut [u8], at: usize, from: &D, place: u64, size: usize) -> bool
     requires end { place + size < 2 ^ 64 }
     requires room { at + size ≤ length fields.old }

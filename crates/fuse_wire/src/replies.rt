@@ -1,8 +1,8 @@
 //! Replies, one after another, as they go to a device.
 //!
-//! They stand at the front of a vector that keeps its length. What stands behind them are bytes of
-//! earlier replies, or zeros, and says nothing: the next replies are set over it. So memory is
-//! cleared once, where it is first written to, and not for each round anew.
+//! They are at the front of a vector that keeps its length. Behind them are bytes of earlier
+//! replies, or zeros, which mean nothing: the next replies are set over them. Memory is therefore
+//! cleared once, when it is first written to, and not for each round anew.
 
 ghost use Rattle.std.specs.Prelude.{◌≡◌, ◌+◌, ◌<◌, ◌≤◌, ◌^◌, [], length, take, vec_len, vec_capacity, IfOk, OnOk};
 ghost use Rattle.fuse_wire.specs.Appends.{Appends, MakesRoom};
@@ -14,12 +14,12 @@ use std::marker::Model;
 /// Zeros by which memory is cleared.
 const ZEROS: [u8; 1024] = [0; 1024];
 
-/// How many bytes are cleared at once, where there are so many: few enough to be in the processor's
-/// cache still when replies are set over them.
+/// How many bytes are cleared at once, at most: few enough to be still in the processor's cache
+/// when replies are set over them.
 const CLEARED: usize = 8192;
 
-/// Replies, one after another. To a contract they are their bytes, how many bytes there is room for
-/// in all, and how many of these stand.
+/// Replies, one after another. A contract sees their bytes, the total room, and the length of the
+/// vector.
 #[derive(Drop)]
 pub struct Replies<A: Allocator> {
     pub(crate) bytes: Vec<u8, A>,
@@ -53,7 +53,7 @@ impl<A: Allocator> Replies<A> {
         }
     }
 
-    /// No replies, with room for so many bytes. `AllocError` comes only where memory was refused.
+    /// No replies, with room for this many bytes. `AllocError` only if memory was refused.
     pub fn with_capacity(alloc: A, capacity: usize) -> Result<Self, AllocError>
         ensures items { IfOk result (λ replies. replies.items ≡ []) }
         ensures room { IfOk result (λ replies. capacity ≤ replies.room) }
@@ -94,8 +94,8 @@ impl<A: Allocator> Replies<A> {
         self.len = 0;
     }
 
-    /// Makes room for so many bytes more. `AllocError` comes only where there was none for them and
-    /// memory was refused; what stands is then as before.
+    /// Makes room for this many bytes more. `AllocError` only if there was none for them and memory
+    /// was refused; nothing changed then.
     pub fn make_room(&mut self, more: usize) -> Result<(), AllocError>
         ensures { MakesRoom result self.old self.new more }
     {
@@ -105,7 +105,7 @@ impl<A: Allocator> Replies<A> {
         Ok(())
     }
 
-    /// Sees to it that so many bytes stand behind the replies, over which others may be set.
+    /// Ensures that this many bytes follow the replies, over which others may be set.
     #[inline(always)]
     pub(crate) fn stand(&mut self, more: usize) -> Result<(), AllocError>
         ensures room { MakesRoom result self.old self.new more }
@@ -117,7 +117,7 @@ impl<A: Allocator> Replies<A> {
         Ok(())
     }
 
-    // The same, where fewer stand.
+    // The same, if there are fewer.
     #[inline(never)]
     fn stand_anew(&mut self, more: usize) -> Result<(), AllocError>
         ensures room { MakesRoom result self.old self.new more }
@@ -129,8 +129,8 @@ impl<A: Allocator> Replies<A> {
         Ok(())
     }
 
-    /// Appends bytes. `AllocError` comes only where there was no room for them and memory was
-    /// refused; what stands is then as before.
+    /// Appends bytes. `AllocError` only if there was no room for them and memory was refused;
+    /// nothing changed then.
     #[inline(always)]
     pub fn append(&mut self, bytes: &[u8]) -> Result<(), AllocError>
         ensures { Appends result self.old self.new bytes.now }
@@ -142,7 +142,7 @@ impl<A: Allocator> Replies<A> {
         Ok(())
     }
 
-    // The same, where bytes are taken behind those that stand.
+    // The same, with bytes taken after the existing ones.
     #[inline(never)]
     fn append_to_end(&mut self, bytes: &[u8]) -> Result<(), AllocError>
         ensures { Appends result self.old self.new bytes.now }
@@ -155,7 +155,7 @@ impl<A: Allocator> Replies<A> {
     }
 }
 
-/// Takes so many bytes behind those that stand, and clears them, and some more where there is room.
+/// Takes this many bytes after the existing ones, and clears them, and some more if there is room.
 #[inline(never)]
 pub(crate) fn clear_behind<A: Allocator>(bytes: &mut Vec<u8, A>, count: usize)
     requires { vec_len bytes.old + count ≤ vec_capacity bytes.old }
@@ -167,7 +167,7 @@ pub(crate) fn clear_behind<A: Allocator>(bytes: &mut Vec<u8, A>, count: usize)
     put_zeros(bytes, count.max(CLEARED).min(room));
 }
 
-// Appends so many zeros, where there is room for them.
+// Appends this many zeros, if there is room for them.
 fn put_zeros<A: Allocator>(bytes: &mut Vec<u8, A>, count: usize)
     requires { vec_len bytes.old + count ≤ vec_capacity bytes.old }
     ensures before { take (vec_len bytes.old) bytes.new.items ≡ bytes.old.items }

@@ -20,11 +20,11 @@ pub enum InitOut {
     Version,
     /// The session's terms, from what the client asked for.
     Terms {
-        /// Whether the client is told that the tree lasts: that nothing in it ever changes. Then
-        /// the session may also have [`NO_OPEN_SUPPORT`](crate::flags::NO_OPEN_SUPPORT),
+        /// Whether the client learns that the tree lasts: that nothing in it ever changes. Then the
+        /// session may also have [`NO_OPEN_SUPPORT`](crate::flags::NO_OPEN_SUPPORT),
         /// [`CACHE_SYMLINKS`](crate::flags::CACHE_SYMLINKS) and
-        /// [`NO_OPENDIR_SUPPORT`](crate::flags::NO_OPENDIR_SUPPORT), and requests of 256 pages in
-        /// place of 32.
+        /// [`NO_OPENDIR_SUPPORT`](crate::flags::NO_OPENDIR_SUPPORT), and requests of 256 pages
+        /// instead of 32.
         lasting: bool,
         /// The minor version that the client speaks: below 23 it knows the first 24 bytes alone.
         minor: u32,

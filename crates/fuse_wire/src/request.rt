@@ -11,13 +11,13 @@ use crate::limits::HEADER_SIZE;
 use crate::opcode::LOOKUP;
 use byteorder::{ByteOrder, LittleEndian};
 
-/// Where `opcode` lies in a `struct fuse_in_header`.
+/// The offset of `opcode` in a `struct fuse_in_header`.
 const OPCODE: usize = 4;
 
-/// Where `unique` lies in a `struct fuse_in_header`.
+/// The offset of `unique` in a `struct fuse_in_header`.
 const UNIQUE: usize = 8;
 
-/// Where `nodeid` lies in a `struct fuse_in_header`.
+/// The offset of `nodeid` in a `struct fuse_in_header`.
 const NODEID: usize = 16;
 
 /// A message as it was read (linux/fuse.h, `struct fuse_in_header` and the structure after it).
@@ -66,16 +66,16 @@ pub enum Op<'a> {
     },
     /// Bytes of a file (`FUSE_READ`).
     Read {
-        /// Where they begin in the file.
+        /// Their offset in the file.
         offset: u64,
         /// How many at most.
         size: u32,
     },
-    /// Figures of the whole tree (`FUSE_STATFS`).
+    /// Figures of the entire tree (`FUSE_STATFS`).
     Statfs,
     /// A file is closed (`FUSE_RELEASE`).
     Release,
-    /// What was written to a file is to be kept (`FUSE_FSYNC`).
+    /// Store what was written to a file (`FUSE_FSYNC`).
     Fsync,
     /// A file's descriptor is closed (`FUSE_FLUSH`).
     Flush,
@@ -90,7 +90,7 @@ pub enum Op<'a> {
     },
     /// A directory is closed (`FUSE_RELEASEDIR`).
     Releasedir,
-    /// What was written to a directory is to be kept (`FUSE_FSYNCDIR`).
+    /// Store what was written to a directory (`FUSE_FSYNCDIR`).
     Fsyncdir,
     /// An earlier request is no longer wanted (`FUSE_INTERRUPT`).
     Interrupt,
@@ -120,7 +120,7 @@ pub enum Op<'a> {
 }
 
 impl<'a> Request<'a> {
-    /// Reads a whole message, as [`frame`](crate::frame) found it. Names and items are borrowed
+    /// Reads a complete message, as [`frame`](crate::frame) found it. Names and items are borrowed
     /// from it.
     pub fn read(message: &'a [u8]) -> Self
         requires { IsGoodLength (length message.now) }
@@ -134,8 +134,8 @@ impl<'a> Request<'a> {
     }
 }
 
-/// The node and the name of a LOOKUP at a glance, for whoever reads ahead: no answer follows from
-/// it. None of any other message. The name is not looked at but for its length.
+/// The node and the name of a LOOKUP, for reading ahead: no answer follows from it. None for any
+/// other message. Only the length of the name is checked.
 pub fn glance(message: &[u8]) -> Option<(u64, &[u8])> {
     if message.len() < HEADER_SIZE + 2 || LittleEndian::read_u32(&message[OPCODE..]) != LOOKUP {
         return None;

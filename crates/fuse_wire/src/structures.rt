@@ -1,5 +1,5 @@
-//! The structures of replies (linux/fuse.h), each set over bytes that stand already, from a place
-//! on, field by field in its order. Each function returns the place behind it.
+//! The structures of replies (linux/fuse.h), each set over existing bytes, from a place on, field
+//! by field in order. Each function returns the place after it.
 
 ghost use Rattle.std.specs.Prelude.{◌≡◌, ◌++◌, ◌<◌, ◌≤◌, ◌+◌, ◌^◌, length, take};
 ghost use Rattle.fuse_wire.specs.Structures.{init_out, init_out_22, init_out_rest, max_pages, served_flags, attr, entry_out, negative_entry_out, attr_out, open_out, statfs_out, row_front};
@@ -37,7 +37,7 @@ const MINOR: u32 = 31;
 /// The flags that a session may have.
 const SERVED_FLAGS: u32 = 0x0044_6011;
 
-/// The same where the tree lasts.
+/// The same if the tree lasts.
 const LASTING_FLAGS: u32 = 0x01c6_6011;
 
 /// How many requests may wait in the background.
@@ -52,7 +52,7 @@ const TIME_GRANULARITY: u32 = 1;
 /// How many pages of 4,096 bytes a request may have.
 const MAX_PAGES: u16 = 32;
 
-/// The same where the tree lasts: as many as Linux allows (its `FUSE_MAX_MAX_PAGES`).
+/// The same if the tree lasts: as many as Linux allows (its `FUSE_MAX_MAX_PAGES`).
 const LASTING_MAX_PAGES: u16 = 256;
 
 /// How long an entry or attributes stay valid, in seconds.

@@ -5,7 +5,7 @@ use Rattle.hash_tree.specs.declared.algorithm.Algorithm.{Algorithm}
 use Rattle.hash_tree.specs.declared.algorithm.Algorithm.TheVariants.{Sha256, Sha512}
 use Rattle.hash_tree.specs.Tree.{Hash, AreBytes, HasLevels, root_hash}
 
--- how many blocks so many bytes fill
+-- how many blocks this many bytes fill
 abbrev pub blocks_of : ℕ → ℕ
 blocks_of size = (size + 4095) / 4096
 

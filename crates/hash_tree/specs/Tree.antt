@@ -57,12 +57,12 @@ blocks_above Sha512 n = (n + 63) / 64
 unfoldable pub above : Algorithm → Hash → List ℕ → ℕ → List ℕ
 above a h xs n = digests h xs n ++ replicate (4096 * blocks_above a n - digest_size a * n) 0
 
--- so many levels above n blocks, and no fewer, end in one block
+-- this many levels above n blocks, and no fewer, end in one block
 pub record HasLevels (a : Algorithm) (n levels : ℕ) : Type 0 where
   pub enough : n ≤ fan a ^ levels
   pub least : (k : ℕ) → n ≤ fan a ^ k → levels ≤ k
 
--- the digest of the one block at the top, so many levels above n blocks
+-- the digest of the one block at the top, this many levels above n blocks
 unfoldable pub root : Algorithm → Hash → ℕ → List ℕ → ℕ → List ℕ
 root a h zero xs n = h xs
 root a h (suc levels) xs n = root a h levels (above a h xs n) (blocks_above a n)

@@ -26,7 +26,7 @@ HaveTwins a h (suc levels) xs ys n =
     ((i : ℕ) × (i < n) × AreTwins h (block xs i) (block ys i))
     ⊎ HaveTwins a h levels (above a h xs n) (above a h ys n) (blocks_above a n)
 
--- two files, each with so many levels: their descriptors are twins, or their trees have twins
+-- two files, each with this many levels: their descriptors are twins, or their trees have twins
 pub record AreForged (a : Algorithm) (h : Hash) (xs ys : List ℕ) (k levels : ℕ) : Type 0 where
   pub twins : AreTwins h (descriptor a (length xs) (root_of a h k xs)) (descriptor a (length ys) (root_of a h levels ys))
       ⊎ HaveTwins a h k (in_blocks xs) (in_blocks ys) (blocks_of (length xs))

@@ -4,8 +4,8 @@ use Rattle.hash_tree.specs.declared.algorithm.Algorithm.{Algorithm}
 use Rattle.hash_tree.specs.Tree.{Hash, IsBlock, HasLevels, fan, digest_at}
 use Rattle.hash_tree.specs.File.{blocks_of, descriptor}
 
--- the root hash vouches for the block with this index, so many levels below: a block above it, for
--- which that hash vouches too, has its digest at its place
+-- the root hash vouches for the block with this index, this many levels below: a block above it,
+-- for which that hash vouches too, has its digest at its place
 unfoldable pub Vouches : Algorithm → Hash → ℕ → List ℕ → ℕ → List ℕ → Type 0
 Vouches a h zero top i b = h b ≡ top
 Vouches a h (suc levels) top i b =

@@ -47,7 +47,7 @@ impl Algorithm {
         }
     }
 
-    /// How many blocks the digests of so many blocks fill.
+    /// How many blocks the digests of this many blocks fill.
     pub fn blocks_above(self, blocks: u64) -> u64
         requires { blocks ≤ 2 ^ 52 }
         ensures count { result ≡ blocks_above self blocks }

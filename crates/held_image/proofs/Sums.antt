@@ -1,5 +1,5 @@
--- The sum of whole words, word by word: of fewer than four bytes it is 0 (sum_short), and else that
--- of the bytes behind the first word and that word (sum_next).
+-- The sum of complete words, word by word: of fewer than four bytes it is 0 (sum_short), and else that of the bytes after the first word
+-- and that word (sum_next).
 use Rattle.std.proofs.Common.{◌≡◌, ◌∙◌, sym, ap, ℕ, ◌+◌, ◌^◌, ◌%◌, ◌<◌, ◌≤◌, List, [], ◌∷◌, length, take, drop, get_or, refl, arith, length-drop, length-take-le}
 use Rattle.std.proofs.lemmas.List.{get_or-drop, get_or-take, ext_get_or}
 use Rattle.byteorder.specs.Endian.{big_number}

@@ -35,7 +35,7 @@ begins a xs l h =
 pub begins_not : (a xs : List ℕ) (i : ℕ) → i < length xs → get_or a i 0 ≢ get_or xs i 0 → ¬ StartsWith a xs
 begins_not a xs i l n s = n (ap (λ b. get_or b i 0) s.1 ∙ get_or_append_left xs s.0 0 i l)
 
--- a test whether a list begins with another goes by its first places
+-- a test whether a list begins with another depends on its first places
 pub same_front : (xs ys : List ℕ) → length ys ≤ length xs → ((i : ℕ) → i < length ys → get_or xs i 0 ≡ get_or ys i 0)
     → starts_with nat_eq xs ys ≡ true
 same_front xs [] l h = refl

@@ -9,7 +9,7 @@ abbrev pub bytes_of : Form → List ℕ
 bytes_of (Whole bytes) = bytes.now
 bytes_of (Sparse size blocks bytes) = filled size blocks.all.now bytes.now
 
--- blocks that are held are in order, and whole
+-- held blocks are in order, and complete
 abbrev pub IsHeld : Form → Type 0
 IsHeld (Whole bytes) = ⊤
 IsHeld (Sparse size blocks bytes) = IsKept blocks.all.now bytes.now

@@ -1,9 +1,8 @@
 //! Blocks that are kept of an image, and reading in them.
 //!
-//! The numbers of the blocks that are kept rise, and their bytes stand one block after another: so
-//! bytes that lie together in the image lie together here, and a name is a slice. `numbers`
-//! finds a block. What is called for a field is marked as cold, so that whoever reads by `read` has
-//! the way to a slice close at hand.
+//! The numbers of the kept blocks rise, and their bytes follow one another: bytes that are adjacent
+//! in the image are adjacent here, and a name is a slice. `numbers` finds a block. Calls for single
+//! fields are marked as cold, which keeps the path to a slice short for readers of `read`.
 
 ghost use Rattle.std.specs.Prelude.{◌≡◌, ◌+◌, ◌*◌, ◌/◌, ◌^◌, ◌<◌, ◌≤◌, ◌%◌, length, take, drop, get_or, slice_index, min, ℕ, List, IfSome};
 ghost use Rattle.std.specs.Option.{option_map};
@@ -20,13 +19,13 @@ use romfs_format::head::Head;
 use romfs_format::limits::{HEAD_SIZE, NAME_FIELD_SIZE};
 use romfs_format::read::{cleared, kind_of, padded, word, word_sum};
 
-/// The bytes of a block. Headers, and the names behind them, are whole blocks.
+/// The bytes of a block. Headers, and the names after them, are complete blocks.
 pub const BLOCK_SIZE: usize = 16;
 
 /// How many blocks a run has at most: as many as a header and its name can reach into.
 const RUN_BLOCKS: usize = 18;
 
-/// How many numbers a word can be.
+/// How many values a word has.
 const WORDS: u64 = 0x1_0000_0000;
 
 /// How many blocks from the one at a position on have numbers that rise by one, at most
@@ -82,7 +81,7 @@ fn run<'a>(blocks: &Numbers<'_>, bytes: &'a [u8], at: u32) -> &'a [u8]
     &bytes[from..(position + count) * BLOCK_SIZE]
 }
 
-/// The kept bytes from a place on, up to the end of its block; none where that is not kept.
+/// The kept bytes from a place on, up to the end of its block; none if that is not kept.
 #[inline(always)]
 fn rest_of_block<'a>(blocks: &Numbers<'_>, bytes: &'a [u8], at: u32) -> &'a [u8]
     requires { IsKept blocks.now.all.now bytes.now }
@@ -154,8 +153,8 @@ fn name_field(near: &[u8], room: usize) -> &[u8]
     &near[..near.len().min(room).min(NAME_FIELD_SIZE)]
 }
 
-/// Where the name ends that begins at a place, by the bytes from there on and by how many bytes
-/// there are from there to the image's end.
+/// The end of the name that begins at a place, from the bytes there and the number of bytes up to
+/// the image's end.
 fn end_in(near: &[u8], room: usize) -> Option<usize>
     ensures value { (a : List ℕ) (at : ℕ) → length a ≡ at + room → IsFront a at 256 near.now →
         option_map (λ end. take end near.now) result ≡ ended (field_of a at) }
@@ -192,7 +191,7 @@ pub fn text_in(near: &[u8], at: u32, size: u32) -> Option<&[u8]>
     }
 }
 
-/// How long the name of the header at a place is, by the bytes from the name on; 0 where it has no
+/// The length of the name of the header at a place, from the bytes of the name on; 0 if it has no
 /// end.
 fn name_len_in(near: &[u8], at: u32, size: u32) -> u32
     requires { at + HEAD_SIZE ≤ size }
@@ -205,7 +204,7 @@ fn name_len_in(near: &[u8], at: u32, size: u32) -> u32
     }
 }
 
-/// The header at a place, by its words and the length of its name.
+/// The header at a place, from its words and the length of its name.
 fn head_with(at: u32, first: u32, spec: u32, size: u32, name_len: u32) -> Head
     requires { at + HEAD_SIZE < 2 ^ 32 }
     ensures { (a : List ℕ) → first ≡ word_of a at → spec ≡ word_of a (at + 4) →
@@ -301,8 +300,8 @@ pub(crate) fn text_of_blocks<'a>(
     text_in(run(blocks, bytes, at), at, size)
 }
 
-/// The name of the header at a place, of an image of this size, by its length; the empty one where
-/// it has no end.
+/// The name of the header at a place in an image of this size, by its length; empty if it has no
+/// end.
 #[cold]
 pub(crate) fn name_of_blocks<'a>(
     blocks: &Numbers<'_>,
@@ -326,7 +325,7 @@ pub(crate) fn name_of_blocks<'a>(
     }
 }
 
-/// So many bytes from a place on, of an image of this size, where they are kept without a gap and
+/// This many bytes from a place on, of an image of this size, where they are kept without a gap and
 /// are no more than a header and its name can have.
 #[tactic(auto, using(crate::proofs::Sums::run_part))]
 pub(crate) fn slice_of_blocks<'a>(
@@ -349,7 +348,7 @@ pub(crate) fn slice_of_blocks<'a>(
     }
 }
 
-/// The sum of the whole words of so many bytes from a place on, of an image of this size.
+/// The sum of the complete words in this many bytes from a place on, in an image of this size.
 pub(crate) fn sum_in(blocks: &Numbers<'_>, bytes: &[u8], size: u32, at: u32, len: u32) -> u32
     requires kept { IsKept blocks.now.all.now bytes.now }
     requires within { at + len ≤ size }

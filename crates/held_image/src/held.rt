@@ -6,8 +6,8 @@ ghost use Rattle.held_image.specs.Blocks.{IsKept, filled};
 use crate::numbers::Numbers;
 use std::marker::Model;
 
-/// An image. A clause sees the list of its bytes, of an image of which blocks are kept those at
-/// their places, and zeros between.
+/// An image. A clause sees the list of its bytes; if only blocks are kept, these at their places,
+/// and zeros between.
 #[derive(Drop)]
 pub struct Held<'a> {
     pub(crate) form: Form<'a>,
@@ -83,7 +83,7 @@ impl<'a> Held<'a> {
         }
     }
 
-    /// The first bytes alone, so many.
+    /// Only the first bytes, this many.
     #[tactic(auto, using(crate::proofs::Fronts::filled_long, crate::proofs::Views::first_filled))]
     pub fn first(&self, count: usize) -> Held<'a>
         requires { count ≤ length self.now }

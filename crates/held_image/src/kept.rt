@@ -36,8 +36,7 @@ impl<A: Allocator> Model for Kept<A> {
 
 impl<A: Allocator> Kept<A> {
     /// Blocks of an image of this size in bytes: their numbers, rising, and the bytes of each, one
-    /// behind the other. Those behind the size are let go. The error comes only where memory was
-    /// refused.
+    /// behind the other. Those beyond the size are dropped. Fails only if memory was refused.
     #[tactic(auto, using(crate::proofs::Fronts::filled_long))]
     pub fn new(
         alloc: A,
@@ -69,7 +68,7 @@ impl<A: Allocator> Kept<A> {
         Held::sparse(self.size, self.stretches.beside(&self.blocks), &self.bytes)
     }
 
-    /// The first bytes alone, so many. The blocks behind them are let go, with their memory where
+    /// The first bytes alone, this many. The blocks behind them are let go, with their memory where
     /// less is granted.
     #[tactic(auto, using(crate::proofs::Fronts::filled_long, crate::proofs::Views::first_filled))]
     pub fn first(self, count: u32) -> Kept<A>
@@ -133,7 +132,7 @@ fn cut<A: Allocator>(
     bytes.truncate(count * BLOCK_SIZE);
 }
 
-/// Adds the numbers of so many blocks, from the first on.
+/// Adds the numbers of this many blocks, from the first on.
 fn add_row<A: Allocator>(blocks: &mut Vec<u32, A>, first: u32, count: u32) -> Result<(), AllocError>
     requires { first + count ≤ 2 ^ 28 }
     ensures { OnOk result (HasNumbers blocks.old.items first count blocks.new.items) }

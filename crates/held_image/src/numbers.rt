@@ -1,17 +1,17 @@
 //! The numbers of blocks that are kept, and how one is found among them.
 //!
-//! All numbers up to the last are cut into stretches of one length, a power of two, some four of
-//! which have as many numbers that are kept. For each it is noted how many are kept before it. So a
-//! block is sought by halves among those of its stretch alone, which are few where they lie evenly.
-//! Where small files lie beside huge ones most stretches have none and a few have very many: one
-//! that has many is cut once more, into parts that have some four. What is noted is a guess: it is
-//! held against the numbers at its ends, and where it is wrong, or there is none, all are searched.
-//! It takes some 4 bytes for every four blocks, at most 8 where they do not lie evenly, and is made
-//! in one step for each of them and one for each stretch.
+//! All numbers up to the last are cut into stretches of one length, a power of two, with about four
+//! kept numbers each. For each stretch the number of kept ones before it is noted. A block is then
+//! found by binary search in its stretch alone, which is short if blocks are spread evenly. If
+//! small files lie beside huge ones, most stretches have none and a few have very many: a stretch
+//! with many is cut once more, into parts of about four. A note is a guess: it is checked against
+//! the numbers at its ends, and if it is wrong, or there is none, all are searched. Notes take
+//! about 4 bytes for every four blocks, at most 8 if they are spread unevenly, and one step for
+//! each of them and for each stretch.
 //!
-//! Most blocks are found before: where all up to one, or all from one on, are kept, as those of a
-//! trailer are, it stands where its number says, and of a stretch or part the first sixteen numbers
-//! are looked at one by one.
+//! Most blocks are found earlier: if all up to one, or all from one on, are kept, as those of a
+//! trailer are, its number is its position; and the first sixteen numbers of a stretch or part are
+//! tried one by one.
 
 ghost use Rattle.std.specs.Prelude.{◌≡◌, ◌<◌, ◌≤◌, ◌^◌, length, slice_index, IsTrue, IfSome};
 ghost use Rattle.held_image.specs.Blocks.{Rises, IsRank, HoldsRank};
@@ -31,10 +31,10 @@ const NEAR: usize = 4 * FEW;
 #[derive(Clone, Copy)]
 pub(crate) struct Numbers<'a> {
     pub(crate) all: &'a [u32],
-    /// By stretch, how many numbers stand before it; then how many there are; then the same by
-    /// part, of stretches that have many numbers.
+    /// By stretch, how many numbers precede it; then how many there are; then the same by part, for
+    /// stretches with many numbers.
     starts: &'a [u32],
-    /// Where that of the parts begins.
+    /// Where the notes of the parts begin.
     parts: usize,
     /// How many binary digits a number has within its stretch.
     shift: u32,
@@ -110,7 +110,7 @@ impl<'a> Numbers<'a> {
     }
 }
 
-/// What is noted of numbers, as it is lent beside them.
+/// The notes on numbers, lent with them.
 #[derive(Drop)]
 pub(crate) struct Stretches<A: Allocator> {
     starts: Vec<u32, A>,
@@ -170,7 +170,7 @@ impl Within {
 /// How a stretch that has many numbers is cut into parts of one length, a power of two.
 #[derive(Clone, Copy)]
 struct Parts {
-    /// Where it is noted of the first.
+    /// Where the note of the first is.
     first: usize,
     /// How many there are, less one.
     last: usize,
@@ -179,8 +179,8 @@ struct Parts {
 }
 
 impl Parts {
-    // The parts of a stretch whose numbers have these positions. What is noted of them begins at a
-    // fourth of how many numbers stand before, so there is room for as many.
+    // The parts of a stretch whose numbers have these positions. Their notes begin at a fourth of
+    // the count of numbers before, so there is room for as many.
     fn of(parts: usize, found: Within, shift: u32) -> Parts {
         let digits = 63u32.saturating_sub((found.count() / FEW).leading_zeros());
         Parts {
@@ -190,7 +190,7 @@ impl Parts {
         }
     }
 
-    // Where it is noted of the part in which a number lies.
+    // Where the note of a number's part is.
     fn of_number(&self, number: u32) -> usize {
         self.first
             .saturating_add(without(number, self.shift) & self.last)
@@ -215,7 +215,7 @@ fn at_an_end(all: &[u32], block: u32) -> Option<usize>
     }
 }
 
-// A number without so many of its last binary digits.
+// A number without this many of its last binary digits.
 fn without(number: u32, digits: u32) -> usize
     ensures { result < 2 ^ 32 }
 {
@@ -234,7 +234,7 @@ fn shift_for(numbers: &[u32]) -> u32 {
     }
 }
 
-// Notes where stretches begin, up to the last that has a number.
+// Notes where stretches begin, up to the last with a number.
 fn note_starts<A: Allocator>(
     starts: &mut Vec<u32, A>,
     numbers: &[u32],
@@ -252,8 +252,7 @@ fn note_starts<A: Allocator>(
     Ok(())
 }
 
-// Notes where parts begin, of each stretch that has many numbers, behind what is noted of
-// stretches.
+// Notes where parts begin, for each stretch with many numbers, after the notes of stretches.
 fn note_parts<A: Allocator>(
     starts: &mut Vec<u32, A>,
     numbers: &[u32],
@@ -275,7 +274,7 @@ fn note_parts<A: Allocator>(
     Ok(())
 }
 
-// Notes where the parts of one stretch begin that has these numbers, and so many stand before it.
+// Notes where the parts of one stretch begin, which has these numbers and this many before it.
 fn note_stretch<A: Allocator>(
     starts: &mut Vec<u32, A>,
     numbers: &[u32],
@@ -317,7 +316,7 @@ fn holds(all: &[u32], guess: Within, block: u32) -> bool
     above && below
 }
 
-// The rank of a block between these positions, by halves.
+// The rank of a block between these positions, by binary search.
 fn rank_within(all: &[u32], within: Within, block: u32) -> usize
     requires rises { Rises all.now }
     requires within { HoldsRank all.now block within.low within.high }

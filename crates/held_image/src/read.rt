@@ -48,7 +48,7 @@ pub fn starts_with(image: &Held<'_>, bytes: &[u8]) -> bool
     true
 }
 
-/// Whether some bytes stand at a place.
+/// Whether a place has these bytes.
 pub fn stand_at(image: &Held<'_>, at: usize, bytes: &[u8]) -> bool
     requires { at ≤ length image.now }
     ensures { result ≡ begins_with nat_eq (drop at image.now) bytes.now }
@@ -97,7 +97,7 @@ pub fn long_word(image: &Held<'_>, at: usize) -> u64
     }
 }
 
-/// The name whose field begins at a place of the accessible bytes; none where it has no end, or its
+/// The name whose field begins at a place of the accessible bytes; none if it has no end, or its
 /// padding ends beyond them.
 #[inline(always)]
 #[tactic(auto, using(crate::proofs::Fronts::filled_long))]
@@ -117,7 +117,7 @@ pub fn text_at<'a>(image: &Held<'a>, at: usize) -> Option<&'a [u8]>
     }
 }
 
-/// The sum of the whole words of so many bytes from a place on.
+/// The sum of the complete words in this many bytes from a place on.
 #[tactic(auto, using(crate::proofs::Fronts::filled_long))]
 pub fn sum(image: &Held<'_>, at: usize, len: usize) -> u32
     requires { at + len ≤ length image.now }
@@ -173,8 +173,8 @@ pub fn head_named(image: &Held<'_>, at: u32, name_len: u32) -> Head
     }
 }
 
-/// The name of the header at a place, whose length is known, so that its end is not sought in a
-/// slice. It is empty where it has no end.
+/// The name of the header at a place, with known length, so its end is not searched in a slice.
+/// Empty if it has no end.
 #[inline(always)]
 #[tactic(auto, using(crate::proofs::Fronts::filled_long))]
 pub fn name_of<'a>(image: &Held<'a>, at: u32, name_len: u32) -> &'a [u8]
@@ -192,8 +192,8 @@ pub fn name_of<'a>(image: &Held<'a>, at: u32, name_len: u32) -> &'a [u8]
     }
 }
 
-/// So many bytes from a place on, where all bytes of the image are held, or these without a gap and
-/// no more than a header and its name can have; else none.
+/// This many bytes from a place on, where all bytes of the image are held, or these without a gap
+/// and no more than a header and its name can have; else none.
 #[inline(always)]
 #[tactic(auto, using(crate::proofs::Fronts::filled_long))]
 pub fn slice_at<'a>(image: &Held<'a>, at: usize, len: usize) -> Option<&'a [u8]>
@@ -235,7 +235,7 @@ pub fn copy_some(image: &Held<'_>, at: usize, room: &mut [u8]) -> usize
     }
 }
 
-/// Where the root stands.
+/// The place of the root.
 #[tactic(auto, unfolding(romfs_format::specs::Fields::root))]
 pub fn root_of(image: &Held<'_>) -> u32
     requires long { HEAD_SIZE ≤ length image.now }

@@ -1,4 +1,4 @@
--- Why the images of a list were not read, as their caller is told.
+-- Why the images of a list were not read, as their caller is reported.
 use Rattle.std.proofs.Common.{◌≡◌, sym, subst, ℕ, ◌+◌, ◌<◌, ◌⊎◌, inl, inr, Result, Ok, Err, IfErr, IsErrAnd, arith}
 use Rattle.image_files.specs.Unread.{IsNextUnread, IsReadUpTo}
 use Rattle.image_files.specs.declared.images.FilesFault.{FilesFault}
@@ -12,7 +12,7 @@ one_unread : (count read : ℕ) (fault : FilesFault) → IsNextUnread 0 count re
 one_unread count read fault (inl memory) = inl memory
 one_unread count read fault (inr (below, is)) = inr (0 + read, omega arith, is)
 
--- a fault that ended the run is told
+-- a fault that ended the run is reported
 pub unread_told : {X : Type 0} (count read : ℕ) (end : Result (Unit {0}) FilesFault) (fault : FilesFault) (told : Result X FilesFault)
     → IsReadUpTo 0 count read end → end ≡ Err fault → IsErrAnd told (λ t. t ≡ fault) → IfErr told (IsOneUnread count)
 unread_told count read end fault (Ok x) run is same = tt

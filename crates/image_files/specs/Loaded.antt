@@ -10,13 +10,13 @@ use Rattle.image_files.specs.declared.image_data.ImageData.{ImageData}
 use Rattle.image_files.specs.declared.image_data.ImageData.TheVariants as from
 use Rattle.image_files.specs.Data.{known_bytes}
 
--- what is kept was gathered of the data, where their bytes are known: with their trailer, where
+-- what is kept was gathered from the data, where their bytes are known: with their trailer, where
 -- trailers are read
 abbrev pub WasGathered : Trailers → Option (List ℕ) → List ℕ → Type 0
 WasGathered Read known kept = IsGatheredWithTrailer known kept
 WasGathered Left known kept = IsGathered known kept
 
--- what the rules look at is held: it was gathered of these bytes, where they are known, with their
+-- what the rules look at is held: it was gathered from these bytes, where they are known, with their
 -- trailer, where trailers are read
 abbrev pub IsKeptWith : {A : Type 0} → Option (List ℕ) → Trailers → HeldImage A → Type 0
 IsKeptWith known trailers (held.Kept kept) = WasGathered trailers known kept

@@ -20,7 +20,7 @@ use Rattle.image_files.specs.Loaded.{IsKeptOf, IsOpenOver}
 abbrev pub IsBlockDevice : Metadata → Type 0
 IsBlockDevice m = bit_and (metadata_mode m) FILE_TYPE ≡ BLOCK_DEVICE
 
--- a regular file of so many bytes, and of one at least; or a block device; or any other
+-- a regular file of this many bytes, and of one at least; or a block device; or any other
 abbrev pub IsKindOf : Metadata → FileKind → Type 0
 IsKindOf m (Regular size) = IsFile (file_type m) × (size ≡ metadata_len m) × (0 < size)
 IsKindOf m BlockDevice = IsBlockDevice m

@@ -1,4 +1,4 @@
--- What the counts of a source are, which was new before, after it was read to its end.
+-- The counts of a new source after it was read to its end.
 use Rattle.std.specs.Prelude.{◌≡◌, ◌≤◌, ◌⊎◌, Some, Result, Ok, Err}
 use Rattle.devices.specs.declared.counts.LastPull.TheVariants.{End, Failure}
 use Rattle.devices.specs.declared.counts.Pulls.{Pulls}

@@ -7,7 +7,7 @@ use std::os::unix::fs::FileExt;
 /// What the bytes of an image are read from. Several may read at the same time.
 #[derive(Drop)]
 pub enum ImageData<F, A: Allocator> {
-    /// The file, which stays open. Its size is the one that it told when it was opened.
+    /// The file, which stays open. Its size is the one that it reported when it was opened.
     File(InFile<F>),
     /// All bytes of a file that cannot be read at a place.
     Memory(Vec<u8, A>),

@@ -1,9 +1,8 @@
 //! The files of images, of a long list some at the same time.
 //!
 //! A list is cut in two, and a long half once more; each part is read from its lowest image up, and
-//! what two halves found is put together: a fault of the lower half, of memory or of an image that
-//! cannot be read, is told before one of the upper. So all images below the one that is told were
-//! read.
+//! the results of two halves are joined: a fault of the lower half (memory, or an image that cannot
+//! be read) comes before one of the upper. All images below the reported one were therefore read.
 
 ghost use Rattle.std.specs.Prelude.{◌≡◌, ◌⊎◌, ◌+◌, ◌<◌, ◌^◌, ℕ, ◌++◌, length, vec_len, IfOk, IfErr, OnOk};
 ghost use Rattle.image_files.specs.Files.{AreLoaded, IsLoadedOf, IsOfFile};
@@ -60,7 +59,7 @@ impl<T: Drop> From<AllocFailed<T>> for FilesFault {
 /// its part is opened, so there may be any number of them.
 ///
 /// Of a long list at most four parts are read at the same time; of several files that cannot be
-/// read the lowest is told, if there was memory for all below it. `Unread` comes where a file
+/// read the lowest is reported, if there was memory for all below it. `Unread` comes where a file
 /// cannot be opened, as one too many, where a read fails or gives fewer bytes than the file has
 /// said, and where a device tells no end. That an image's full size goes on behind the end of its
 /// file is no fault here. `Memory` comes, too, where a trailer that is read ends at 2^32 or behind.
@@ -91,8 +90,8 @@ struct Run<T, A: Allocator> {
     end: Result<(), FilesFault>,
 }
 
-/// What is read of a run of images, of which the lowest has the number `first`: of its halves at
-/// the same time, each of which is cut so once less, or of one after another.
+/// The images of a run whose lowest has the number `first`, read in halves at the same time, each
+/// of which is cut once less, or one after another.
 #[cycle(halves)]
 fn load_from<R: Files + Threads + Sync, A: Allocator + Copy + Send + Sync>(
     rt: &R,
@@ -137,8 +136,8 @@ where
     both(low, high)
 }
 
-/// What was read of both halves: all of the lower one and then of the upper one; or of the lower
-/// one alone, where that is not whole.
+/// What was read of both halves: all of the lower one, then the upper one; or the lower one alone
+/// if it is not complete.
 fn both<T: Drop, A: Allocator>(low: Run<T, A>, high: Run<T, A>) -> Run<T, A>
     ensures order { OnOk result.end (result.images.items
         ≡ low.images.items ++ high.images.items) }
@@ -189,7 +188,7 @@ where
 }
 
 /// Adds what is read of a run of images, of which the lowest has the number `first`, to an empty
-/// list, from the lowest up. The first that cannot be read is told, behind all that were added.
+/// list, from the lowest up. The first that cannot be read is reported, behind all that were added.
 fn add_in_turn<R: Files, A: Allocator + Copy>(
     rt: &R,
     alloc: A,

@@ -1,4 +1,4 @@
-//! The images in files: read whole, or opened, of which only what the rules look at is read.
+//! Images in files: read in full, or opened, in which case only what the rules check is read.
 //!
 //! [`load`] loads the files of a list of paths, in one of three ways ([`Loading`]), and gives a
 //! [`LoadedImage`] of each:
@@ -7,17 +7,17 @@
 //!   [`devices::Tap`], 64 KiB a pull; memory is taken once for each file that tells its length.
 //! - open. Of a file that can be read at a place headers, names and targets are read
 //!   (`kept_image`), in memory in proportion to these, and the file stays open; others are read
-//!   whole. Such an image has both: what is kept, and what its data are read from, the file or the
+//!   in full. Such an image has both: what is kept, and what its data are read from, the file or the
 //!   bytes ([`ImageData`]). [`apart`] makes two lists of a list of images.
 //! - gathered. As much is read, and no file is kept open.
 //!
 //! Of a long list up to four parts are read at the same time; the lowest image that cannot be read
-//! is told.
+//! is reported.
 //!
 //! The private parts: `images` shares a list out; `opening` loads one file by what it is, `whole`
 //! reads all of one; `loaded` and `image_data` have what comes of it. No clause sees a
 //! path, nor what a read at a place gives: the tests open real files. Bytes in memory are those of
-//! some file, where these are known, and what is kept beside them was gathered of them.
+//! some file, where these are known, and what is kept beside them was gathered from them.
 #![tactic(auto)]
 
 mod image_data;

@@ -115,7 +115,7 @@ fn gather_as<S: Contents, A: Allocator + Copy>(
 }
 
 /// Takes images apart: what is held of each; and what the data are read from of each whose file
-/// stays open, in the order of the images. `AllocError` comes only where memory was refused.
+/// stays open, in the order of the images. `AllocError` comes only if memory was refused.
 pub fn apart<F: Drop, A: Allocator + Copy>(
     alloc: A,
     images: Vec<LoadedImage<F, A>, A>,

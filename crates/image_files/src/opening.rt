@@ -1,8 +1,8 @@
-//! Files that are opened, of which at first only what the rules look at is read.
+//! Opening files, from which at first only what the rules check is read.
 //!
-//! Headers stand in any order, so this takes a file that can be read at a place (pread(2)): a
-//! regular file, or a block device, whose size is told by a seek to its end. Any other gives its
-//! bytes once, from the first to the last, and is read whole.
+//! Headers come in any order, so this takes a file that can be read at a place (pread(2)): a
+//! regular file, or a block device, whose size is found by a seek to its end. Any other gives its
+//! bytes once, from the first to the last, and is read in full.
 
 ghost use Rattle.std.specs.Prelude.{◌≡◌, ◌↔◌, IfOk, IsTrue, MatchResult};
 ghost use Rattle.image_files.specs.Opening.{AreOfFile, IsBlockDevice, IsKindOf, IsLoadedAs};
@@ -27,16 +27,16 @@ const BLOCK_DEVICE: u32 = 0o060000;
 /// What a file is, as far as it matters for how it is read.
 #[derive(Clone, Copy)]
 pub enum FileKind {
-    /// A regular file of so many bytes, one at least.
+    /// A regular file of this many bytes, one at least.
     Regular { size: u64 },
-    /// A block device. Its size is not told with its kind.
+    /// A block device. Its size does not come with its kind.
     BlockDevice,
     /// Any other: a pipe, a terminal, or a regular file that says it is empty. Those of /proc say
     /// so whatever they have.
     Stream,
 }
 
-/// What a file has told that it is; a stream where it told nothing.
+/// The kind that a file reports; a stream if it reports none.
 fn told_kind(told: io::Result<Metadata>) -> FileKind
     ensures { MatchResult told (λ metadata. IsKindOf metadata result)
         (λ _. result ≡ FileKind.Stream) }

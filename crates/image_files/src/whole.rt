@@ -1,4 +1,4 @@
-//! Files that are read whole.
+//! Files that are read in full.
 
 ghost use Rattle.std.specs.Prelude.{◌≡◌, IfSome, OnOk, IfOk};
 ghost use Rattle.std.specs.Io.KnownBytes.{IsAtEnd};
@@ -50,7 +50,7 @@ fn read_all<S: Source, A: Allocator>(
     Err(GatherFault::Unread)
 }
 
-// How long a file says it is; 0 where it does not.
+// The length that a file reports; 0 if it does not.
 fn told_length<F: OpenFile>(file: &F) -> usize {
     match file.metadata() {
         Ok(metadata) => metadata.len() as usize,

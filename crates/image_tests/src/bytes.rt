@@ -9,8 +9,8 @@ use std::os::unix::fs::FileExt;
 /// The bytes of the files.
 const BYTES: &[u8; 10] = b"0123456789";
 
-/// A file that gives at most so many bytes a read, is interrupted so often, and fails from a place
-/// on.
+/// A file that gives at most this many bytes a read, is interrupted so often, and fails from a
+/// place on.
 #[derive(Drop)]
 struct Slow {
     most: usize,

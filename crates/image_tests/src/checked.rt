@@ -2,7 +2,7 @@
 //!
 //! In the image of these tests the root holds three headers: a regular file `a` at 64, with four
 //! bytes of data at 96; a symbolic link `l` at 112, with its target at 144; and a hard link `h` at
-//! 160 to the file. It ends at 192, and a file's bytes stand behind it.
+//! 160 to the file. It ends at 192, followed by a file's bytes.
 
 use image_bytes::InMemory;
 use kept_image::gather;
@@ -40,7 +40,7 @@ struct Seen {
     count: u32,
     /// The bytes of their names, as a sum.
     names: u32,
-    /// Where the data lie of the last one, after hard links.
+    /// The place of the data of the last one, after hard links.
     last: Part,
 }
 

@@ -1,7 +1,7 @@
 //! Files that are opened: images laid out by hand, and what is no image's file.
 //!
-//! Each image has a regular file in its root, of 32 bytes of data. Its header stands at 528, its
-//! name at 544, its data at 560; 592 bytes belong to the image.
+//! Each image has a regular file in its root, of 32 bytes of data. Its header is at 528, its name
+//! at 544, its data at 560; 592 bytes belong to the image.
 
 use held_image::read::word;
 use held_image::{Held, HeldImage};
@@ -17,7 +17,7 @@ use std::thread::{Threads, join};
 use std::{env, io, process};
 
 /// The first bytes of each image (romfs.rst): its magic, full size and name, and the root with its
-/// name, of which spec.info leads to 528.
+/// name, whose spec.info leads to 528.
 const FRONT: &[u8; 64] = b"-rom1fs-\0\0\x02\x50\0\0\0\0v\0\0\0\0\0\0\0\0\0\0\0\0\0\0\0\
     \0\0\0\x09\0\0\x02\x10\0\0\0\0\0\0\0\0.\0\0\0\0\0\0\0\0\0\0\0\0\0\0\0";
 
@@ -36,8 +36,8 @@ fn image<A: Allocator>(alloc: A, name: u8, data: u8) -> Result<Vec<u8, A>, Alloc
     Ok(image)
 }
 
-/// What is seen of an image that is open: what is kept at the name and at the data; whether the
-/// bytes are in memory, how many there are, and what is read at the data.
+/// What an open image gives: what is kept at the name and at the data; whether the bytes are in
+/// memory, how many there are, and what is read at the data.
 #[derive(Clone, Copy, Debug, PartialEq, Eq)]
 struct Seen {
     name: Option<u32>,
@@ -82,7 +82,7 @@ fn data_in_two<R: Threads + Sync, F: FileExt + Sync, A: Allocator + Sync>(
     join(rt, move || data_in(source), move || data_in(source))
 }
 
-/// The same of a file that is opened as one of this kind; none where it cannot be.
+/// The same of a file that is opened as one of this kind; none if it cannot be.
 fn data_as<R: Files + Threads + Sync, A: Allocator + Copy + Sync>(
     rt: &R,
     alloc: A,
@@ -104,7 +104,7 @@ where
     }
 }
 
-/// What is seen of an image with this name and these data: none of these are kept.
+/// What an image with this name and these data gives: none of these are kept.
 fn gathered(name: u8, data: u8) -> Seen {
     Seen {
         name: Some(u32::from(name) << 24),
@@ -128,7 +128,7 @@ fn look_at_all<F: FileExt, A: Allocator + Copy>(
     Ok(all)
 }
 
-/// What is seen of nine images, of which those with the numbers 3 and 6 have the same other path.
+/// What nine images give, of which those with the numbers 3 and 6 have the same other path.
 fn seen_at<'a, R: Files + Threads + Sync, A: Allocator + Copy + Send + Sync>(
     rt: &R,
     alloc: A,
@@ -146,14 +146,14 @@ where
     Ok(look_at_all(alloc, &kept, &sources)?)
 }
 
-/// What is seen of a file that is opened as one of this kind; none where it cannot be.
+/// What a file opened as one of this kind gives; none if it cannot be.
 fn seen_as(rt: &HostRuntime, path: &str, kind: FileKind) -> Option<Seen> {
     let file = fs::open(rt, path).ok()?;
     let image = load_as(rt.alloc(), file, kind, Loading::Open(Trailers::Read)).ok()?;
     Some(look_at(&image.held, image.source.as_ref()?))
 }
 
-/// Whether reading fails where a file is opened as a regular one of so many bytes.
+/// Whether reading fails if a file is opened as a regular one of this many bytes.
 fn is_unread(rt: &HostRuntime, path: &str, size: u64) -> bool {
     match fs::open(rt, path) {
         Ok(file) => {
@@ -165,7 +165,7 @@ fn is_unread(rt: &HostRuntime, path: &str, size: u64) -> bool {
     }
 }
 
-/// Writes the first bytes of an image into a file of its own, so many, and gives its path.
+/// Writes this many first bytes of an image into a file of its own, and gives its path.
 fn written(rt: &HostRuntime, name: u8, data: u8, size: usize) -> Result<String, Fail> {
     let temporary = env::temp_dir(rt)?;
     let process = process::id(rt.process());

@@ -1,7 +1,7 @@
-//! Images laid out by hand, of which a file gives little at a time, ends or fails.
+//! Images laid out by hand, in files that give little at a time, end or fail.
 //!
 //! In the image of these tests a directory leads to itself and a later header back to an earlier
-//! one, a header stands in the name of another, a hard link leads outside, a symbolic link has a
+//! one, a header lies in the name of another, a hard link leads outside, a symbolic link has a
 //! target of 20 bytes, and a regular file has data that look like headers. 832 of 900 bytes belong
 //! to it.
 
@@ -77,8 +77,8 @@ fn image() -> [u8; FILE_SIZE] {
     image
 }
 
-/// A file of at most so many bytes of the image, which gives at most so many bytes a read, and of
-/// which a read fails, counted from 1.
+/// A file with at most this many bytes of the image, which gives at most this many bytes a read,
+/// and in which the read with this number, from 1, fails.
 #[derive(Drop)]
 struct Slow {
     image: [u8; FILE_SIZE],

@@ -1,6 +1,5 @@
--- What was gathered of some bytes breaks the rules that they break (twins), and so has their fault
--- (fault_goes): the volume's rules look at the first bytes and at the length, and where the full size
--- is kept, the accessible bytes are what was gathered.
+-- What was gathered from some bytes breaks the rules that they break (twins), and so has their fault (fault_goes): the volume's rules look
+-- at the first bytes and at the length, and where the full size is kept, the accessible bytes are what was gathered.
 use Rattle.std.proofs.Common.{◌≡◌, ◌≢◌, ◌∙◌, sym, ap, subst, ℕ, ◌+◌, ◌%◌, ◌^◌, ◌<◌, ◌≤◌, ◌⊎◌, inl, inr, min, List, ◌++◌, IsTrue, length, take, drop, get_or, Option, Some, None, if◌then◌else◌, refl, arith, length-take, length-take-le, take-append-drop, take_all, ◌==◌}
 use Rattle.std.specs.Prelude.{nat_le, IsNone}
 use Rattle.std.proofs.lemmas.Bool.{cases_lt, eqb-true}

@@ -12,12 +12,12 @@ pub record IsGatheredOf (b a : List ℕ) : Type 0 where
   pub headers : ℕ → Bool
   pub closed : IsClosed (is_same (take (length a) b) a) headers (take (length a) b)
 
--- the same, where the bytes are known
+-- the same, if the bytes are known
 abbrev pub IsGathered : Option (List ℕ) → List ℕ → Type 0
 IsGathered None a = ⊤
 IsGathered (Some b) a = IsGatheredOf b a
 
--- so many bytes are looked at
+-- this many bytes are looked at
 abbrev pub IsReach : Option (List ℕ) → ℕ → Type 0
 IsReach None size = ⊤
 IsReach (Some b) size = size ≡ reach b
@@ -27,8 +27,8 @@ abbrev pub begins_trailer : List ℕ → ℕ → Bool
 begins_trailer b place =
     nat_lt place (2 ^ 32) && starts_with nat_eq (drop place b) (codes "-attr01-")
 
--- how much is kept of a trailer of so many bytes and rows: all up to its end; the head alone where
--- it is cut off, or has more rows than an image of this full size has places for headers
+-- how much is kept of a trailer of this many bytes and rows: all up to its end; only the head if it
+-- is cut off, or has more rows than an image of this full size has places for headers
 abbrev pub kept_end : ℕ → ℕ → ℕ → ℕ
 kept_end full room rows =
     if nat_le (row_start rows) room && nat_le rows (padded full / 16)
@@ -46,7 +46,7 @@ pub record IsGatheredWithTrailerOf (b a : List ℕ) : Type 0 where
   pub tail : begins_trailer b (padded (reach b)) ≡ true
       → drop (padded (reach b)) a ≡ kept_tail (reach b) (drop (padded (reach b)) b)
 
--- the same, where the bytes are known
+-- the same, if the bytes are known
 abbrev pub IsGatheredWithTrailer : Option (List ℕ) → List ℕ → Type 0
 IsGatheredWithTrailer None a = ⊤
 IsGatheredWithTrailer (Some b) a = IsGatheredWithTrailerOf b a

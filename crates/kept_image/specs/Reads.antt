@@ -1,4 +1,4 @@
--- What is read of known bytes, of which only those below a size are looked at.
+-- What is read from known bytes, of which only those below a size are used.
 use Rattle.std.specs.Prelude.{◌≡◌, ◌≢◌, ℕ, ◌+◌, ◌<◌, ◌≤◌, ◌%◌, List, length, take, get_or, Option, Some, None, MatchOption, ⊤}
 use Rattle.kept_image.specs.declared.fault.GatherFault.{GatherFault}
 use Rattle.kept_image.specs.declared.fault.GatherFault.TheVariants.{Memory}
@@ -24,7 +24,7 @@ abbrev pub IsHeld : Option (List ℕ) → ℕ → List ℕ → Type 0
 IsHeld None start bytes = ⊤
 IsHeld (Some b) start bytes = HasBytesAt b start bytes
 
--- the room has the known bytes from the place on, of which there are so many
+-- the room has the known bytes from the place on, this many
 abbrev pub IsReadAt : Option (List ℕ) → ℕ → ℕ → List ℕ → Type 0
 IsReadAt None size at room = ⊤
 IsReadAt (Some b) size at room = HasBytesAt (take size b) at room
@@ -41,7 +41,7 @@ pub record IsEnded (near : List ℕ) (count : ℕ) : Type 0 where
 pub record IsUnended (near : List ℕ) : Type 0 where
   pub runs : (i : ℕ) → 16 ≤ i → i < length near → get_or near i 0 ≢ 0
 
--- where the name ends in this front, if it does
+-- the end of the name in this front, if it is there
 abbrev pub IsEndIn : List ℕ → Option ℕ → Type 0
 IsEndIn near end = MatchOption end (IsUnended near) (IsEnded near)
 
@@ -60,7 +60,7 @@ abbrev pub IsHeadRead : Option (List ℕ) → ℕ → ℕ → List ℕ → Type 
 IsHeadRead None size at head = ⊤
 IsHeadRead (Some b) size at head = IsHeadAt (take size b) at head
 
--- so many blocks of xs from the first on were added
+-- this many blocks of xs from the first on were added
 pub record IsAdded (xs : List ℕ) (first count : ℕ) (old new : List Piece) : Type 0 where
   pub right : AreRight xs old → AreRight xs new
   pub stays : (b : ℕ) → HasBlock old b → HasBlock new b

@@ -1,10 +1,10 @@
--- What is read of a trailer of known bytes.
+-- What is read from a trailer of known bytes.
 use Rattle.std.specs.Prelude.{◌≡◌, ℕ, ◌-◌, List, length, drop, Bool, false, true, Option, Some, None, ⊤}
 use Rattle.romfs_format.specs.Fields.{padded}
 use Rattle.romfs_format.specs.Trailer.{row_count}
 use Rattle.kept_image.specs.Gathered.{begins_trailer, kept_end, kept_tail}
 
--- so many bytes stand from the place on
+-- there are this many bytes from the place on
 abbrev pub IsRoom : Option (List ℕ) → ℕ → ℕ → Type 0
 IsRoom None place room = ⊤
 IsRoom (Some b) place room = room ≡ length b - place
@@ -14,7 +14,7 @@ abbrev pub BeginsTrailer : Option (List ℕ) → ℕ → Bool → Type 0
 BeginsTrailer None place answer = ⊤
 BeginsTrailer (Some b) place answer = answer ≡ begins_trailer b place
 
--- so much is kept of what stands from the place on
+-- how much is kept from the place on
 abbrev pub IsTailEnd : Option (List ℕ) → ℕ → ℕ → ℕ → Type 0
 IsTailEnd None place full end = ⊤
 IsTailEnd (Some b) place full end =

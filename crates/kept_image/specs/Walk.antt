@@ -46,7 +46,7 @@ abbrev pub HasVisited : Option (List ℕ) → ℕ → ℕ → List Piece → Lis
 HasVisited None end at old new first second = ⊤
 HasVisited (Some b) end at old new first second = IsVisit (take end b) at old new first second
 
--- the first bytes were added, and the root stands there
+-- the first bytes were added, and the root is there
 pub record IsFrontAdded (xs : List ℕ) (root_at : ℕ) (new : List Piece) : Type 0 where
   pub right : AreRight xs new
   pub has : (i : ℕ) → i < 32 → HasBlock new i

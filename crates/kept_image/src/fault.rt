@@ -8,9 +8,9 @@ use std::alloc::{AllocError, AllocFailed};
 /// Why nothing was kept of an image.
 #[derive(Clone, Copy, Debug, PartialEq, Eq)]
 pub enum GatherFault {
-    /// A read failed, or the bytes ended before the size that was told.
+    /// A read failed, or the bytes ended before the reported size.
     Unread,
-    /// Memory was refused, or a trailer ends where no place of what is kept can be.
+    /// Memory was refused, or a trailer ends beyond the places that can be kept.
     Memory,
 }
 

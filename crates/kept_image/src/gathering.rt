@@ -1,8 +1,8 @@
 //! The walk over the headers of an image.
 //!
-//! It begins at the root and goes on to what each header leads to: the header after it, the first
-//! header of a directory, the destination of a hard link. Each place is noted when it is first
-//! named, and looked at once, so that loops end. A place outside is noted too, and leads nowhere.
+//! It begins at the root and follows each header: to the header after it, the first header of a
+//! directory, the destination of a hard link. Each place is noted when it is first named, and
+//! visited once, so loops end. A place outside is noted too, and leads nowhere.
 
 ghost use Rattle.std.specs.Prelude.{◌≡◌, ◌≢◌, ◌+◌, ◌-◌, ◌%◌, ◌<◌, ◌≤◌, ◌^◌, [], length, min, ℕ, List, IsTrue, IfOk, OnOk, IfErr, if◌then◌else◌, nat_le};
 ghost use Rattle.std.specs.BTreeSet.{contains, btree_set_len, IsOrdered};
@@ -33,12 +33,12 @@ use std::collections::BTreeSet;
 /// is judged: what leads outside or in a loop is followed no further, and what is no image is
 /// gathered like any other bytes.
 ///
-/// `Unread` comes only where a read failed, or where the bytes end before the size that was told;
-/// `Memory` only where memory was refused. Of known bytes no read fails.
+/// `Unread` only if a read failed, or if the bytes end before the reported size; `Memory` only if
+/// memory was refused. A read of known bytes never fails.
 ///
 /// A header is read once. It takes two reads at most, and a third for the target of a symbolic link
-/// whose name has 48 bytes or more; headers that stand close together take fewer. Memory is taken
-/// in proportion to headers, names and targets, and n log n steps, in whatever order they stand.
+/// whose name has 48 bytes or more; adjacent headers take fewer. Memory is taken in proportion to
+/// headers, names and targets, and n log n steps, in whatever order they come.
 pub fn gather<S: Contents, A: Allocator + Copy>(
     alloc: A,
     source: &S,
@@ -72,7 +72,7 @@ fn full_size<S: Contents, A: Allocator>(
     Ok(whole.min(least(word(&front, 8))))
 }
 
-/// A full size, or the size of a volume header where it is less.
+/// A full size, or the size of a volume header if it is less.
 fn least(full: u32) -> u32
     ensures value { result ≡ (if nat_le HEAD_SIZE full then full else HEAD_SIZE) }
     ensures small { full < 2 ^ 32 }
@@ -84,7 +84,7 @@ fn least(full: u32) -> u32
     }
 }
 
-/// Adds the first bytes, and says where the root stands.
+/// Adds the first bytes, and gives the place of the root.
 fn keep_front<S: Contents, A: Allocator>(
     source: &S,
     window: &mut Window<A>,
@@ -106,7 +106,7 @@ fn keep_front<S: Contents, A: Allocator>(
     Ok(root_in(&front, size))
 }
 
-/// Where the root stands, by the first bytes.
+/// The place of the root, from the first bytes.
 #[tactic(auto, unfolding(romfs_format::specs::Fields::root))]
 fn root_in(front: &[u8], size: u32) -> u32
     requires { length front.now ≡ 512 }
@@ -177,7 +177,7 @@ fn note<A: Allocator + Clone>(
     Ok(())
 }
 
-/// Whether the header after one that stands at a place is looked at.
+/// Whether the header after the one at a place is visited.
 fn follows_next(root: u32, size: u32, at: u32, next: u32) -> bool
     ensures { root ≤ at → at + HEAD_SIZE ≤ size → next ≢ 0 → IsTrue result }
 {

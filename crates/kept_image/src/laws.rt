@@ -16,8 +16,8 @@ ghost use Rattle.romfs_format.specs.Trailer.{rows_shown};
 ghost use Rattle.kept_image.specs.Gathered.{IsGathered, IsGatheredWithTrailer};
 ghost use Rattle.kept_image.specs.Footprint.{Agrees, IsClosed};
 
-/// Lists that agree where the headers of a closed set are kept break the same rules of headers,
-/// each at the same headers, whatever the profile.
+/// Lists that agree on the kept parts of a closed set of headers break the same header rules, each
+/// at the same headers, under every profile.
 pub fn same_header_rules()
     ensures { (profile : Profile) (kept headers : ℕ → Bool) (a xs : List ℕ) → Agrees kept a xs →
         IsClosed kept headers a → (r : Rule) (h : ℕ) →
@@ -25,9 +25,9 @@ pub fn same_header_rules()
         × (BreaksHeader profile xs r h → BreaksHeader profile a r h) }
 {}
 
-/// What was gathered of bytes that have their full size breaks the rules that they break, and no
-/// others, each at the same places, under a profile that does not read attributes: their trailer
-/// stands behind the full size.
+/// What was gathered from bytes with their full size breaks exactly the rules that they break, at
+/// the same places, under a profile that does not read attributes: their trailer comes after the
+/// full size.
 pub fn same_rules()
     ensures { (profile : Profile) → ¬ IsTrue (reads_attributes profile) → (b a : List ℕ) →
         IsGathered (Some b) a → HEAD_SIZE ≤ word b 8 → word b 8 ≤ length b → (r : Rule) (p : ℕ) →
@@ -35,8 +35,8 @@ pub fn same_rules()
         × (Breaks profile a r p → Breaks profile b r p) }
 {}
 
-/// What was gathered of any bytes is sound where they are, and else has their fault, under such a
-/// profile.
+/// What was gathered from any bytes is sound if they are, and otherwise has their fault, under such
+/// a profile.
 pub fn same_fault()
     ensures { (profile : Profile) → ¬ IsTrue (reads_attributes profile) → (b a : List ℕ) →
         IsGathered (Some b) a → (fault : Option ImageFault) →
@@ -44,8 +44,8 @@ pub fn same_fault()
         × (IsFaultOf profile a fault → IsFaultOf profile b fault) }
 {}
 
-/// What was gathered of any bytes with their trailer is sound where they are, and else has their
-/// fault, whatever the profile.
+/// What was gathered from any bytes with their trailer is sound if they are, and otherwise has
+/// their fault, under every profile.
 pub fn same_fault_with_trailer()
     ensures { (profile : Profile) → (b a : List ℕ) → IsGatheredWithTrailer (Some b) a →
         (fault : Option ImageFault) →
@@ -53,14 +53,15 @@ pub fn same_fault_with_trailer()
         × (IsFaultOf profile a fault → IsFaultOf profile b fault) }
 {}
 
-/// And it shows the rows that they show, where they are sound.
+/// And it shows the rows that they show, if they are sound.
 pub fn same_rows_with_trailer()
     ensures { (profile : Profile) → (b a : List ℕ) → IsGatheredWithTrailer (Some b) a →
         IsSound profile b → rows_shown profile a ≡ rows_shown profile b }
 {}
 
-/// Paths of lists that agree where the headers of a closed set are kept lead to the same headers,
-/// and hard links there to the same ends. Both have the same fields; an end has the same name, too.
+/// In lists that agree on the kept parts of a closed set of headers, paths lead to the same
+/// headers, and hard links to the same ends. Both have the same fields; an end has the same name,
+/// too.
 pub fn same_paths()
     ensures paths { (kept headers : ℕ → Bool) (a xs : List ℕ) → Agrees kept a xs →
         IsClosed kept headers a → (path : List (List ℕ)) (h : ℕ) →

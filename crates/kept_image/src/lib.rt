@@ -8,12 +8,12 @@
 //! - [`laws`] says that such a list is sound, or breaks a rule, as the image does: what an image is
 //!   refused for depends on these bytes alone.
 //!
-//! `specs/` says what is looked at (`Footprint`) and what was gathered (`Gathered`); the other
-//! definitions are those of the layers between: blocks as they are read (`Pieces`), reads
-//! (`Reads`), the walk (`Walk`), the trailer (`Tails`). Where the bytes are known, as those in
-//! memory are, a contract says that what is kept has their bytes at all that the rules look at. Of
-//! a file it says nothing: what was kept is then all that is known of it. The crate stands on
-//! `image_bytes` for bytes, and on `held_image`.
+//! `specs/` defines what is read (`Footprint`) and what was gathered (`Gathered`); the other
+//! definitions belong to the layers between: blocks as they are read (`Pieces`), reads (`Reads`),
+//! the walk (`Walk`), the trailer (`Tails`). If the bytes are known, as those in memory are, a
+//! contract says that what is kept has their bytes wherever the rules look. It says nothing about a
+//! file: what was kept is then all that is known of it. The crate uses `image_bytes` and
+//! `held_image`.
 #![tactic(auto)]
 
 mod fault;

@@ -68,7 +68,7 @@ fn add<A: Allocator>(pieces: &mut Vec<Piece, A>, piece: Piece) -> Result<(), All
     Ok(())
 }
 
-/// Makes room for one more, where there is none.
+/// Makes room for one more, if there is none.
 fn make_room<A: Allocator>(pieces: &mut Vec<Piece, A>) -> Result<(), AllocError>
     ensures { OnOk result (IsFewer pieces.old.items pieces.new.items) }
 {

@@ -1,7 +1,7 @@
 //! The attribute trailer of an image that stays in its file.
 //!
-//! It stands behind the full size, where the walk does not look. So it is read at once, and put
-//! behind what the walk kept.
+//! It follows the full size, where the walk does not look. It is read at once, and put after what
+//! the walk kept.
 
 ghost use Rattle.std.specs.Prelude.{◌≡◌, ◌+◌, ◌*◌, ◌/◌, ◌<◌, ◌≤◌, ◌^◌, length, IfOk, IfErr, IfSome, MatchOption, OnOk};
 ghost use Rattle.kept_image.specs.Gathered.{IsGatheredWithTrailer, kept_end};
@@ -20,16 +20,16 @@ use std::alloc::Allocator;
 /// The letters with which a trailer begins.
 const LETTERS: &[u8; 8] = b"-attr01-";
 
-/// Where nothing is kept: places are numbers of 32 bits.
+/// Nothing is kept from here on: places are numbers of 32 bits.
 const PLACES: u64 = 1 << 32;
 
-/// Keeps of an image what [`gather`] keeps, and behind it the attribute trailer, if there is one:
-/// all of it; or its head alone, where it is cut off, or has more rows than there are places for
-/// headers, so that it is broken whatever they say.
+/// Keeps what [`gather`] keeps of an image, and after it the attribute trailer, if there is one:
+/// all of it; or only its head if it is cut off, or has more rows than there are places for
+/// headers, which breaks it in any case.
 ///
-/// The errors are those of `gather`. `Memory` comes, too, where a trailer ends at 2^32 or behind,
-/// for which there is no room. It takes three reads more, and 32 bytes for each row twice while
-/// they are put behind the others.
+/// The errors are those of `gather`, and `Memory` if a trailer does not end below 2^32, for which
+/// there is no room. It takes three more reads, and 32 bytes for each row, twice while they are put
+/// after the others.
 pub fn gather_with_trailer<S: Contents, A: Allocator + Copy>(
     alloc: A,
     source: &S,
@@ -69,7 +69,7 @@ fn read_trailer<S: Contents, A: Allocator>(
     Ok(Some(tail))
 }
 
-/// Whether the letters of a trailer stand at a place, behind which there are so many bytes.
+/// Whether a place, followed by this many bytes, has the letters of a trailer.
 fn begins_trailer<S: Contents, A: Allocator>(
     source: &S,
     tail: &mut Vec<u8, A>,
@@ -122,7 +122,7 @@ fn end_by(rows: u32, room: u64, full: u32) -> u64
     }
 }
 
-/// Reads so many bytes from a place on, in place of others.
+/// Reads this many bytes from a place on, in place of others.
 fn read_tail<S: Contents, A: Allocator>(
     source: &S,
     tail: &mut Vec<u8, A>,

@@ -1,7 +1,7 @@
 //! A header that is read and added, with its name and the target of a symbolic link.
 //!
-//! Most names are short, so a header is looked at with 16 bytes of its name first, then with 48,
-//! and then with all that a name may have.
+//! Most names are short, so a header is read with 16 bytes of its name first, then with 48, and
+//! then with all that a name may have.
 
 ghost use Rattle.std.specs.Prelude.{◌≡◌, ◌+◌, ◌*◌, ◌-◌, ◌/◌, ◌%◌, ◌<◌, ◌≤◌, ◌^◌, length, min, IfOk, IfSome, OnOk, IfErr};
 ghost use Rattle.romfs_format.specs.declared.limits.TheConstants.{MAX_TARGET_SIZE};
@@ -20,10 +20,10 @@ use romfs_format::limits::{HEAD_SIZE, MAX_TARGET_SIZE};
 use romfs_format::read::{kind_of, padded, word};
 use std::alloc::Allocator;
 
-/// A header and its name, where the name has at most 15 bytes.
+/// A header and its name, if the name has at most 15 bytes.
 const SHORT: usize = 32;
 
-/// The same, where it has at most 47.
+/// The same, if it has at most 47.
 const MIDDLE: usize = 64;
 
 /// The same, for all names.
@@ -71,7 +71,7 @@ pub fn visit<S: Contents, A: Allocator>(
     keep(source, window, size, at, &long[..count], pieces)
 }
 
-/// Reads as many bytes of a header and its name as a room has, and says up to where they are kept,
+/// Reads as many bytes of a header and its name as a room has, and gives the end of what is kept,
 /// if the name ends among them.
 fn read_head<S: Contents, A: Allocator>(
     source: &S,
@@ -95,8 +95,8 @@ fn read_head<S: Contents, A: Allocator>(
     Ok(end_in(room))
 }
 
-/// Up to where the bytes of a header and its name are kept: to the end of the block in which the
-/// name ends, if it ends among them.
+/// The end of what is kept of a header and its name: the end of the block in which the name ends,
+/// if it ends among them.
 fn end_in(near: &[u8]) -> Option<usize>
     requires whole { length near.now % 16 ≡ 0 }
     ensures { IsEndIn near.now result }
@@ -187,7 +187,7 @@ fn keep_target<S: Contents, A: Allocator>(
     Ok(())
 }
 
-/// How many bytes of a target are kept: all that are there, unless it is too long; none of a header
+/// How many bytes of a target are kept: all existing ones, unless it is too long; none of a header
 /// that is no symbolic link.
 fn target_len(words: Words, room: usize) -> usize
     ensures link { kind_of (words.first % 8) ≡ SymLink → words.third ≤ MAX_TARGET_SIZE →

@@ -1,9 +1,9 @@
 //! Reading in few reads.
 //!
-//! What was read last is a window: what lies in it is not read again. A window is as long as what
-//! is asked for, or 64 bytes. It is twice as long as the one before, up to 64 KiB, where three
-//! quarters of that one were kept: so headers that stand close together are read many at a time,
-//! and of the data between others little is read.
+//! The last read is a window, whose bytes are not read again. A window is as long as the request,
+//! or 64 bytes. It is twice as long as the one before, up to 64 KiB, if three quarters of that one
+//! were kept: adjacent headers are read many at a time, and little is read of the data between
+//! others.
 
 ghost use Rattle.std.specs.Prelude.{◌≡◌, ◌+◌, ◌<◌, ◌≤◌, ◌^◌, ◌++◌, length, take, drop, replicate, IsTrue, OnOk, IfErr};
 ghost use Rattle.kept_image.specs.Reads.{AreWithin, IsCause, IsHeld, IsReadAt};
@@ -21,7 +21,7 @@ const MOST: usize = 65_536;
 /// Bytes that were read at once.
 #[derive(Drop)]
 pub struct Window<A: Allocator> {
-    /// Where they stand.
+    /// Their place.
     pub start: usize,
     pub bytes: Vec<u8, A>,
     /// How many bytes were kept since they were read.
@@ -41,7 +41,7 @@ impl<A: Allocator> Window<A> {
     }
 }
 
-/// Notes that so many bytes of what was read were kept.
+/// Notes that this many bytes of what was read were kept.
 pub fn note_used<A: Allocator>(window: &mut Window<A>, count: usize)
     ensures start { window.new.start ≡ window.old.start }
     ensures bytes { window.new.bytes.items ≡ window.old.bytes.items }
@@ -93,7 +93,7 @@ fn copy_part(bytes: &[u8], from: usize, count: usize, room: &mut [u8])
     room[..count].copy_from_slice(&bytes[from..from + count]);
 }
 
-/// Sees to it that so many bytes from a place on are in the window.
+/// Sees to it that this many bytes from a place on are in the window.
 fn look_at<S: Contents, A: Allocator>(
     source: &S,
     window: &mut Window<A>,
@@ -121,7 +121,7 @@ fn look_at<S: Contents, A: Allocator>(
     Ok(())
 }
 
-/// Whether so many bytes from a place on are in the window.
+/// Whether this many bytes from a place on are in the window.
 fn covers<A: Allocator>(window: &Window<A>, from: usize, count: usize) -> bool
     requires few { from + count < 2 ^ 32 }
     ensures { IsTrue result → (window.now.start ≤ from)
@@ -141,7 +141,7 @@ fn next_len(len: usize, used: usize) -> usize
     }
 }
 
-/// Reads so many bytes from a place on, in place of others.
+/// Reads this many bytes from a place on, in place of others.
 pub fn load<S: Contents, A: Allocator>(
     source: &S,
     bytes: &mut Vec<u8, A>,
@@ -154,7 +154,7 @@ pub fn load<S: Contents, A: Allocator>(
     ensures held { OnOk result (IsHeld (S.contents source.now) at bytes.new.items) }
     ensures err { IfErr result (IsCause (S.contents source.now)) }
 {
-    // those that are there already are not cleared, since they are read over
+    // those that exist already are not cleared, since they are read over
     bytes.resize(count, 0)?;
     load_room(source, &mut bytes[..], at as u64)
 }

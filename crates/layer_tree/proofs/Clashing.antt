@@ -115,7 +115,7 @@ module _ {T : Type 0} (m : T → Mark) where
       none [] = refl
       none (n ∷ path) = nothing_cut path
 
--- the marks of a branch that was found; none where none was
+-- the marks of a branch that was found; none if none was
 abbrev pub marked_in : {T : Type 0} → (T → Mark) → Option (Subtree T) → Path → Option Mark
 marked_in m o q = option_map m (through o q)
 

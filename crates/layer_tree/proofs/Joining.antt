@@ -62,7 +62,7 @@ get_high [] hs i j a e g = subst (λ n. slice_get hs n ≡ Some a) (omega arith)
 get_high (l ∷ ls) hs zero j a e g = absurd (omega arith)
 get_high (l ∷ ls) hs (suc i) j a e g = get_high ls hs i j a (omega arith) g
 
--- where something holds of an entry that is there, there is an entry of which it holds
+-- if something holds for an existing entry, there is an entry for which it holds
 pub some_and : (P : Entry → Type 0) (o : Option Entry) → IsSomeAnd o P → (e : Entry) × (o ≡ Some e) × P e
 some_and P None p = absurd p
 some_and P (Some e) p = (e, refl, p)

@@ -37,7 +37,7 @@ pub record IsKept {T : Type 0} (low : Subtree T) (mark : Subtree Mark) (out : Su
       → at_path (whole out) path
       ≡ unless (cut_by (at_path (whole mark)) path) (at_path (whole low) path)
 
--- what marks leave of a branch; none where they cut all of it
+-- what marks leave of a branch; none if they cut all of it
 abbrev pub IsLeft : {T : Type 0} → Subtree T → Subtree Mark → Option (Subtree T) → Type 0
 IsLeft low mark out = MatchOption out (IsLeftOut mark) (λ b. IsKept low mark b)
 
@@ -82,7 +82,7 @@ pub record AreUnited (low replaced high out : Subtree Mark) : Type 0 where
   pub above_is : IsLaid united replaced high above
   pub united_is : IsLaid united low above out
 
--- whether something stands there that does not cut itself
+-- whether something is there that does not cut itself
 abbrev pub is_uncut : Option Mark → Bool
 is_uncut None = false
 is_uncut (Some m) = not m.cut
@@ -92,14 +92,14 @@ pub record IsBare {T : Type 0} (m : T → Mark) (s : Subtree T) : Type 0 where
   pub itself : (m s.value).cut ≡ true
   pub nothing : s.below ≡ []
 
--- nothing but what cuts itself stands at the path, and nothing below it
+-- only what cuts itself is at the path, and nothing below it
 pub record IsLeafAt (others : Path → Option Mark) (path : Path) : Type 0 where
   pub itself : is_uncut (others path) ≡ false
   pub below : (n : List ℕ) (q : Path) → others (path ++ n ∷ q) ≡ None
 
 -- marks of the paths at which the first of two trees cuts itself, and the other does not or has
--- something below: they cut nothing but what the first cuts, and all of it where the other has more
--- than leaves
+-- something below: they cut only what the first cuts, and all of it where the other has more than
+-- leaves
 pub record Clash (files others marks : Path → Option Mark) : Type 0 where
   pub sound : (path : Path) → cut_by marks path ≡ true → cut_by files path ≡ true
   pub whole : (path : Path) → cuts_itself (files path) ≡ true

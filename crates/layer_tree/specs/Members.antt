@@ -13,11 +13,11 @@ pub record NamedMember : Type 0 where
   pub name : List ℕ
   pub head : Head
 
--- the member whose header stands at a place of the image
+-- the member whose header is at a place of the image
 abbrev pub member_in : List ℕ → KeyedMember → NamedMember
 member_in a m = record { name = name_of a m.offset; head = head_of a m.offset }
 
--- the members whose headers stand at these places
+-- the members whose headers are at these places
 abbrev pub members_in : List ℕ → List KeyedMember → List NamedMember
 members_in a ms = map (member_in a) ms
 

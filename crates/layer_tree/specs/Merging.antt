@@ -1,11 +1,11 @@
--- What the laws of trees speak of.
+-- Terms of the laws of trees.
 use Rattle.std.specs.Prelude.{◌≡◌, ℕ, List, [], ◌∷◌, ◌++◌, Option, Some, None, codes}
 use Rattle.stack_model.specs.Stack.{Path, IsIn, HasOther}
 use Rattle.name_tree.specs.Rows.{Subtree}
 use Rattle.whiteout_tree.specs.declared.place.Entry.{Entry}
 
--- on the whole way along the path the layer has no marker for the next name, no marker of the whole
--- directory, and no entry that is no directory
+-- all along the path the layer has no marker for the next name, no opaque marker, and no entry that
+-- is no directory
 pub record IsUnremoved (a : List ℕ) (path : Path) : Type 0 where
   pub nowhere : (q : Path) (y : List ℕ) (rest : Path) → path ≡ q ++ y ∷ rest
       → (¬ IsIn a (q ++ (codes ".wh." ++ y) ∷ [])) × (¬ IsIn a (q ++ codes ".wh..wh..opq" ∷ []))

@@ -1,4 +1,4 @@
--- One layer read as a tree: what stands at and below a header, and what is cut there.
+-- One layer read as a tree: what is at and below a header, and what is cut there.
 use Rattle.std.specs.Prelude.{◌≡◌, ◌≢◌, ℕ, ◌+◌, ◌⊎◌, ◌↔◌, List, [], ◌∷◌, ◌++◌, length, All, true, false, Option, Some, None, MatchOption, option_to_list, IsSomeAnd, IsTrue, slice_get, codes}
 use Rattle.std.specs.List.{AllByRecursion}
 use Rattle.std.specs.declared.cmp.Ordering.TheVariants.{Less}
@@ -118,7 +118,7 @@ pub record AreBranchesOf (a : List ℕ) (layer h : ℕ) (n : List ℕ) (e : Subt
 abbrev pub AreMadeOf : List ℕ → ℕ → ℕ → List ℕ → (Subtree Entry × Subtree Mark) → Type 0
 AreMadeOf a layer h n made = AreBranchesOf a layer h n made.0 made.1
 
--- the same, with a mark where one is needed
+-- the same, with a mark if one is needed
 abbrev pub IsMadeOf : List ℕ → ℕ → ℕ → List ℕ → (Subtree Entry × Option (Subtree Mark)) → Type 0
 IsMadeOf a layer h n made =
     MatchOption made.1 (IsBranchAlone a layer h n made.0) (λ k. AreBranchesOf a layer h n made.0 k)
@@ -138,7 +138,7 @@ pub record IsBlank (k : Subtree Mark) : Type 0 where
   pub clear : k.value.opaque ≡ false
   pub nothing : k.below ≡ []
 
--- members that are no markers have become branches of entries, and of marks where they need one
+-- members that are no markers have become branches of entries, and of marks if they need one
 pub data AreBuilt (a : List ℕ) (layer : ℕ) : List NamedMember → List (Subtree Entry)
     → List (Subtree Mark) → Type 0 where
   none_built : AreBuilt a layer [] [] []

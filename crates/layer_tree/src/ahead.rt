@@ -1,9 +1,9 @@
 //! Headers and names that will be read, read ahead.
 //!
-//! Members in the order of their names stand anywhere in the image, which is larger than the
-//! processor's caches. One after another the read of each would be waited for. Here some
-//! dozens are read together, before their branches are made, and none of these reads waits for
-//! another. No branch follows from what is read here.
+//! Members in the order of their names are anywhere in the image, which is larger than the
+//! processor's caches. One after another, each would wait for its read. Here some dozens are read
+//! together, before their branches are made, and none of these reads waits for another. No branch
+//! follows from what is read here.
 
 use crate::members::KeyedMember;
 use romfs_reader::ImageView;
@@ -15,7 +15,7 @@ const TOGETHER: usize = 64;
 #[derive(Drop)]
 pub(crate) struct NamesAhead {
     passed: usize,
-    // A sum of all that was read, so that no compiler leaves the reading out.
+    // A sum of all that was read, so no compiler drops the reading.
     sum: u64,
 }
 
@@ -45,7 +45,7 @@ impl NamesAhead {
     }
 }
 
-// What stands in the first and the last byte of a header and of a short name.
+// The first and the last byte of a header and of a short name.
 fn byte_at(image: &ImageView<'_>, header: u32) -> Option<u8> {
     Some(image.glance(header)? ^ image.glance(header.wrapping_add(31))?)
 }

@@ -1,4 +1,4 @@
-//! Where two trees meet, and neither has a file where the other has a directory or something below.
+//! Two trees of which neither has a file where the other has a directory or something below.
 //!
 //! Most trees that are laid on one another are so. They are gone through in step once for both, and
 //! nothing is made.
@@ -13,7 +13,7 @@ use name_tree::Branch;
 use std::alloc::Allocator;
 use whiteout_tree::Cuts;
 
-/// Whether the branches of two directories clash nowhere, as far as it is told.
+/// Whether the branches of two directories are known not to clash.
 #[cycle(meeting)]
 pub(crate) fn are_apart<T: Cuts, A: Allocator>(
     lows: &[Branch<T, A>],

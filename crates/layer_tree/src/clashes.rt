@@ -99,7 +99,7 @@ fn clashes_below<T: Cuts, A: Allocator + Copy>(
     Ok(marks)
 }
 
-/// The same of two branches; none where there is no such path.
+/// The same for two branches; none if there is no such path.
 #[cycle(clashing)]
 fn clash_of<T: Cuts, A: Allocator + Copy>(
     alloc: A,

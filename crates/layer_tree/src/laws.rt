@@ -52,7 +52,7 @@ pub fn children_are_one_name_below()
 
 /// Directories of two layers are merged: all of the upper layer is shown, and of the lower one each
 /// path that the upper one has not, unless on the way to it the upper one has a marker for a name,
-/// a marker of a whole directory, or an entry that is no directory. Nothing else is removed.
+/// an opaque marker, or an entry that is no directory. Nothing else is removed.
 pub fn directories_merge()
     ensures upper { (low high : List ℕ) (path : Path) (h : ℕ) →
         IsPlain path → Has high path h → Shows (low ∷ high ∷ []) path 1 h }
@@ -61,8 +61,7 @@ pub fn directories_merge()
         Shows (low ∷ high ∷ []) path 0 h }
 {}
 
-/// What stands one name below a path stands in a directory: where a path is no directory, or is not
-/// shown, it has no children.
+/// Children are in directories: a path that is no directory, or is not shown, has none.
 pub fn children_stand_in_directories()
     ensures { (first : ℕ) (layers : List (List ℕ)) → AllByRecursion IsImage layers →
         (t : TreeRows) → IsTreeOf first layers t → (path : Path) (name : List ℕ) (e : Entry) →

@@ -5,7 +5,7 @@
 //! for each file of the lower tree on which the upper one lays a directory (`clashes`), since what
 //! that file cuts is cut by the run of both.
 //!
-//! A result that is taken by `?` and given back in `Ok` is promised in other words than it came in.
+//! A result that passes through `?` and `Ok` gets a promise in other terms.
 
 ghost use Rattle.std.specs.Prelude.{◌≡◌, ◌<◌, ◌+◌, [], ◌∷◌, ◌++◌, ℕ, List, length, IfOk, OnOk, false};
 ghost use Rattle.name_tree.specs.Rows.{NamesRise, IsForest, IsFirstNamed};
@@ -26,8 +26,8 @@ const FEW: usize = 8;
 
 /// Lays the tree of a run of layers on that of the run just below it: the tree of both together.
 ///
-/// Directories that both have are merged child by child; what one alone has is moved and not looked
-/// into. `AllocError` comes only where memory was refused; both trees are then lost.
+/// Directories that both have are merged child by child; what only one has is moved unread.
+/// `AllocError` only if memory was refused; both trees are then lost.
 pub fn lay<A: Allocator + Copy>(
     alloc: A,
     low: Tree<A>,
@@ -71,7 +71,7 @@ fn laid<A: Allocator + Copy>(alloc: A, low: Tree<A>, high: Tree<A>) -> Result<Tr
     Ok(Tree { entries, marks })
 }
 
-/// The entries of a tree laid on those of another one, and marks where the lower tree has a file
+/// The entries of a tree laid on those of another one, with marks where the lower tree has a file
 /// and the upper one a directory or something below. `marks` are those of the upper tree.
 fn entries_laid<A: Allocator + Copy>(
     alloc: A,
@@ -152,7 +152,7 @@ fn children_left<T: Copy + Drop, A: Allocator + Copy>(
     if mark.value().opaque {
         return Ok(Vec::new(alloc));
     }
-    // named, so that the proof speaks of what is left, and not of a result that may be an error
+    // named, so the proof speaks of the rest and not of a result that may be an error
     let left = kept_below(alloc, children, mark.children())?;
     Ok(left)
 }
@@ -242,10 +242,10 @@ fn keep_inside<T: Copy + Drop, A: Allocator + Copy>(
     Ok(())
 }
 
-/// Takes the first branch from a directory; what a mark and those below it leave of it is added to
-/// `kept`, and nothing where the mark cuts the branch itself.
+/// Takes the first branch from a directory, and adds to `kept` what a mark and those below leave of
+/// it: nothing if the mark cuts the branch itself.
 ///
-/// `AllocError` comes only where memory was refused; nothing is promised of `lows` and `kept` then.
+/// `AllocError` only if memory was refused; `lows` and `kept` are unspecified then.
 #[cycle(keeping)]
 fn keep_first<T: Copy + Drop, A: Allocator + Copy>(
     alloc: A,

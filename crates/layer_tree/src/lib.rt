@@ -1,13 +1,13 @@
 //! Layers as trees: the tree of one layer, and trees laid on one another.
 //!
 //! [`Tree::of`](OfLayer::of) gives the tree of one layer, [`tree_of`] that of one whose image is
-//! lent, and [`lay`] that of two runs of layers from theirs. What a tree shows and cuts, and how it
-//! is read, `whiteout_tree` says. `reading` makes the tree of one layer, from the members of
+//! lent, and [`lay`] that of two runs of layers from theirs. `whiteout_tree` defines what a tree
+//! shows and cuts, and how it is read. `reading` makes the tree of one layer, from the members of
 //! directories in the order of their names (`members`), whose headers and names it reads ahead
 //! (`ahead`); `laying` lays one tree on another, `clashes` finds where one has a file and the other
-//! more than a leaf, and `apart` sees that there is no such path. The crate stands on
-//! `whiteout_tree`, `name_tree` and `tree_merge` for trees, on `romfs_reader` for images and on
-//! `stack_model` for what stacks show.
+//! more than a leaf, and `apart` finds that there is no such path. The crate uses `whiteout_tree`,
+//! `name_tree` and `tree_merge` for trees, `romfs_reader` for images and `stack_model` for what
+//! stacks show.
 #![tactic(auto)]
 
 mod ahead;

@@ -1,10 +1,10 @@
 //! The members of a directory in the order of their names.
 //!
-//! Names stand anywhere in an image, so a sort that reads two of them for each comparison is slow.
-//! Of each member a key, the place of its header and the length of its name are kept, 16 bytes, and
-//! these are sorted by the keys; names are read again only where keys are equal. A key is eight
-//! bytes of a name as a number, the first ones behind what all names of the directory begin with,
-//! since names such as `file-000017` and `file-000018` are alike before.
+//! Names are anywhere in an image, so a sort that reads two of them for each comparison is slow.
+//! For each member a key, the place of its header and the length of its name are kept, 16 bytes,
+//! and sorted by key; names are read again only if keys are equal. A key is eight bytes of a name
+//! as a number, the first ones after the common front of the directory's names, since names such as
+//! `file-000017` and `file-000018` are equal up to there.
 
 ghost use Rattle.std.specs.Prelude.{◌≡◌, ◌≤◌, [], ◌++◌, length, map, IfOk, IsFalse, All, MatchOption};
 ghost use Rattle.std.specs.List.Sorted.{IsPermutation};
@@ -25,7 +25,7 @@ use whiteout_tree::is_marker;
 /// How many members a directory gets room for at once: most have no more.
 const FEW: usize = 16;
 
-/// A member of a directory, by where its header stands.
+/// A member of a directory, by the place of its header.
 #[derive(Clone, Copy)]
 pub(crate) struct KeyedMember {
     /// Eight bytes of the name as a number, behind a front that all names of the directory share.
@@ -36,7 +36,7 @@ pub(crate) struct KeyedMember {
 }
 
 /// The members of a directory in the order of their names. It reads each header once, and sorts;
-/// names that begin alike are read once more, for keys behind their front.
+/// names that begin alike are read once more, for keys after their front.
 #[inline(never)]
 pub(crate) fn sorted_members<A: Allocator + Copy>(
     alloc: A,
@@ -55,7 +55,7 @@ pub(crate) fn sorted_members<A: Allocator + Copy>(
     Ok(members)
 }
 
-/// What the name of a marker says after `.wh.`; none where the name is no marker's.
+/// The part of a marker's name after `.wh.`; none if the name is no marker's.
 pub(crate) fn whiteout_of(name: &[u8]) -> Option<&[u8]>
     ensures { MatchOption result (¬ IsMarker name.now) (λ rest. name.now ≡ marker ++ rest.now) }
 {
@@ -66,7 +66,7 @@ pub(crate) fn whiteout_of(name: &[u8]) -> Option<&[u8]>
     }
 }
 
-/// Members, each with the key of its whole name, and how many bytes all their names share at the
+/// Members, each with the key of its full name, and how many bytes all their names share at the
 /// front.
 fn keyed_members<A: Allocator + Copy>(
     alloc: A,
@@ -120,7 +120,7 @@ fn shared<'a>(x: &'a [u8], y: &[u8]) -> &'a [u8]
     &x[..name_lookup::shared(x, y)]
 }
 
-/// Gives members whose names begin alike keys that tell them apart.
+/// Gives members whose names begin alike keys that distinguish them.
 fn tell_apart(image: &ImageView<'_>, members: &mut [KeyedMember], shared: usize)
     requires read { All (IsRead image.now) members.old }
     requires keyed { All (IsKeyed image.now []) members.old }
@@ -132,7 +132,7 @@ fn tell_apart(image: &ImageView<'_>, members: &mut [KeyedMember], shared: usize)
     }
 }
 
-/// Gives each member the key of what stands behind the first `shared` bytes of its name.
+/// Gives each member the key of its name after the first `shared` bytes.
 fn set_keys(image: &ImageView<'_>, members: &mut [KeyedMember], shared: usize)
     requires read { All (IsRead image.now) members.old }
     requires long { All (λ m. shared ≤ length (name_of image.now m.offset)) members.old }
@@ -153,7 +153,7 @@ fn sort_by_name<A: Allocator>(image: &ImageView<'_>, members: &mut Vec<KeyedMemb
     members.sort_unstable_by(|x, y| order(image, x, y));
 }
 
-/// How members stand by their keys, and by their names where these are equal.
+/// The order of members by key, and by name if keys are equal.
 fn order(image: &ImageView<'_>, x: &KeyedMember, y: &KeyedMember) -> Ordering
     ensures { result ≡ name_cmp (key_and_name image.now x.now) (key_and_name image.now y.now) }
 {

@@ -1,9 +1,9 @@
 //! One layer read as a tree.
 //!
 //! A directory's members are sorted by name once. Those that are no markers become branches of
-//! entries. Markers become marks of what their names say, and these are laid on those of the
-//! directories below. A marker of the whole directory makes its own mark opaque. A directory with
-//! no marker at all has no mark, but for the root.
+//! entries. Markers become marks for the names they have, laid on those of the directories below.
+//! An opaque marker makes the directory's own mark opaque. A directory with no marker at all has no
+//! mark, but for the root.
 //!
 //! It takes n log n steps in the members of the layer and the hard links that they lead to: ends of
 //! hard links that were found are kept while the tree is made.
@@ -24,7 +24,7 @@ use std::alloc::{AllocError, Allocator};
 use tree_merge::merge;
 use whiteout_tree::{Child, Entry, Mark, Place, Tree, is_marker};
 
-/// What the name of the marker of a whole directory says after `.wh.`.
+/// The name of an opaque marker after `.wh.`.
 const WHOLE: &[u8; 8] = b".wh..opq";
 
 /// The mark of a path that is cut.
@@ -33,7 +33,7 @@ pub(crate) const CUT: Mark = Mark {
     opaque: false,
 };
 
-/// The mark of a path that is not cut, where one below it may be.
+/// The mark of a path that is not cut, though one below it may be.
 pub(crate) const UNCUT: Mark = Mark {
     cut: false,
     opaque: false,
@@ -41,7 +41,7 @@ pub(crate) const UNCUT: Mark = Mark {
 
 /// What is made of one layer.
 pub trait OfLayer: Sized {
-    /// Where memory comes from.
+    /// The allocator.
     type Memory;
 
     /// The layer's image.
@@ -68,7 +68,7 @@ impl<A: Allocator + Copy> OfLayer for Tree<A> {
 ///
 /// A marker is a mark and no entry, with all below it; a marker that ends after `.wh.` marks the
 /// empty name. A hard link has the kind and the place of the header where it ends. `AllocError`
-/// comes only where memory was refused.
+/// only if memory was refused.
 pub fn tree_of<A: Allocator + Copy>(
     alloc: A,
     image: &ImageView<'_>,
@@ -93,7 +93,7 @@ pub(crate) fn leaf<T: Copy + Drop, A: Allocator>(alloc: A, name: Name<A>, value:
     Branch::new(name, value, Vec::new(alloc))
 }
 
-/// A layer that is read, and where memory for its tree comes from.
+/// A layer that is read, and the allocator for its tree.
 #[derive(Drop)]
 struct Layer<'a, A: Allocator> {
     alloc: A,
@@ -163,10 +163,10 @@ fn branches_below<A: Allocator + Copy>(
     Ok(made)
 }
 
-/// Adds what stands at a header and below it, under a name, and what is cut there, if anything is.
-/// A path to the header has `left` names less than [`MAX_NAMES`].
+/// Adds the file of a header with all below it, under a name, and what is cut there, if anything
+/// is. A path to the header has `left` names less than [`MAX_NAMES`].
 ///
-/// `AllocError` comes only where memory was refused; nothing is promised of `to` then.
+/// `AllocError` only if memory was refused; `to` is unspecified then.
 #[cycle(reading)]
 fn add_branches<A: Allocator + Copy>(
     layer: &Layer<'_, A>,
@@ -194,7 +194,7 @@ fn add_branches<A: Allocator + Copy>(
 
 /// Adds an entry that is no directory; it needs no mark.
 ///
-/// `AllocError` comes only where memory was refused; nothing is promised of `to` then.
+/// `AllocError` only if memory was refused; `to` is unspecified then.
 #[inline(never)]
 fn add_file<A: Allocator + Copy>(
     layer: &Layer<'_, A>,
@@ -240,9 +240,9 @@ fn folder<A: Allocator + Copy>(
     Ok((entries, marks))
 }
 
-/// The same, added to others; a directory of which no member is a marker or has a mark needs none.
+/// The same, added to others; a directory needs none if no member is a marker or has a mark.
 ///
-/// `AllocError` comes only where memory was refused; nothing is promised of `to` then.
+/// `AllocError` only if memory was refused; `to` is unspecified then.
 #[inline(never)]
 fn add_folder<A: Allocator + Copy>(
     layer: &Layer<'_, A>,
@@ -296,7 +296,7 @@ fn is_blank<A: Allocator>(mark: &Branch<Mark, A>) -> bool
 
 /// Adds a mark to a list, which gets room for one at first: most have no more.
 ///
-/// `AllocError` comes only where memory was refused; nothing is promised of `to` then.
+/// `AllocError` only if memory was refused; `to` is unspecified then.
 fn add_mark<A: Allocator>(
     to: &mut Vec<Branch<Mark, A>, A>,
     mark: Branch<Mark, A>,
@@ -328,7 +328,7 @@ fn entry_at(layer: u16, end: &Head) -> Entry
     }
 }
 
-/// The marks of a directory's markers. Where each member has a branch none is a marker, and no name
+/// The marks of a directory's markers. If each member has a branch, none is a marker, and no name
 /// is read again.
 fn markers_of<A: Allocator + Copy>(
     layer: &Layer<'_, A>,
@@ -369,7 +369,7 @@ fn whiteouts_of<A: Allocator + Copy>(
     Ok(marks)
 }
 
-/// Whether one of the markers is that of the whole directory.
+/// Whether one of the markers is opaque.
 fn has_opaque<A: Allocator>(whiteouts: &[Branch<Mark, A>]) -> bool
     requires { NamesRise whiteouts.now }
     ensures { result ≡ is_some (named rest_of_opaque whiteouts.now) }

@@ -9,7 +9,7 @@ abbrev pub weight : List Move → ℕ
 weight [] = 0
 weight (m ∷ moves) = unsigned_abs m.amount + weight moves
 
--- moves are no more than 64 bits say, for each of so many bytes
+-- moves have at most 64 bits, for each of this many bytes
 abbrev pub IsLight : List Move → ℕ → Type 0
 IsLight moves bytes = weight moves ≤ 2 ^ 64 * bytes
 

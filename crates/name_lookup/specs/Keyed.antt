@@ -1,14 +1,14 @@
--- What the keys of a directory's names say of them.
+-- What the keys of a directory's names say about them.
 use Rattle.std.specs.Prelude.{◌≡◌, ◌≢◌, ℕ, ◌≤◌, ◌<◌, List, [], ◌++◌, length, map, take, drop, slice_index, All}
 use Rattle.std.specs.List.{slice_index_or, AllWithin}
 use Rattle.name_lookup.specs.Names.{Rise}
 use Rattle.name_lookup.specs.Keys.{key, AreBytes}
 
--- two names have no more bytes alike at their fronts: where both go on, they differ
+-- two names have no more bytes alike at their fronts: if both go on, they differ
 pub record IsMost (shared : ℕ) (x y : List ℕ) : Type 0 where
   pub differ : shared < length x → shared < length y → slice_index x shared ≢ slice_index y shared
 
--- the first name, and no bytes where there is none
+-- the first name, and no bytes if there is none
 abbrev pub first_of : List (List ℕ) → List ℕ
 first_of names = slice_index_or names 0 []
 
@@ -30,7 +30,7 @@ pub record AddsKeys (shared : ℕ) (names : List (List ℕ)) (old new : List ℕ
   pub is : new ≡ old ++ keys
   pub keyed : AreKeyed shared keys names
 
--- a name stands at none of the places that were left out
+-- a name is at none of the places that were left out
 pub record Narrows (names : List (List ℕ)) (name : List ℕ) (low high : ℕ) : Type 0 where
   pub within : high ≤ length names
   pub before : AllWithin (λ its. its ≢ name) names 0 low

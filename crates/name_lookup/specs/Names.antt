@@ -1,4 +1,4 @@
--- Names in order, and where a name stands.
+-- Names in order, and the place of a name.
 use Rattle.std.specs.Prelude.{◌≡◌, ℕ, List, position, nat_eq, Option}
 use Rattle.std.specs.declared.cmp.Ordering.TheVariants.{Less}
 use Rattle.std.specs.Cmp.Lexicographic.{slice_cmp, pointwise}
@@ -9,6 +9,6 @@ use Rattle.std.specs.Ordering.{nat_cmp}
 abbrev pub Rise : List (List ℕ) → Type 0
 Rise names = AllPairs (λ x y. slice_cmp nat_cmp x y ≡ Less) names
 
--- the first place at which this name stands
+-- the first place of this name
 abbrev pub place_of : List ℕ → List (List ℕ) → Option ℕ
 place_of name names = position (pointwise nat_eq name) names

@@ -12,7 +12,7 @@ use std::alloc::{AllocError, Allocator};
 /// Adds the keys of rows that come in the order of their names, each name once, and says how many
 /// bytes at their fronts all names share. The names may be any bytes, of any number.
 ///
-/// Where memory is refused, some of the keys may stand at the end.
+/// If memory is refused, some of the keys may have been added.
 pub fn add_keys<T: HasName, A: Allocator>(
     rows: &[T],
     keys: &mut Vec<u64, A>,

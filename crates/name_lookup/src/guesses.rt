@@ -1,7 +1,7 @@
-//! Guesses of where names stand, which need not be right.
+//! Guesses of the places of names, which need not be right.
 //!
-//! A guess counts only where the row has the name, so a stranger who knows the hash can make a
-//! look-up no dearer than by keys, but for the few slots that are looked at.
+//! A guess counts only if the row has the name, so a stranger who knows the hash can make a look-up
+//! no dearer than by keys, but for the few slots that are read.
 
 ghost use Rattle.std.specs.Prelude.{◌≡◌, ◌≤◌, ◌+◌, ◌*◌, ◌^◌, ⊤, length, map, Some, MatchOption, IfOk};
 ghost use Rattle.name_lookup.specs.Names.{Rise, place_of};
@@ -11,29 +11,28 @@ use crate::key::key_of;
 use std::alloc::{AllocError, Allocator};
 use std::marker::Model;
 
-/// How many slots are looked at for one name: those of a line of the cache, so that of a thousand
-/// rows not one lacks a slot.
+/// How many slots are tried for one name: a line of the cache, so not one row in a thousand lacks a
+/// slot.
 const PROBES: usize = 16;
 
-/// What stands where no row was noted.
+/// The value of a slot without a row.
 const NOWHERE: u32 = u32::MAX;
 
 /// More rows than this are not noted.
 const MAX_ROWS: usize = 0x8000_0000;
 
-/// Guesses of where the rows of directories stand among all rows, by a hash of a directory's number
-/// and a name. A clause sees how many slots of four bytes there are.
+/// Guesses of the places of directories' rows among all rows, by a hash of a directory's number and
+/// a name. A clause sees how many slots of four bytes there are.
 ///
-/// The lower bits of a slot tell a row's place, as many of them as the last row takes; in the
-/// others stand bits of the hash of its directory and name, so that a slot that is another name's
-/// is mostly seen without a look at that row. Whoever is told a place looks whether the row
-/// there has the name, so a guess that is wrong, or one that is not there, costs a search and
-/// nothing else. No more than 2^31 rows are noted.
+/// The lower bits of a slot are a row's place, as many as the last row takes; the others are bits
+/// of the hash of its directory and name, which rule out most other names without reading that row.
+/// Callers check whether the row at a guessed place has the name, so a wrong or missing guess costs
+/// a search and nothing else. At most 2^31 rows are noted.
 #[derive(Drop)]
 pub struct Guesses<A: Allocator> {
-    // Those where the search for a name may begin, and as many behind them as it goes on.
+    // Those where the search for a name may begin, and those after them that it may reach.
     slots: Vec<u32, A>,
-    // The bits of a slot that tell a place.
+    // The bits of a slot that are a place.
     place_mask: u32,
 }
 
@@ -46,8 +45,8 @@ impl<A: Allocator> Model for Guesses<A> {
 }
 
 impl<A: Allocator> Guesses<A> {
-    /// No guesses yet, with room for this many rows: 8 to 16 bytes a row. `AllocError` comes only
-    /// where memory was refused.
+    /// No guesses yet, with room for this many rows: 8 to 16 bytes a row. `AllocError` only if
+    /// memory was refused.
     pub fn for_rows(alloc: A, rows: usize) -> Result<Self, AllocError>
         ensures { IfOk result (λ slots. slots ≤ 4 * rows + 17) }
     {
@@ -59,7 +58,7 @@ impl<A: Allocator> Guesses<A> {
         })
     }
 
-    /// Notes the rows of a directory, which stand from `start` on among all rows.
+    /// Notes the rows of a directory, which begin at `start` among all rows.
     pub fn note_all<T: HasName>(&mut self, directory: u64, start: usize, rows: &[T])
         ensures { self.new ≡ self.old }
     {
@@ -68,8 +67,8 @@ impl<A: Allocator> Guesses<A> {
         }
     }
 
-    /// The place of the row with this name among the rows of a directory, which stand from `start`
-    /// on among all rows, where it was noted. None says nothing.
+    /// The place of the row with this name among the rows of a directory, which begin at `start`
+    /// among all rows, if it was noted. None means nothing.
     pub fn find<T: HasName>(
         &self,
         directory: u64,
@@ -104,8 +103,8 @@ impl<A: Allocator> Guesses<A> {
         sum
     }
 
-    /// The first place that is looked at for a directory and a name with this [`hash`](hashed),
-    /// among all rows; none where no row was noted for it.
+    /// The first place that is tried for a directory and a name with this [`hash`](hashed), among
+    /// all rows; none if no row was noted for it.
     pub fn first(&self, hash: u64) -> Option<usize> {
         for slot in self.slots_for(hash) {
             if *slot == NOWHERE {
@@ -119,7 +118,7 @@ impl<A: Allocator> Guesses<A> {
         None
     }
 
-    // Notes where a row stands, unless all slots for it are taken.
+    // Notes the place of a row, unless all slots for it are taken.
     fn note(&mut self, directory: u64, name: &[u8], at: usize)
         ensures { self.new ≡ self.old }
     {
@@ -151,14 +150,14 @@ impl<A: Allocator> Guesses<A> {
         }
     }
 
-    // Where the first of them stands, by the upper half of the hash: the number of those where a
-    // search may begin is a power of two.
+    // The first of them, by the upper half of the hash: the number of those where a search may
+    // begin is a power of two.
     fn first_slot(&self, hash: u64) -> usize {
         let last = self.place_mask as usize * 2 + 1;
         (hash >> 32) as usize & last
     }
 
-    // The place that a slot tells, unless it is another name's by what stands beside it.
+    // The place in a slot, unless the bits beside it show that it is another name's.
     fn place_in(&self, slot: u32, hash: u64) -> Option<usize> {
         if (slot ^ tag(hash)) & !self.place_mask == 0 {
             Some((slot & self.place_mask) as usize)
@@ -168,9 +167,9 @@ impl<A: Allocator> Guesses<A> {
     }
 }
 
-// Odd numbers, so that a product with one tells as much as the word did, with bits that follow no
-// pattern, so that each bit of the word moves many higher ones: 2^64 by the golden ratio, two of
-// the last step of MurmurHash3, and one of degski's mixer. A look-up is right with any numbers.
+// Odd numbers, so a product with one loses nothing of the word, whose bits follow no pattern, so
+// each bit of the word moves many higher ones: 2^64 by the golden ratio, two of the last step of
+// MurmurHash3, and one of degski's mixer. A look-up is right with any numbers.
 const GOLDEN: u64 = 0x9e37_79b9_7f4a_7c15;
 
 const FOR_FIRST: u64 = 0xff51_afd7_ed55_8ccd;
@@ -179,9 +178,9 @@ const FOR_MIDDLE: u64 = 0xc4ce_b9fe_1a85_ec53;
 
 const FOR_LAST: u64 = 0xd6e8_feb8_6659_fd93;
 
-/// The hash of a directory and a name: its upper half says where their first slot stands, before
-/// the number of slots is known, the lower one what stands in it beside a place. Of names of up to
-/// 24 bytes all are hashed, of others the first, the middle and the last eight bytes.
+/// The hash of a directory and a name: its upper half gives their first slot, before the number of
+/// slots is known, the lower one the bits beside a place. Of names of up to 24 bytes all are
+/// hashed, of others the first, the middle and the last eight bytes.
 pub fn hashed(directory: u64, name: &[u8]) -> u64 {
     let len = name.len();
     let begun = directory.wrapping_mul(GOLDEN).wrapping_add(len as u64);
@@ -210,7 +209,7 @@ fn room_for(rows: usize) -> usize
     room
 }
 
-// The bits of a hash that may stand in a slot beside a place.
+// The bits of a hash that may be in a slot beside a place.
 fn tag(hash: u64) -> u32 {
     (hash & 0xffff_ffff) as u32
 }

@@ -8,8 +8,7 @@
 ghost use Rattle.std.specs.Prelude.{◌≡◌, slice_index};
 ghost use Rattle.name_lookup.specs.Keys.{key};
 
-/// The first eight bytes as a number, the first byte highest. Zeros stand for those that are
-/// missing.
+/// The first eight bytes as a number, the first byte highest. Missing bytes are zeros.
 pub fn key_of(bytes: &[u8]) -> u64
     ensures { result ≡ key 8 bytes.now }
 {

@@ -1,4 +1,4 @@
-//! Keys that no row has, told by a bit.
+//! Keys that no row has, known by a bit.
 //!
 //! Many of the names that are asked for are not there, as a compiler's search for a header in one
 //! folder after another shows. A search among keys costs such a name as much as any other. Here
@@ -36,8 +36,8 @@ impl<A: Allocator> Model for KeyFilter<A> {
 }
 
 impl<A: Allocator> KeyFilter<A> {
-    /// No keys yet, with room for this many rows: a byte a row. `AllocError` comes only where
-    /// memory was refused.
+    /// No keys yet, with room for this many rows: a byte a row. `AllocError` only if memory was
+    /// refused.
     pub fn for_rows(alloc: A, rows: usize) -> Result<Self, AllocError>
         ensures { IfOk result (λ bits. length bits ≤ 8 * rows) }
     {
@@ -56,7 +56,7 @@ impl<A: Allocator> KeyFilter<A> {
         }
     }
 
-    /// Whether a key may be that of a row of a directory. It is no row's where this is false.
+    /// Whether a key may be that of a row of a directory. If false, it is no row's.
     pub fn may_have(&self, directory: u64, key: u64) -> bool
         ensures { IsNoted self.now directory key ↔ IsTrue result }
     {
@@ -76,7 +76,7 @@ impl<A: Allocator> KeyFilter<A> {
     }
 }
 
-// Which of so many bits is that of a key in a directory.
+// Which of this many bits is that of a key in a directory.
 #[inline(always)]
 fn bit_of(count: usize, directory: u64, key: u64) -> usize
     requires { count < 2 ^ 32 }

@@ -1,11 +1,11 @@
-//! Where equal keys stand among keys that do not fall.
+//! The range of equal keys among keys that do not fall.
 
 ghost use Rattle.std.specs.Prelude.{◌≡◌, ◌≤◌, ◌<◌, length, nat_lt, if◌then◌else◌};
 ghost use Rattle.std.specs.List.{AllWithin};
 ghost use Rattle.std.specs.List.Sorted.{IsNonDecreasing};
 ghost use Rattle.name_lookup.specs.Runs.{IsKeyRun};
 
-/// From where to where a key stands. Where it is in no place, these are the same.
+/// The range of a key: start and end, equal if it does not occur.
 pub(crate) fn run_of(keys: &[u64], key: u64) -> (usize, usize)
     requires { IsNonDecreasing keys.now }
     ensures { IsKeyRun keys.now key result.0 result.1 }

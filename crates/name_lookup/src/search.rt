@@ -1,9 +1,8 @@
 //! The place of a name in one directory.
 //!
-//! A look-up searches among keys that stand side by side, by halves and with no branch on what it
-//! compares, and reads one row, whose name is compared as a whole. Where several names have one
-//! key, these are searched by whole names. Most names that are not there have a key that the filter
-//! has not noted, and are searched nowhere.
+//! A look-up is a binary search among adjacent keys, with no branch on what it compares, and reads
+//! one row, whose full name is compared. If several names have one key, these are searched by full
+//! names. Most missing names have a key that the filter has not noted, and are not searched.
 
 ghost use Rattle.std.specs.Prelude.{◌≡◌, map, All};
 ghost use Rattle.name_lookup.specs.Names.{Rise, place_of};
@@ -18,7 +17,7 @@ use std::alloc::Allocator;
 use std::cmp::Ordering;
 
 /// The place of the row with this name, counted from 0: by key to the rows whose keys are equal,
-/// and among these by name; None where no row has the name, which may be any bytes, of any number.
+/// and among these by name; None if no row has the name, which may be any bytes, of any number.
 ///
 /// `keys` and `shared` are what [`add_keys`] made of these rows, and the filter has noted the keys
 /// under the directory's number.
@@ -54,7 +53,7 @@ pub fn find<T: HasName, A: Allocator>(
     }
 }
 
-/// The place of a name, by halves of the rows from `low` to `high`.
+/// The place of a name, by binary search of the rows from `low` to `high`.
 fn find_by_name<T: HasName>(rows: &[T], name: &[u8], low: usize, high: usize) -> Option<usize>
     requires rise { Rise (map T.name rows.now) }
     requires narrows { Narrows (map T.name rows.now) name.now low high }

@@ -1,6 +1,5 @@
--- Branches by the order of their names. Names rise strictly, so a directory has at most one branch
--- of a name (`named_at`), and none where names pass from lower to higher ones (`named_between`);
--- `from_name` says that a search by halves may be made.
+-- Branches by the order of their names. Names rise strictly, so a directory has at most one branch of a name (`named_at`), and none where
+-- names pass from lower to higher ones (`named_between`); `from_name` says that a search by binary search may be made.
 use Rattle.std.proofs.Common.{◌≡◌, ◌≢◌, ◌∙◌, sym, ap, subst, ℕ, zero, suc, ◌<◌, ◌≤◌, ◌⊎◌, inl, inr, List, [], ◌∷◌, length, get_or, refl, arith, Bool, true, false, Some, None}
 use Rattle.std.specs.declared.cmp.Ordering.{Ordering}
 use Rattle.std.specs.declared.cmp.Ordering.TheVariants.{Less, Equal, Greater}
@@ -120,7 +119,7 @@ from_name n (s ∷ ss) r zero (suc j) d le lt = keeps s.name (get_or ss j d).nam
 from_name n (s ∷ ss) r (suc i) zero d le lt = absurd (omega arith)
 from_name n (s ∷ ss) r (suc i) (suc j) d le lt = from_name n ss r.1 i j d (omega arith) (omega arith)
 
--- where a search by halves finds a name, a branch has it, and where it finds none, there is a gap for it
+-- where a search by binary search finds a name, a branch has it, and where it finds none, there is a gap for it
 pub placed : {T : Type 0} (n : List ℕ) (ss : List (Subtree T)) → NamesRise ss → (r : Result ℕ ℕ) → IsSearchInRange r (length ss)
     → IsBinarySearchResult (λ s. name_cmp s.name n) ss r → MatchResult r (IsPlaceOf n ss) (IsGapFor n ss)
 placed n ss rise (Ok i) l e = (l, λ d. exact_bytes (get_or ss i d).name n (e d))

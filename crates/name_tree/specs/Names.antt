@@ -1,14 +1,14 @@
--- The bytes of a name, wherever they stand.
+-- The bytes of a name, wherever they are.
 use Rattle.std.specs.Prelude.{ℕ, ◌<◌, List, length, ⊤}
 use Rattle.name_tree.specs.declared.name.Bytes.{Bytes}
 use Rattle.name_tree.specs.declared.name.Bytes.TheVariants.{Here, There}
 
--- the bytes of a name, whether they stand in the value or beside it
+-- the bytes of a name, in the value or beside it
 abbrev pub bytes_of : {A : Type 0} → Bytes A → List ℕ
 bytes_of (Here short) = short
 bytes_of (There long) = long.value.items
 
--- a name that stands beside its branch has more than 22 bytes
+-- a name beside its branch has more than 22 bytes
 abbrev pub IsBesideIfLong : {A : Type 0} → Bytes A → Type 0
 IsBesideIfLong (Here short) = ⊤
 IsBesideIfLong (There long) = 22 < length long.value.items

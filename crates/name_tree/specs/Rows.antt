@@ -62,7 +62,7 @@ abbrev pub named : {T : Type 0} → List ℕ → List (Subtree T) → Option (Su
 named n [] = None
 named n (s ∷ ss) = if pointwise nat_eq s.name n then Some s else named n ss
 
--- it is found; none where no branch has the name
+-- it is found; none if no branch has the name
 abbrev pub IsFirstNamed : {T : Type 0} → List ℕ → List (Subtree T) → Option (Bor (Subtree T))
     → Type 0
 IsFirstNamed n ss found = MatchOption found (named n ss ≡ None) (λ c. named n ss ≡ Some c.now)
@@ -76,7 +76,7 @@ abbrev pub IsParted : {T : Type 0} → List ℕ → List (Subtree T) → ℕ →
 IsParted n ss i = AllWithin (λ s. name_cmp s.name n ≡ Less) ss 0 i
     × AllWithin (λ s. name_cmp s.name n ≡ Greater) ss i (length ss)
 
--- no branch has that name, which would stand at i
+-- no branch has that name, which would be at i
 abbrev pub IsGapFor : {T : Type 0} → List ℕ → List (Subtree T) → ℕ → Type 0
 IsGapFor n ss i = (i ≤ length ss) × IsParted n ss i
 

@@ -63,7 +63,7 @@ impl<T: Copy + Drop, A: Allocator> Branch<T, A> {
         self.name.as_slice()
     }
 
-    /// How the branch's name stands to another one. Most names differ in their first byte.
+    /// The order of the branch's name and another. Most names differ in their first byte.
     pub fn order(&self, name: &[u8]) -> Ordering
         ensures { result ≡ name_cmp self.now.name name.now }
     {
@@ -91,7 +91,7 @@ impl<T: Copy + Drop, A: Allocator> Branch<T, A> {
         self.children.as_slice()
     }
 
-    /// The branch at a path from this one; none where there is no such path.
+    /// The branch at a path from this one; none if there is no such path.
     pub fn find(&self, path: &[&[u8]]) -> Option<&Branch<T, A>>
         ensures { MatchOption result
             (IsUnder (whole self.now) (map (λ n. n.now) path.now) [])
@@ -131,8 +131,8 @@ impl<T: Copy + Drop, A: Allocator + Copy> Branch<T, A> {
         self.children = children;
     }
 
-    /// The branch's name once more. `AllocError` comes only where memory was refused for a name of
-    /// more than 22 bytes.
+    /// A copy of the branch's name. `AllocError` only if memory was refused for a name of more than
+    /// 22 bytes.
     pub fn copy_name(&self, alloc: A) -> Result<Name<A>, AllocError>
         ensures { MatchResult result
             (λ name. name ≡ self.now.name) (λ _. 22 < length self.now.name) }
@@ -141,7 +141,7 @@ impl<T: Copy + Drop, A: Allocator + Copy> Branch<T, A> {
     }
 }
 
-/// The branch of that name, by halves; none where none has it.
+/// The branch of that name, by binary search; none if none has it.
 pub fn child<'a, T: Copy + Drop, A: Allocator>(
     children: &'a [Branch<T, A>],
     name: &[u8],
@@ -155,7 +155,8 @@ pub fn child<'a, T: Copy + Drop, A: Allocator>(
     }
 }
 
-/// Where the branch of that name stands, by halves; with none, where it would.
+/// The place of the branch of that name, by binary search; if there is none, the place where it
+/// would be.
 pub fn place<T: Copy + Drop, A: Allocator>(
     children: &[Branch<T, A>],
     name: &[u8],

@@ -4,9 +4,9 @@
 //! sees it as rows: the value at each path below it, in the order of paths (`specs/Rows.antt`). So
 //! what a function does to a tree is said by what each path has afterwards.
 //!
-//! A [`Name`] of at most 22 bytes stands in its branch, and a longer one beside it. A name is found
-//! by halves. No recursion goes deeper than the tree. What values need where trees are laid on one
-//! another is [`Lay`]; `tree_merge` lays them.
+//! A [`Name`] of at most 22 bytes is kept in its branch, a longer one beside it. Names are found by
+//! binary search. No recursion goes deeper than the tree. [`Lay`] is what values need for laying
+//! trees on one another; `tree_merge` lays them.
 #![tactic(auto)]
 
 mod branch;

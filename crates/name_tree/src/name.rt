@@ -6,11 +6,11 @@ ghost use Rattle.name_tree.specs.Padded.{IsPadded};
 use std::alloc::{AllocError, Allocator, Global};
 use std::marker::Model;
 
-/// How many bytes stand in the value itself.
+/// How many bytes the value itself holds.
 const MOST: usize = 22;
 
-/// A name of any length. It takes 24 bytes, and allocations only where it has more than 22. A
-/// clause sees its bytes.
+/// A name of any length. It takes 24 bytes, and an allocation only if it has more than 22. A clause
+/// sees its bytes.
 #[derive(Drop)]
 pub struct Name<A: Allocator> {
     bytes: Bytes<A>,
@@ -30,8 +30,7 @@ impl<A: Allocator> Model for Name<A> {
 }
 
 impl<A: Allocator + Copy> Name<A> {
-    /// A name of one's own. `AllocError` comes only where memory was refused for a name of more
-    /// than 22 bytes.
+    /// An owned name. `AllocError` only if memory was refused for a name of more than 22 bytes.
     pub fn of(alloc: A, name: &[u8]) -> Result<Name<A>, AllocError>
         ensures { MatchResult result (λ own. own ≡ name.now) (λ _. 22 < length name.now) }
     {
@@ -43,8 +42,7 @@ impl<A: Allocator + Copy> Name<A> {
         Ok(Name { bytes })
     }
 
-    /// The same name once more. `AllocError` comes only where memory was refused for a name of more
-    /// than 22 bytes.
+    /// A copy. `AllocError` only if memory was refused for a name of more than 22 bytes.
     pub fn copied(&self, alloc: A) -> Result<Name<A>, AllocError>
         ensures { MatchResult result (λ own. own ≡ self.now) (λ _. 22 < length self.now) }
     {

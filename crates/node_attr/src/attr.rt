@@ -11,7 +11,7 @@ pub struct Attr {
     pub blocks: u64,
     /// When the node was changed last, in seconds since 1970; before that in two's complement.
     pub seconds: u64,
-    /// The nanoseconds of that time beside its seconds, below 10^9.
+    /// The nanoseconds of that time after its seconds, below 10^9.
     pub nanoseconds: u32,
     /// Type and permissions.
     pub mode: u32,

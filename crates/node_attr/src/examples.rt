@@ -1,4 +1,4 @@
-//! Whom a node belongs to, whose image tells nothing of it.
+//! The owner of a node for which its image names none.
 
 ghost use Rattle.std.specs.Prelude.{◌≡◌};
 ghost use Rattle.node_attr.specs.declared.owner.TheConstants.Owner.{ROOT};

@@ -1,7 +1,7 @@
-//! What stat(2) tells of a node: one type, for the table that tells it and the reply that holds it;
-//! and whom a node belongs to.
+//! What stat(2) reports about a node, as one type for the table that gives it and the reply that
+//! holds it; and the owner of a node.
 //!
-//! It stands below the stack's definitions and below the wire, which know nothing of one another.
+//! It is below the stack's definitions and below the wire, which do not know each other.
 #![tactic(auto)]
 
 mod attr;

@@ -126,6 +126,6 @@ pub fresh_lines : (old new more seen : List Line) (start : ℕ) → new ≡ old 
     → take (length seen - start) (drop start seen) ≡ more
 fresh_lines old new more seen start e s is = take_rest seen start ∙ ap (drop start) (is ∙ e) ∙ drop_at old more start (sym s)
 
--- the old rows end within the rows that are there
+-- the old rows end within the existing rows
 pub start_within : (old new more seen : List Line) (start : ℕ) → new ≡ old ++ more → start ≡ length old → seen ≡ new → start ≤ length seen
 start_within old new more seen start e s is = let a = ap length is in let b = ap length e in omega (arith, length-append old more)

@@ -26,11 +26,11 @@ use Rattle.node_table.specs.declared.numbering.Form.{Form}
 use Rattle.node_table.specs.declared.numbering.Form.TheVariants.{Apart}
 use Rattle.node_table.proofs.Lists.{element_below, get_push, get_map, index_map, take_one_more}
 
--- a place is told to be the same as itself
+-- a place equals itself
 pub same_itself : (p : ModelPlace) → same_place p p ≡ true
 same_itself p = rw (eq-eqb p.0 p.0 refl, eq-eqb p.1 p.1 refl) refl
 
--- places that are told to be the same are one place
+-- places that are equal are one place
 pub same_is : (p q : ModelPlace) → same_place p q ≡ true → p ≡ q
 same_is p q e =
     let b = and_parts (nat_eq p.0 q.0) (nat_eq p.1 q.1) e in
@@ -38,7 +38,7 @@ same_is p q e =
     let g = eqb-true p.1 q.1 b.1 in
     ap (λ x. (x, p.1)) f ∙ ap (λ y. (q.0, y)) g
 
--- two places are one place, or are told apart
+-- two places are one place, or differ
 pub same_or_other : (p q : ModelPlace) → ((p ≡ q) × (same_place p q ≡ true)) ⊎ (same_place p q ≡ false)
 same_or_other p q = go (same_place p q) refl
   where
@@ -503,7 +503,7 @@ module _ (visits : List (Visit Entry)) (keys firsts : List ℕ) (are : AreKeys v
       has n is = let b = number_positive visits i visit.0 held lt visit.1 inv n is in
           record { is = is; positive = b.0; counted = b.1 }
 
--- what is held of branches apart is told by how many they are
+-- what is held of branches apart depends on how many they are
 pub apart_told : {A : Type 0} {form : Form A} {told : Numbering} (n : ℕ) → form ≡ Apart n → numbering_of form ≡ told
     → numbers_apart n ≡ told
 apart_told n is view = sym (ap numbering_of is) ∙ view

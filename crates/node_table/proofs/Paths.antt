@@ -13,11 +13,11 @@ use Rattle.stack_model.specs.Stack.{Path}
 use Rattle.stack_model.specs.Numbers.{same_name, same_path}
 use Rattle.node_table.specs.Walks.{under, extends, IsApart, IsLocated}
 
--- a name is told to be the same as itself
+-- a name equals itself
 pub same_itself : (n : List ℕ) → same_name n n ≡ true
 same_itself n = elim (same_or_not n n) [ inl x ↦ x.1 | inr x ↦ absurd (x.0 refl) ]
 
--- names that differ are told apart
+-- names that differ are unequal
 pub differ : (m n : List ℕ) → m ≢ n → same_name m n ≡ false
 differ m n f = elim (same_or_not m n) [ inl x ↦ absurd (f x.0) | inr x ↦ x.1 ]
 
@@ -44,7 +44,7 @@ pub longer : (top : Path) (n : List ℕ) → extends (top ++ n ∷ []) (top ++ [
 longer [] n = refl
 longer (m ∷ top) n = rw (same_itself m) (longer top n)
 
--- a path is told to be the same as itself, also with nothing written after it
+-- a path equals itself, also with nothing written after it
 pub same_top : (top : Path) → same_path top (top ++ []) ≡ true
 same_top [] = refl
 same_top (m ∷ top) = rw (same_itself m) (same_top top)

@@ -127,7 +127,7 @@ keyed_at by_key i = get_or by_key i (0, 0)
 abbrev pub IsWaiting : List ℕ → List (ℕ × ℕ) → ℕ → ℕ → Type 0
 IsWaiting keys by_key i k = (j : ℕ) × (i ≤ j) × (j < length by_key) × (keyed_at by_key j ≡ (slice_index keys k, k))
 
--- up to i the first place of each key is told; the group is the last key with its first place
+-- up to i the first place of each key is known; the group is the last key with its first place
 pub record Filling (keys : List ℕ) (by_key : List (ℕ × ℕ)) (firsts : List ℕ) (group : ℕ × ℕ) (i : ℕ) : Type 0 where
   pub sorted : ArePlacesByKey keys by_key
   pub level : length firsts ≡ length keys
@@ -241,7 +241,7 @@ module _ (keys : List ℕ) (by_key : List (ℕ × ℕ)) (firsts : List ℕ) (gro
       one m (inr (inl q)) d = apart m (λ e. omega arith) d
       one m (inr (inr q)) d = apart m (λ e. omega arith) d
 
-  -- a place with the key of the one before it is told that key's first place
+  -- a place with the key of the one before it has that key's first place
   pub key_goes_on : (firsts' : List ℕ) → firsts' ≡ slice_set firsts (keyed_at by_key i).1 group.1 → 0 < i → (keyed_at by_key i).0 ≡ group.0
       → Filling keys by_key firsts' group (i + 1)
   key_goes_on firsts' set l e = told group firsts' (sym e) (f.head l) set

@@ -1,4 +1,4 @@
--- Where the first branches of places agree with the listing, so that a table can be made of them.
+-- When the first branches of places agree with the listing, and a table can be made from them.
 use Rattle.std.specs.Prelude.{◌≡◌, ℕ, List, length, map, slice_get, slice_index, count_by, Some, false}
 use Rattle.romfs_reader.specs.Readers.{data_of_header as data_in}
 use Rattle.stack_model.specs.Listing.{Entry as Listed, IsListing, Stacked, stacked}
@@ -40,8 +40,8 @@ pub record AgreesAtPlace (stack : Stacked) (tell : TreePlace → ℕ) (above pat
   pub paths_are : is_directory_at stack.layers (visit_place visit) ≡ false
       → paths ≡ nlink stack (visit_place visit)
 
--- the first branches of all places, in the order of numbers, agree with the listing: where each one
--- stands, and what the number above is there
+-- the first branches of all places, in the order of numbers, agree with the listing: the place of
+-- each, and the number of its parent
 pub record AgreeWithListing (stack : Stacked) (tell : TreePlace → ℕ) (above : ℕ → ℕ)
     (first : List (Visit Entry)) (starts paths : List ℕ) : Type 0 where
   pub listing : IsListing stack.layers stack.entries
@@ -57,7 +57,7 @@ AgreeWithSomeListing layers tell above first starts paths =
     (entries : List Listed)
     × AgreeWithListing (stacked layers entries) tell above first starts paths
 
--- the first branches of all places agree with a listing, and stand where starts say
+-- the first branches of all places agree with a listing, and are where starts say
 abbrev pub StandAndAgree : List (List ℕ) → Walk Entry → List ℕ → List ℕ → List ℕ → Type 0
 StandAndAgree layers walk starts paths numbers =
     (first : List (Visit Entry))

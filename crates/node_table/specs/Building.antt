@@ -32,7 +32,7 @@ pub record AddsRows (tell : Place → ℕ) (cs : List (Subtree Entry)) (old new 
   pub rows_are : new ≡ old ++ map (line_in tell) cs
   pub count_is : n ≡ count_directories cs
 
--- a branch's number and size stand at this place
+-- a branch's number and size are at this place
 pub record HasNumberAndSize (tell : Place → ℕ) (numbers sizes : List ℕ) (at : ℕ)
     (c : Subtree Entry) : Type 0 where
   pub within : at < length numbers
@@ -41,14 +41,14 @@ pub record HasNumberAndSize (tell : Place → ℕ) (numbers sizes : List ℕ) (a
   pub size_is : slice_index sizes at ≡ length (whole c)
   pub ends : at + length (whole c) ≤ length sizes
 
--- branches stand from this place on, each after the one before it and all below that
+-- branches are from this place on, each after the one before it and all below that
 abbrev pub AreFollowing : (Place → ℕ) → List ℕ → List ℕ → ℕ → List (Subtree Entry) → Type 0
 AreFollowing tell numbers sizes at [] = ⊤
 AreFollowing tell numbers sizes at (c ∷ cs) =
     HasNumberAndSize tell numbers sizes at c
     × AreFollowing tell numbers sizes (at + length (whole c)) cs
 
--- the children of a branch stand after it
+-- the children of a branch follow it
 pub record HasChildrenAfter (tell : Place → ℕ) (numbers sizes : List ℕ) (at : ℕ)
     (branch : Subtree Entry) : Type 0 where
   pub within : at < length sizes
@@ -64,7 +64,7 @@ pub record HasAbove (numbers above : List ℕ) (at : ℕ) : Type 0 where
   pub placed : at < length above
   pub within : slice_index above at < length numbers
 
--- the first branches stand where starts say, with numbers of their parents and children at hand
+-- the first branches are where starts say, with numbers of their parents and children at hand
 pub record StandAtStarts (walk : Walk Entry) (numbers : List ℕ) (first : List (Visit Entry))
     (starts : List ℕ) : Type 0 where
   pub level : length starts ≡ length first
@@ -84,7 +84,7 @@ pub record HasGivenHeader (layers : List (List ℕ)) (branch : Subtree Entry) : 
   pub given : IsGiven image (head_of image branch.value.place.header)
   pub is_read : IsReadIn image branch.value
 
--- the node holds what the header says of the kind's data, permissions and device, as it stands
+-- the node holds what the header says about the kind's data, permissions and device
 pub record IsReadFrom (image : List ℕ) (header : ℕ) (node : Node) : Type 0 where
   pub data_is : IsDataPart image header node.part
   pub exec_is : node.exec ≡ exec image header

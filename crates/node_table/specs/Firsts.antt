@@ -1,12 +1,11 @@
--- Where each number of a list stands first.
+-- The first place of each number in a list.
 use Rattle.std.specs.Prelude.{◌≡◌, ◌≢◌, ℕ, ◌<◌, ◌⊎◌, List, length, slice_index, All}
 use Rattle.std.specs.List.{Contains}
 use Rattle.std.specs.List.Sorted.{IsSorted}
 use Rattle.std.specs.Ordering.{nat_cmp, ordering_then}
 use Rattle.duplicate_keys.specs.Once.{IsOnce}
 
--- keys with their places, all but some that stand at one place alone, in the order of keys, and of
--- places where keys are equal
+-- keys with their places, all but some that occur once, in the order of keys, then of places
 pub record ArePlacesByKey (keys : List ℕ) (by_key : List (ℕ × ℕ)) : Type 0 where
   pub own : All (λ keyed. (keyed.1 < length keys) × (slice_index keys keyed.1 ≡ keyed.0)) by_key
   pub every : (k : ℕ) → k < length keys → Contains by_key (slice_index keys k, k) ⊎ IsOnce keys k
@@ -17,7 +16,7 @@ pub record AreThemselves (len : ℕ) (places : List ℕ) : Type 0 where
   pub level : length places ≡ len
   pub each : (k : ℕ) → k < len → slice_index places k ≡ k
 
--- a key stands at this place, and at none before it
+-- a key is at this place, and at none before it
 pub record IsFirstOf (keys : List ℕ) (key place : ℕ) : Type 0 where
   pub within : place < length keys
   pub at : slice_index keys place ≡ key

@@ -44,7 +44,7 @@ seen visits i = map bare (take i visits)
 abbrev pub paths_of : List Listed → ModelPlace → ℕ
 paths_of entries p = count_by (λ e. same_place p (place e)) entries
 
--- the visit is the first with its place, and stands here
+-- the visit is the first with its place, and is here
 pub record IsFirstVisit (visits : List (Visit Entry)) (visit : Visit Entry) (at : ℕ) : Type 0 where
   pub is : slice_get visits at ≡ Some visit
   pub new : number_of (seen visits at) (visit_place visit) ≡ None
@@ -73,14 +73,14 @@ abbrev pub AreNumbered : List (Visit Entry) → List ℕ → List ℕ → List �
 AreNumbered visits starts paths numbers =
     (first : List (Visit Entry)) × IsNumbered visits (length visits) first starts paths numbers
 
--- where the first branches of places stand, how many branches have each place, and the numbers of
--- the branches' places
+-- the positions of the first branches of places, how many branches have each place, and the numbers
+-- of the branches' places
 pub record Numbering : Type 0 where
   pub starts : List ℕ
   pub paths : List ℕ
   pub numbers : List ℕ
 
--- those of so many branches, each with a place of its own
+-- those of this many branches, each with a place of its own
 abbrev pub numbers_apart : ℕ → Numbering
 numbers_apart count = record {
   starts = map (λ k. k) (range_with_len 0 count);

@@ -1,4 +1,4 @@
--- Where the branches of a tree stand among its rows.
+-- The places of a tree's branches among its rows.
 use Rattle.std.specs.Prelude.{◌≡◌, ℕ, ◌+◌, ◌-◌, List, [], ◌∷◌, ◌++◌, length, map, take, find, Bool, true, false, ◌&&◌, Some, slice_get, slice_index}
 use Rattle.std.specs.Borrow.{Bor}
 use Rattle.std.specs.List.{AllByRecursion}
@@ -26,7 +26,7 @@ extends (n ∷ top) (m ∷ path) = same_name n m && extends top path
 abbrev pub IsApart : {T : Type 0} → Path → Rows T → Type 0
 IsApart top rows = AllByRecursion (λ row. extends top row.0 ≡ false) rows
 
--- the rows of a branch stand among the rows from j on, below some path, and no other row is below
+-- the rows of a branch are among the rows from j on, below some path, and no other row is below
 -- that path
 pub record IsLocated {T : Type 0} (rows : Rows T) (j : ℕ) (branch : Subtree T)
     (above : T) : Type 0 where
@@ -44,21 +44,21 @@ pub record IsLocated {T : Type 0} (rows : Rows T) (j : ℕ) (branch : Subtree T)
 abbrev pub visit_size : {T : Type 0} → Visit T → ℕ
 visit_size visit = length (whole visit.now)
 
--- a branch with this value stands at this place
+-- a branch with this value is at this place
 pub record StandsAt {T : Type 0} (visits : List (Visit T)) (place : ℕ) (value : T) : Type 0 where
   pub visit : Visit T
   pub is : slice_get visits place ≡ Some visit
   pub value_is : visit.now.value ≡ value
 
--- the rows of a branch stand among the rows from j on, and the branch above it at this place
+-- the rows of a branch are among the rows from j on, and its parent is at this place
 pub record IsBelow {T : Type 0} (rows : Rows T) (j : ℕ) (branch : Subtree T)
     (visits : List (Visit T)) (place : ℕ) : Type 0 where
   pub above : T
   pub located : IsLocated rows j branch above
   pub stands : StandsAt visits place above
 
--- the visits are the branch and all below it, in the order of their rows, and the branch above each
--- one stands at its place among all
+-- the visits are the branch and all below it, in the order of their rows, and the parent of each is
+-- at its place among all
 pub record AreWalked {T : Type 0} (branch : Subtree T) (place : ℕ) (all visits : List (Visit T))
     (above : List ℕ) : Type 0 where
   pub level : length visits ≡ length (whole branch)
@@ -66,8 +66,8 @@ pub record AreWalked {T : Type 0} (branch : Subtree T) (place : ℕ) (all visits
   pub each : (rows : Rows T) (j : ℕ) → IsBelow rows j branch all place → (k : ℕ) (visit : Visit T)
       → slice_get visits k ≡ Some visit → IsBelow rows (j + k) visit.now all (slice_index above k)
 
--- branches in the order of their paths, where the one above each stands, and how many branches each
--- is with all below it
+-- branches in the order of their paths, the place of each parent, and the size of each with all
+-- below it
 pub record Walk (T : Type 0) : Type 0 where
   pub visits : List (Visit T)
   pub above : List ℕ

@@ -16,7 +16,7 @@ use std::alloc::{AllocError, Allocator};
 use table_reader::{Directories, Directory, Node, Row};
 use whiteout_tree::{Child, Entry};
 
-/// What a table is made of beside its images.
+/// What a table is made from besides its images.
 #[derive(Drop)]
 pub(crate) struct TableParts<A: Allocator> {
     pub(crate) nodes: Vec<Node, A>,
@@ -27,7 +27,7 @@ pub(crate) struct TableParts<A: Allocator> {
 #[derive(Drop)]
 pub(crate) struct First<'t, A: Allocator> {
     branch: &'t Branch<Entry, A>,
-    /// Where the branch stands among all.
+    /// The place of the branch among all.
     start: usize,
     /// The number of the branch above it.
     parent: u64,
@@ -67,8 +67,7 @@ pub(crate) fn make<A: Allocator + Copy>(
     Ok(TableParts { nodes, directories })
 }
 
-// Makes the node of a first branch, as it is before it is completed, and adds what is to be held of
-// a directory.
+// Makes the node of a first branch, before it is completed, and adds what is held of a directory.
 fn add_node<A: Allocator + Copy>(
     alloc: A,
     images: &[ImageView<'_>],
@@ -88,7 +87,7 @@ fn add_node<A: Allocator + Copy>(
     Ok(node_of(images, first.branch, nlink, directory))
 }
 
-// The node of a branch with so many links, before it is completed.
+// The node of a branch with this many links, before it is completed.
 fn node_of<A: Allocator>(
     images: &[ImageView<'_>],
     branch: &Branch<Entry, A>,
@@ -170,8 +169,7 @@ fn add_directory<A: Allocator + Copy>(
     Ok(directories)
 }
 
-// Adds the rows of children, and counts the directories among them. The children stand at `start`
-// and after it.
+// Adds the rows of children, and counts the directories among them. The children begin at `start`.
 fn add_rows<A: Allocator + Copy>(
     alloc: A,
     walk: &Walked<'_, Entry, A>,

@@ -1,4 +1,4 @@
-//! What headers and images say beside the tree: modes and device numbers of nodes, and blocks.
+//! What headers and images add to the tree: modes and device numbers of nodes, and blocks.
 
 ghost use Rattle.std.specs.Prelude.{◌≡◌, ◌≤◌, length, map};
 ghost use Rattle.std.specs.List.{AllByRecursion};
@@ -15,7 +15,7 @@ use table_reader::Node;
 /// Fewer nodes than this are completed by the caller alone, since a thread costs more.
 const MANY: usize = 0x2_0000;
 
-// Completes all nodes, in several threads where there are many.
+// Completes all nodes, in several threads if there are many.
 pub(crate) fn complete_all<R: Threads + Sync>(rt: &R, nodes: &mut [Node])
     ensures { nodes.new ≡ map completed nodes.old }
 {

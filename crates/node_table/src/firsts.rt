@@ -1,6 +1,6 @@
-//! Where each number of a list stands first.
+//! The first place of each number in a list.
 //!
-//! Most keys stand once: these are passed over, and the others are sorted with their places.
+//! Most keys occur once: these are skipped, and the others are sorted with their places.
 
 ghost use Rattle.std.specs.Prelude.{IfOk};
 ghost use Rattle.node_table.specs.Firsts.{ArePlacesByKey, AreFirsts, AreThemselves};
@@ -28,8 +28,8 @@ pub(crate) fn firsts_of<A: Allocator + Copy>(
     Ok(firsts)
 }
 
-// Keys with their places, in the order of keys, and of places where keys are equal. Some keys that
-// stand once are left out.
+// Keys with their places, in the order of keys, then of places. Some keys that occur once are left
+// out.
 fn places_by_key<A: Allocator + Copy>(
     alloc: A,
     keys: &[u64],

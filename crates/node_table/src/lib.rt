@@ -2,13 +2,13 @@
 //!
 //! [`Table::of`](OfTree::of) gives the table of a stack from its tree, and
 //! [`Table::with_attributes`](OfTree::with_attributes) one whose nodes have rows of attributes, or
-//! another owner; [`table_of_layers`] makes it of images that stay in their files, too. What a
-//! table tells, and how it is read, `table_reader` says. It is made in two walks over the tree: one
-//! counts its branches, and one tells for each where the one above stands and how many it is with
-//! all below it. Places that have more paths than one are found by a sort, and all are numbered by
-//! their first path; from then on a branch's number is found by where it stands: n log n steps in
-//! the paths. The crate stands on `table_reader` for tables, on `whiteout_tree` for the tree of a
-//! stack, on `romfs_reader` for its images, on `name_lookup` for look-ups, and on `rayon`.
+//! another owner; [`table_of_layers`] also takes images that stay in their files. `table_reader`
+//! defines what a table gives and how it is read. It is made in two walks over the tree: one counts
+//! the branches, and one finds for each its parent and its size with all below it. Places with
+//! several paths are found by a sort, and all are numbered by their first path; from then on a
+//! branch's number is found by its place: n log n steps in the paths. The crate uses `table_reader`
+//! for tables, `whiteout_tree` for the tree of a stack, `romfs_reader` for its images,
+//! `name_lookup` for look-ups, and `rayon`.
 #![tactic(auto)]
 
 mod building;

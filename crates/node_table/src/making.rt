@@ -21,7 +21,7 @@ use whiteout_tree::Tree;
 
 /// What is made of the tree of a stack.
 pub trait OfTree: Sized {
-    /// Where memory comes from.
+    /// The allocator.
     type Memory;
 
     /// The tree.
@@ -86,7 +86,7 @@ impl<A: Allocator + Copy> OfTree for Table<A> {
 ///
 /// It takes n log n steps in the paths that the stack shows; a row is sought in as many steps as
 /// the number of its layer's rows has binary digits. Attributes are worked out in several threads
-/// where there are many. An error comes only where memory was refused.
+/// where there are many. An error comes only if memory was refused.
 pub fn table_of_layers<R: Threads + Sync, A: Allocator + Copy>(
     rt: &R,
     alloc: A,
@@ -101,7 +101,7 @@ pub fn table_of_layers<R: Threads + Sync, A: Allocator + Copy>(
     ensures whole { IfOk result (λ table. table.whole ≡ all_whole layers.items) }
 {
     let (blocks, parts) = read_all(alloc, &tree, &layers)?;
-    // what else a table holds goes where the tree was
+    // what else a table holds takes the memory of the tree
     drop(tree);
     let TableParts {
         mut nodes,

@@ -1,7 +1,7 @@
 //! Numbers of places, in the order of their first path.
 //!
-//! Mostly each branch has a place of its own. Then where it stands tells its number, and no lists
-//! are held.
+//! Mostly each branch has a place of its own. Then its position gives its number, and no lists are
+//! held.
 
 ghost use Rattle.std.specs.Prelude.{◌≡◌, ◌<◌, ◌^◌, length, slice_index, slice_set, IfOk, IsTrue};
 ghost use Rattle.node_table.specs.Firsts.{AreFirsts, AreThemselves};
@@ -14,8 +14,8 @@ use std::marker::Model;
 use whiteout_tree::{Entry, Place};
 
 /// The places of branches, numbered from 1 in the order of their first branch. A clause sees three
-/// lists: where the first branch of each place stands among all branches; how many branches have
-/// the place, held at the greatest number of its type; and the number of each branch's place.
+/// lists: the position of each place's first branch among all branches; how many branches have the
+/// place, capped at the greatest number of its type; and the number of each branch's place.
 #[derive(Drop)]
 pub(crate) struct Numbered<A: Allocator> {
     form: Form<A>,
@@ -24,9 +24,9 @@ pub(crate) struct Numbered<A: Allocator> {
 /// How numbers are held.
 #[derive(Drop)]
 pub(crate) enum Form<A: Allocator> {
-    /// So many branches, each with a place of its own.
+    /// This many branches, each with a place of its own.
     Apart(usize),
-    /// Branches of which some have one place.
+    /// Branches, some of which share a place.
     Shared {
         starts: Vec<usize, A>,
         paths: Vec<u32, A>,
@@ -57,7 +57,7 @@ impl<A: Allocator> Numbered<A> {
         }
     }
 
-    /// Where the first branch stands of the place with this number, less one.
+    /// The position of the first branch of the place with this number, less one.
     #[inline(always)]
     pub(crate) fn start(&self, at: usize) -> usize
         requires { at < length self.now.starts }
@@ -81,7 +81,7 @@ impl<A: Allocator> Numbered<A> {
         }
     }
 
-    /// The number of the place of the branch that stands here.
+    /// The number of the place of the branch at this position.
     #[inline(always)]
     pub(crate) fn number(&self, branch: usize) -> u64
         requires { branch < length self.now.numbers }
@@ -111,7 +111,7 @@ pub(crate) fn number_places<A: Allocator + Copy>(
     number_shared(alloc, visits, keys, &firsts)
 }
 
-// The same, by the keys of the places, and where each key stands first.
+// The same, from the keys of the places, and the first position of each key.
 fn number_shared<A: Allocator + Copy>(
     alloc: A,
     visits: &[&Branch<Entry, A>],

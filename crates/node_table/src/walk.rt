@@ -10,7 +10,7 @@ use std::alloc::{AllocError, Allocator};
 #[derive(Drop)]
 pub(crate) struct Walked<'t, T: Copy + Drop, A: Allocator> {
     pub(crate) visits: Vec<&'t Branch<T, A>, A>,
-    /// Where the branch above each one stands; the root is above itself.
+    /// The parent of each branch; the root is its own.
     pub(crate) above: Vec<usize, A>,
     /// How many branches each one is with all below it.
     pub(crate) sizes: Vec<usize, A>,
@@ -43,8 +43,8 @@ pub(crate) fn count_branches<T: Copy + Drop, A: Allocator>(branch: &Branch<T, A>
     count
 }
 
-// The branch and all below it. No recursion goes deeper than the tree. The branch above stands at
-// `place`, or is this one.
+// The branch and all below it. No recursion goes deeper than the tree. The parent is at `place`, or
+// is this one.
 pub(crate) fn walk<'t, T: Copy + Drop, A: Allocator>(
     branch: &'t Branch<T, A>,
     place: usize,

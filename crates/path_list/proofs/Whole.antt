@@ -1,5 +1,5 @@
--- The whole list: the root's line, and those of all below it. `begun` says so where there are
--- nodes, and `none` where there are none; what is below the root is all entries but the first.
+-- The whole list: the root's line, and those of all below it. `begun` says so if there are nodes, and `none` if there are none; what is
+-- below the root is all entries but the first.
 use Rattle.std.proofs.Common.{◌≡◌, ◌∙◌, sym, ap, subst, ℕ, inl, inr, List, [], ◌∷◌, ◌++◌, length, refl, Some, IsSome, true, false, arith}
 use Rattle.std.specs.Prelude.{flat_map, unwrap_or}
 use Rattle.std.specs.List.{AllByRecursion}

@@ -1,4 +1,4 @@
--- What a list leaves in its sink.
+-- The effect of a list on its sink.
 use Rattle.std.specs.Prelude.{◌≡◌, ◌+◌, ◌≤◌}
 use Rattle.std.specs.Io.KnownBytes.{Appends}
 use Rattle.devices.specs.Pushing.{GainsFront}

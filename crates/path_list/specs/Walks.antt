@@ -1,4 +1,4 @@
--- What a walk over a table prints, and on what it stands.
+-- What a walk over a table prints, and what it relies on.
 use Rattle.std.specs.Prelude.{◌≡◌, ℕ, List, [], ◌∷◌, ◌++◌, flat_map, Result, OnOk, OnErr}
 use Rattle.std.specs.Option.{option_map_or}
 use Rattle.std.specs.Io.KnownBytes.{Appends}
@@ -31,8 +31,8 @@ pub record Gains (old new : Passage) (bytes : List ℕ) : Type 0 where
 pub record Loses (old new : Passage) (bytes : List ℕ) : Type 0 where
   pub gained : GainsFront (old.waiting ++ bytes) old.sink.held new.sink.held
 
--- a call put these bytes behind those on their way, or the sink failed once more and gained the
--- first of them at most; where it succeeds no byte more waits for a flush
+-- a call put these bytes after those on their way, or the sink failed once more and gained at most
+-- a beginning of them; if it succeeds no more bytes wait for a flush
 pub record Puts {X E : Type 0} (result : Result X E) (old new : Passage) (bytes : List ℕ)
     : Type 0 where
   pub gained : OnOk result (Gains old new bytes)
@@ -66,7 +66,7 @@ pub record IsVisited (stack : Stacked) (n : ℕ) (text : List ℕ) (path : Path)
   pub number_is : n ≡ number stack.entries (place entry)
   pub text_is : text ≡ names_text path
 
--- a walk stands at this number and this text
+-- a walk is at this number and this text
 abbrev pub IsOnWay : Stacked → ℕ → List ℕ → Type 0
 IsOnWay stack n text = (path : Path) × IsVisited stack n text path
 

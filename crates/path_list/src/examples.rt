@@ -41,7 +41,7 @@ pub fn root_alone()
         (record { path = []; layer = 0; header = 0 } ∷ [])) ≡ codes "1 040755 2 0 0 /\n" }
 {}
 
-/// The same where the directory has a row with the sticky bit, and all bits below it.
+/// The same if the directory has a row with the sticky bit, and all bits below it.
 pub fn root_with_a_row()
     ensures { lines sticky_root ≡ codes "1 041777 2 0 0 /\n" }
 {}

@@ -1,5 +1,5 @@
 //! The fields of a line, before its path. They are written from the last to the first, as the
-//! digits of a number come from its end, so that all of them are one run of bytes.
+//! digits of a number come from its end, and form one run of bytes.
 
 ghost use Rattle.std.specs.Prelude.{◌≡◌, ◌<◌, ◌≤◌, ◌+◌, ◌++◌, ◌∷◌, length, drop};
 ghost use Rattle.std.specs.Fmt.{decimal};
@@ -12,7 +12,7 @@ use node_attr::Attr;
 /// and a mode.
 pub(crate) const FIELDS_SIZE: usize = 4 * 21 + 7;
 
-/// Writes the fields of a node in a layer to the end of some bytes, and returns where they start.
+/// Writes the fields of a node in a layer to the end of some bytes, and returns their start.
 pub(crate) fn write_fields(attr: &Attr, layer: u16, bytes: &mut [u8]) -> usize
     requires { length bytes.old ≡ FIELDS_SIZE }
     ensures start { result ≤ FIELDS_SIZE }
@@ -26,7 +26,7 @@ pub(crate) fn write_fields(attr: &Attr, layer: u16, bytes: &mut [u8]) -> usize
     write_number(attr.ino, bytes, at)
 }
 
-// Writes a byte that ends at `end`, and returns where it starts.
+// Writes a byte that ends at `end`, and returns its start.
 fn write_byte(byte: u8, bytes: &mut [u8], end: usize) -> usize
     requires some { 0 < end }
     requires within { end ≤ length bytes.old }

@@ -8,12 +8,12 @@ use romfs_format::limits::{MAX_NAMES, NAME_FIELD_SIZE};
 use std::alloc::{AllocError, Allocator};
 use std::marker::Model;
 
-/// How many bytes the names of a path take at most, printed: each stands after a slash, and each of
-/// its bytes may be escaped.
+/// How many bytes the names of a path take at most, printed: each follows a slash, and each of its
+/// bytes may be escaped.
 pub(crate) const LONGEST: usize = MAX_NAMES as usize * (1 + 3 * (NAME_FIELD_SIZE - 1));
 
-/// The names of the path that a listing stands at, printed, each after a slash. It has room for the
-/// longest path, so it takes no memory once it is made.
+/// The printed names of a listing's current path, each after a slash. It has room for the longest
+/// path, so it takes no memory once it is made.
 #[derive(Drop)]
 pub(crate) struct PathText<A: Allocator> {
     text: Vec<u8, A>,
@@ -71,7 +71,7 @@ impl<A: Allocator> PathText<A> {
         }
     }
 
-    /// Goes back up to where the names took so many bytes.
+    /// Goes back up to where the names took this many bytes.
     pub(crate) fn go_up(&mut self, len: usize)
         ensures { self.new ≡ take len self.old }
     {

@@ -35,8 +35,8 @@ impl<A: Allocator> Room<A> {
         Ok(())
     }
 
-    /// Puts bytes behind those that wait, and hands these on first where there is no room. It takes
-    /// no memory.
+    /// Puts bytes after those that wait, and hands these on first if there is no room. It takes no
+    /// memory.
     pub(crate) fn put<K: Sink>(&mut self, sink: &mut K, bytes: &[u8]) -> Result<(), Failed>
         requires { (K.state sink.old).counts.failures < 2 ^ 63 }
         ensures { Puts result (passage (K.state sink.old) self.old.waiting.items)
@@ -67,7 +67,7 @@ impl<A: Allocator> Room<A> {
         self.put(sink, &[byte])
     }
 
-    // Appends bytes for which there is room, so that no growth can fail.
+    // Appends bytes for which there is room, so no growth can fail.
     fn append(&mut self, bytes: &[u8])
         requires { vec_len self.old.waiting + length bytes.now ≤ vec_capacity self.old.waiting }
         ensures { self.new.waiting.items ≡ self.old.waiting.items ++ bytes.now }

@@ -47,16 +47,16 @@ impl From<Failed> for ListFault {
 
 /// Puts a line for each shown path of the table's layers to a sink, in the order of the paths.
 ///
-/// A line is `<number> <mode> <nlink> <size> <layer> <path>`: the mode in six octal digits, by the
-/// node's row where it has one, the layer that of the node's place, and the path after `/`, which
-/// alone is the root. A byte of a name outside 0x21 to 0x7e, and that of `\`, is printed as `\` and
-/// two lower hexadecimal digits.
+/// A line is `<number> <mode> <nlink> <size> <layer> <path>`: the mode in six octal digits, from
+/// the node's row if it has one, the layer of the node's place, and the path after `/`, which alone
+/// is the root. A byte of a name outside 0x21 to 0x7e, and that of `\`, is printed as `\` and two
+/// lower hexadecimal digits.
 ///
 /// The lines go out in pieces of about 64 KiB, each of which is flushed. Memory is taken first, 64
-/// KiB for a piece and 383 KiB for the longest path that there can be: at `Memory` the sink is as
-/// before. `Write` comes only where the sink failed in this call, once; it has then gained the
-/// first bytes of the lines at most. Besides, it takes as much of the stack as the deepest path has
-/// names, and a time that grows with the length of the lines.
+/// KiB for a piece and 383 KiB for the longest possible path: at `Memory` the sink is unchanged.
+/// `Write` only if the sink failed in this call, once; it has then gained at most a beginning of
+/// the lines. The depth of the stack grows with the names of the deepest path, the time with the
+/// length of the lines.
 pub fn write_list<A: Allocator + Copy, B: Allocator, K: Sink>(
     alloc: A,
     table: &Table<B>,
@@ -74,7 +74,7 @@ pub fn write_list<A: Allocator + Copy, B: Allocator, K: Sink>(
 }
 
 impl<A: Allocator> Room<A> {
-    // Puts the line of a number with a path; none where the number is not in use.
+    // Puts the line of a number with a path; none if the number is not in use.
     fn put_line<K: Sink, B: Allocator>(
         &mut self,
         sink: &mut K,

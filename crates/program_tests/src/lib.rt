@@ -2,14 +2,14 @@
 //!
 //! Clients of a socket that can't be accepted, or are refused memory (`clients`), readers and
 //! writers that fail (`failing`), each request for memory refused in turn (`memory`), how many
-//! workers and how large batches a line asks for (`plans`), and `serve` by itself, with refused
-//! memory and too few turns (`serving`). They share runs of the program and files of the test's own
-//! (`program`). What a mount comes to is seen by real mounts and the cases over a device.
+//! workers and how large batches a line sets (`plans`), and `serve` by itself, with refused memory
+//! and too few turns (`serving`). They share runs of the program and files of the test's own
+//! (`program`). Real mounts and the cases over a device test what a mount does.
 //!
 //! The devices of `fuse_device` are tested here, too, over readers and writers that misbehave: no
 //! contract says how often these are called, nor what errors they met. `messages` is a source over
-//! a reader that gives one whole message a read, `replies` a sink over a writer that takes one
-//! whole reply a write.
+//! a reader that gives one complete message a read, `replies` a sink over a writer that takes one
+//! complete reply a write.
 #![tactic(auto)]
 
 #[cfg(test)]

@@ -33,5 +33,5 @@ balance-append node [] ns = sym (+ℤ_idl (balance node ns))
 balance-append node (m ∷ ms) ns = ap (λ v. (if m.node == node then m.amount else pos 0) +ℤ v)
     (balance-append node ms ns) ∙ sym (+ℤ_assoc _ (balance node ms) (balance node ns))
 
--- what a stream in two parts is replied, moves and comes to
+-- the replies, moves and session of a stream in two parts
 pub ruleset parts = (replies-append, moves-append, balance-append)

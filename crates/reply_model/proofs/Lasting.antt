@@ -1,6 +1,6 @@
--- What differs where a stream is served lastingly. First that the replies which are told apart are
--- different; then the replies of ready sessions, off the few facts that a row goes by; then those
--- of all sessions (`replies_last`), what is moved (`moves_stay`), and how sessions go on.
+-- What differs if a stream is served lastingly. First that the distinguished replies are different; then the replies of ready sessions,
+-- from the few facts that a row depends on; then those of all sessions (`replies_last`), what is moved (`moves_stay`), and how sessions go
+-- on.
 use Rattle.std.proofs.Common.{◌≡◌, ◌≢◌, ◌∙◌, sym, ap, ℕ, ◌-◌, ◌%◌, ◌^◌, List, [], ◌∷◌, ◌++◌, length, get_or, map, Bool, true, false, Option, Some, None, cond, refl}
 use Rattle.std.specs.Prelude.{nat_lt, not, ◌&&◌, ◌||◌, ◌==◌, is_none, is_some}
 use Rattle.std.specs.Option.{option_map_or, option_to_list}

@@ -1,6 +1,5 @@
--- A reply over sound images is short (`short`), so its header says its length whole (`said`). By
--- the kind of request: structures have their sizes, READ and rows are bounded by the size that is
--- asked for, and a link's target by the rules of images (`short_link`).
+-- A reply over sound images is short (`short`), so its header holds its full length (`said`). By the kind of request: structures have their
+-- sizes, READ and rows are bounded by the requested size, and a link's target by the rules of images (`short_link`).
 use Rattle.std.proofs.Common.{◌≡◌, ◌∙◌, sym, ap, subst, ℕ, zero, suc, ◌<◌, ◌≤◌, ◌^◌, ◌⊎◌, inl, inr, List, [], ◌∷◌, ◌++◌, length, map, take, drop, Bool, true, false, Option, Some, None, cond, refl, arith, lit≤, All}
 use Rattle.std.specs.Prelude.{slice_get, nat_lt}
 use Rattle.std.specs.List.{flat_map}

@@ -1,6 +1,5 @@
--- What is known where nothing refuses a request: it is not refused by itself (`not_by_itself`), and
--- if it is about a node, that number is in use (`node_found`). Before these, lists of refusals of
--- which none fits.
+-- What is known if nothing refuses a request: it is not refused by itself (`not_by_itself`), and if it is about a node, that number is in
+-- use (`node_found`). Before these, lists of refusals, none of which fits.
 use Rattle.std.proofs.Common.{◌≡◌, ℕ, List, [], ◌∷◌, Bool, true, false, Option, Some, None, refl}
 use Rattle.std.specs.Option.{option_map_or}
 use Rattle.fuse_wire.specs.declared.errno.Errno.{Errno}

@@ -183,13 +183,13 @@ newer_init_reply = dump (
     0x11604400
     ∷ 0x0c000900 ∷ 0x00000200 ∷ 0x01000000 ∷ 0x20000000 ∷ []) ++ replicate 32 0
 
--- a client of major version 8 is told the version
+-- a client of major version 8 gets the version
 abbrev pub version_reply : List ℕ
 version_reply =
     dump (0x50000000 ∷ 0x00000000 ∷ 0x01000000 ∷ 0x00000000 ∷ 0x07000000 ∷ 0x1f000000 ∷ [])
     ++ replicate 56 0
 
--- a client of minor version 22 is told the first 24 bytes alone, and still minor version 31
+-- a client of minor version 22 gets only the first 24 bytes, and still minor version 31
 abbrev pub older_init_reply : List ℕ
 older_init_reply = dump (
     0x28000000 ∷ 0x00000000 ∷ 0x01000000 ∷ 0x00000000 ∷ 0x07000000 ∷ 0x1f000000 ∷ 0x00000200 ∷
@@ -321,7 +321,7 @@ x_entry_reply = dump (
     0x00000000 ∷ 0x00000000 ∷ 0x00000000 ∷ 0xa4810000 ∷ 0x01000000
     ∷ 0x00000000 ∷ 0x00000000 ∷ 0x00000000 ∷ 0x00100000 ∷ 0x00000000 ∷ [])
 
--- LOOKUP of a name that is there, of some that are missing, too long or none, and in a file
+-- LOOKUP of an existing name, of some that are missing, too long or none, and in a file
 pub record LookupExamples : Type 0 where
   pub entry : over_sample (request 1 10 3 (codes "x" ++ zeros 1)) ≡ x_entry_reply
   pub unended : over_sample (request 1 2 1 (codes "x")) ≡ refused 2 0xffffffea
@@ -532,9 +532,8 @@ pub record TwelveRequests : Type 0 where
       ++ refused 12 0xfffffffb
   pub sized : length (replies sample_stack Fresh twelve_requests) ≡ 1531
 
--- a session with EXPORT_SUPPORT that looks up, lists and forgets. Of the items of the BATCH_FORGET
--- the count says three, two are there, and one of these is of no node; the last FORGET has no whole
--- body
+-- a session with EXPORT_SUPPORT that looks up, lists and forgets. The count of the BATCH_FORGET
+-- says three items, two exist, and one of these has no node; the last FORGET has an incomplete body
 abbrev pub looking_up : List (List ℕ)
 looking_up =
     request 26 1 0 (init_in 7 31 131072 0x10)

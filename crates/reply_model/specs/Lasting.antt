@@ -17,12 +17,12 @@ usual_of LastingFresh = Fresh
 usual_of (LastingReady export no_open no_opendir) = Ready export
 usual_of s = s
 
--- where the usual reply is the first of two, the lasting one is the second; else they are the same
+-- if the usual reply is the first of two, the lasting one is the second; else they are the same
 pub record Becomes (from to usual lasting : List ℕ) : Type 0 where
   pub there : usual ≡ from → lasting ≡ to
   pub elsewhere : usual ≢ from → lasting ≡ usual
 
--- a client that need not ask is told so, and else that it is opened, with these flags
+-- a client that need not ask learns so, and else that it is opened, with these flags
 abbrev pub told_of_opening : Bool → ℕ → ℕ → List ℕ
 told_of_opening need_not unique flags =
     if need_not then error_reply unique ENOSYS else reply_with unique (open_out flags)

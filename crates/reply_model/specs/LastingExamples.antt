@@ -28,7 +28,7 @@ longer_init_reply = dump (
     0x1160c601
     ∷ 0x0c000900 ∷ 0x00000200 ∷ 0x01000000 ∷ 0x00010000 ∷ []) ++ replicate 32 0
 
--- INIT of minor version 22 that says NO_OPEN_SUPPORT is told so, in 24 bytes
+-- INIT of minor version 22 with NO_OPEN_SUPPORT is answered so, in 24 bytes
 abbrev pub older_lasting_reply : List ℕ
 older_lasting_reply = dump (
     0x28000000 ∷ 0x00000000 ∷ 0x01000000 ∷ 0x00000000 ∷ 0x07000000 ∷ 0x1f000000 ∷ 0x00000200 ∷
@@ -129,7 +129,7 @@ pub record LastingOpenExamples : Type 0 where
   pub opendir_of_no_node : over_lasting false false true (request 27 2 7 (zeros 8))
       ≡ refused 2 0xffffff8c
 
--- FLUSH, whatever its body and node, once the session is begun; and what is told beside it
+-- FLUSH, whatever its body and node, once the session is begun; and the other replies
 pub record LastingFlushExamples : Type 0 where
   pub flush : over_lasting false false false (request 25 2 2 (zeros 24)) ≡ refused 2 0xffffffda
   pub no_body : over_lasting false false false (request 25 2 99 []) ≡ refused 2 0xffffffda

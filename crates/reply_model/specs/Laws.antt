@@ -1,4 +1,4 @@
--- What holds of replies and moves, whatever the layers.
+-- What holds for replies and moves, whatever the layers.
 use Rattle.std.specs.Prelude.{◌≡◌, ℕ, ◌⊎◌, ◌+◌, ◌<◌, ◌≤◌, List, [], ◌∷◌, ◌++◌, length, map, filter, take, slice_get, slice_index, slice_index_or, ◌^◌, Some, Bool, true, false}
 use Rattle.std.specs.List.{flat_map}
 use Rattle.fuse_wire.specs.declared.errno.Errno.{Errno}
@@ -95,7 +95,7 @@ pub record AreOwned (stack : Stacked) : Type 0 where
   pub owner : IsOwner stack.owner
   pub rows : (p : Place) (row : AttributeRow) → row_of stack p ≡ Some row → IsRow row
 
--- the attributes fit the fields of an attr, where the number does
+-- the attributes fit the fields of an attr, if the number does
 pub record FitsFields (a : Attr) : Type 0 where
   pub size : a.size < 2 ^ 64
   pub blocks : a.blocks < 2 ^ 64

@@ -26,7 +26,7 @@ forgotten node (batch_forget items) = items
 forgotten node interrupt = []
 
 module _ (stack : Stacked) where
-  -- what is forgotten is taken back, where the number is in use
+  -- what is forgotten is taken back, if the number is in use
   abbrev pub take_back : Forget → Option Move
   take_back f =
       option_map (λ p. record { node = f.node; amount = neg_ℤ (pos f.nlookup) })

@@ -1,4 +1,4 @@
--- pread(2): what the data of replies are read from, at the place where a file lies in its image.
+-- pread(2): what the data of replies are read from, at the place of a file in its image.
 use Rattle.std.specs.Prelude.{ℕ, ◌+◌, List, [], ◌∷◌, slice_get, Option, None}
 use Rattle.std.specs.Option.{option_map, option_and_then}
 use Rattle.image_bytes.specs.Sources.{Source}
@@ -10,8 +10,8 @@ use Rattle.stack_model.specs.Attributes.{data_start}
 use Rattle.reply_model.specs.declared.session.Session.{Session}
 use Rattle.reply_model.specs.Replies.{reply}
 
--- a stack, and beside it what the data of its layers are read from, the lowest first; those of a
--- layer that has no source are held
+-- a stack, and what the data of its layers are read from, lowest first; those of a layer without a
+-- source are held
 pub record Sourced : Type 0 where
   pub stack : Stacked
   pub sources : List Source
@@ -54,6 +54,6 @@ reading_from stack (source ∷ sources) q =
 abbrev pub reading_of : Sourced → Asked → Option Reading
 reading_of by q = reading_from by.stack by.sources q
 
--- these bytes may be told as the reply to a request in a session
+-- these bytes are a possible reply to a request in a session
 abbrev pub IsReplyOver : Sourced → Session → Asked → List ℕ → Type 0
 IsReplyOver by s q bytes = IsTold (reading_of by q) q.unique (reply by.stack s q) bytes

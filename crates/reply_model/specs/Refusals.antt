@@ -29,7 +29,7 @@ is_init _ = false
 abbrev pub refused_by_session : Bool → Op → Option Errno
 refused_by_session fresh op = refuse_if (if fresh then not (is_init op) else is_init op) EIO
 
--- lastingly a client is told once that it need not tell when a file is closed
+-- lastingly a client learns once that it need not report closed files
 abbrev pub refused_when_done : Agreement → DoneOp → Option Errno
 refused_when_done agreed flush = refuse_if agreed.lasting ENOSYS
 refused_when_done agreed release = None
@@ -46,8 +46,8 @@ module _ (stack : Stacked) where
       first_refusal (asked.by_kind (kind_at stack.layers p) ∷ asked.by_arguments p ∷ [])
 
   -- requests that would change the tree, that are not served, or that are malformed; versions that
-  -- are not spoken, but a client of a later major version is told the version; numbers that are not
-  -- in use, and what is refused at their node
+  -- are not spoken, but a client of a later major version gets the version; numbers that are not in
+  -- use, and what is refused at their node
   abbrev pub refused_by_itself : Agreement → ℕ → Op → Option Errno
   refused_by_itself agreed node modify = Some EROFS
   refused_by_itself agreed node other = Some ENOSYS

@@ -10,7 +10,7 @@ use Rattle.stack_model.specs.Attributes.{mode_at, attr_of}
 abbrev pub Row : Type 0
 Row = ℕ × Child
 
--- as many of the rows as fit whole in the room, where they are written in this form
+-- as many of the rows as fit completely in the room, if they are written in this form
 abbrev pub fitting : (Row → List ℕ) → ℕ → List Row → List Row
 fitting form room [] = []
 fitting form room (r ∷ rows) =

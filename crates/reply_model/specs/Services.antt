@@ -81,8 +81,8 @@ module _ (stack : Stacked) where
       }
 
   -- each of them. With EXPORT_SUPPORT the name . finds a node of any kind; an access mode other
-  -- than 0 is not O_RDONLY; READDIRPLUS gives the nodes of its rows but . and ... Lastingly a name
-  -- that is none is answered so, and gives nothing; a client that need not open is told so last
+  -- than 0 is not O_RDONLY; READDIRPLUS gives the nodes of its rows but . and ... Lastingly a
+  -- missing name is answered so, and gives nothing; a client that need not open learns so last
   abbrev pub service : Agreement → NodeOp → Service
   service agreed (lookup name) = record {
     by_kind = λ k. if is_itself agreed.export name then None else unless_directory k;

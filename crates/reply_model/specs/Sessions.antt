@@ -30,8 +30,8 @@ is_fresh LastingFresh = true
 is_fresh (Ready export) = false
 is_fresh (LastingReady export no_open no_opendir) = false
 
--- what is agreed on in it: before INIT, and but for EXPORT_SUPPORT where the stream is not served
--- lastingly, nothing
+-- what is agreed on in it: nothing before INIT, and only EXPORT_SUPPORT if the stream is not served
+-- lastingly
 abbrev pub agreement_of : Session → Agreement
 agreement_of Fresh =
     record { lasting = false; export = false; no_open = false; no_opendir = false }

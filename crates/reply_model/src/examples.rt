@@ -75,7 +75,7 @@ pub fn order_of_refusals_example()
     ensures { RefusalOrder }
 {}
 
-/// A whole session of twelve requests over the sample image.
+/// A complete session of twelve requests over the sample image.
 pub fn twelve_requests_example()
     ensures { TwelveRequests }
 {}
@@ -113,7 +113,7 @@ pub fn lasting_sessions_example()
     ensures { LastingSessionExamples }
 {}
 
-/// LOOKUP of names that are there and of names that are none, lastingly.
+/// LOOKUP of existing names and of names that are none, lastingly.
 pub fn lasting_lookup_example()
     ensures { LastingLookupExamples }
 {}
@@ -123,12 +123,12 @@ pub fn lasting_open_example()
     ensures { LastingOpenExamples }
 {}
 
-/// FLUSH, lastingly, and what stays beside it.
+/// FLUSH, lastingly, and what stays the same.
 pub fn lasting_flush_example()
     ensures { LastingFlushExamples }
 {}
 
-/// A reply that stays where it is served lastingly, and one that becomes another.
+/// A reply that stays the same if it is served lastingly, and one that changes.
 #[tactic(auto, using(crate::proofs::Lasting::stay))]
 pub fn lasting_stay_example()
     ensures { LastingStayExamples }

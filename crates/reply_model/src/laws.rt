@@ -30,7 +30,7 @@ pub fn replies_are_headed()
 {}
 
 /// Over sound images a reply has at most 1 MiB of data behind its header of 16 bytes. So the length
-/// that a reply begins with is its length itself, whole in its 32 bits.
+/// that a reply begins with is its true length, which fits in 32 bits.
 #[tactic(auto, using(crate::proofs::Lengths::short, crate::proofs::Lengths::said))]
 pub fn replies_are_short()
     ensures short { (bs : List (List ℕ)) (stack : Stacked) → All (IsSound Usual) bs →
@@ -43,16 +43,16 @@ pub fn replies_are_short()
         ≡ length (reply stack s q)) }
 {}
 
-/// The rows that fit in a size are the first ones, whole, and as many as fit.
+/// The rows that fit in a size are the first ones, complete, and as many as fit.
 #[tactic(auto, using(crate::proofs::Fronts::front))]
 pub fn fitting_rows_are_the_first()
     ensures { (form : Row → List ℕ) (room : ℕ) (rows : List Row) →
         AreFirstThatFit form room rows (fitting form room rows) }
 {}
 
-/// A lookup is given exactly where an entry is answered: LOOKUP gives one of the node whose entry
-/// its reply holds, and READDIRPLUS one of the node of each row in its reply but `.` and `..`;
-/// where they are answered an error, or a LOOKUP that its name is none, nothing.
+/// A lookup is counted exactly if an entry is answered: LOOKUP adds one for the node whose entry
+/// its reply holds, and READDIRPLUS one for the node of each row in its reply but `.` and `..`;
+/// nothing for an error or a negative entry.
 #[tactic(auto, using(crate::proofs::Given::given))]
 pub fn entries_are_given()
     ensures lookup { (stack : Stacked) (s : Session)
@@ -111,8 +111,8 @@ pub fn lasting_replies_differ_in_four_ways()
         ≡ balance_after stack Fresh messages node }
 {}
 
-/// Attributes fit their fields, where those of the rows and of the owner do, and numbers are no
-/// more than the nodes.
+/// Attributes fit their fields if those of the rows and of the owner do, and numbers are at most
+/// the count of nodes.
 #[tactic(auto, using(crate::proofs::Widths::attributes_fit, crate::proofs::Widths::numbers_fit))]
 pub fn attributes_fit_their_fields()
     ensures fields { (stack : Stacked) (p : Place) →

@@ -1,8 +1,8 @@
 //! What a FUSE server answers over a stack of layers: definitions, laws and worked examples alone,
 //! with no code but the types of a session and of a move.
 //!
-//! `specs/` says which requests are refused and with which error, what the others are answered, and
-//! what a whole stream is replied, over the shown paths of a stack (`stack_model`) and the
+//! `specs/` defines which requests are refused and with which error, the answers to the others, and
+//! the replies to a whole stream, over the visible paths of a stack (`stack_model`) and the
 //! structures of linux/fuse.h (`fuse_wire`).
 #![tactic(auto)]
 

@@ -5,6 +5,6 @@
 pub struct Move {
     /// The node's number.
     pub node: u64,
-    /// How many lookups it gives; below 0 where it takes some back.
+    /// How many lookups it gives; below 0 if it takes some back.
     pub amount: i128,
 }

@@ -1,26 +1,26 @@
 //! Sessions, and what a client and the server agree on as they begin one.
 
-/// Whether a stream has agreed on its protocol version, and on what beside. A stream begins
-/// `Fresh`; one that is served lastingly begins `LastingFresh`, and its client is told that the
-/// tree never changes, so that it asks for each thing once.
+/// Whether a stream has agreed on its protocol version, and on what else. A stream begins `Fresh`;
+/// one that is served lastingly begins `LastingFresh`, and its client learns that the tree never
+/// changes, and asks for each thing once.
 #[derive(Clone, Copy, PartialEq, Eq)]
 pub enum Session {
-    /// No INIT was accepted yet, or DESTROY came since.
+    /// No INIT was accepted yet, or DESTROY followed.
     Fresh,
     /// An INIT was accepted.
     Ready {
-        /// Whether the client said `FUSE_EXPORT_SUPPORT`, so that LOOKUP finds `.` and `..` too.
+        /// Whether the client sent `FUSE_EXPORT_SUPPORT`; then LOOKUP also finds `.` and `..`.
         export: bool,
     },
     /// As `Fresh`, of a stream that is served lastingly.
     LastingFresh,
     /// As `Ready`, of a stream that is served lastingly.
     LastingReady {
-        /// Whether the client said `FUSE_EXPORT_SUPPORT`, so that LOOKUP finds `.` and `..` too.
+        /// Whether the client sent `FUSE_EXPORT_SUPPORT`; then LOOKUP also finds `.` and `..`.
         export: bool,
-        /// Whether it said `FUSE_NO_OPEN_SUPPORT`, so that it need not ask to open files.
+        /// Whether it sent `FUSE_NO_OPEN_SUPPORT`; then it need not ask to open files.
         no_open: bool,
-        /// Whether it said `FUSE_NO_OPENDIR_SUPPORT`, so that it need not ask to open directories.
+        /// Whether it sent `FUSE_NO_OPENDIR_SUPPORT`; then it need not ask to open directories.
         no_opendir: bool,
     },
 }

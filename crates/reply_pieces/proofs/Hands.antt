@@ -51,7 +51,7 @@ numbers_told : (total x : ℕ) (xs ys : List ℕ) → times x (numbers total (xs
 numbers_told total x xs ys = ap (times x) (filter-append (λ position. nat_lt position total) xs ys)
     ∙ times-append x (numbers total xs) (numbers total ys)
 
--- where one of two hands was in a call, the hand that they become has seen what that one had
+-- if one of two hands was in a call, the hand that they become knows what that one knew
 seen_both : (a b n calls more : ℕ) (total : ℕ) → n ≡ max a b → (0 < calls → total ≤ a) → (0 < more → total ≤ b) → 0 < calls + more
     → total ≤ n
 seen_both a b n zero more total e p q some = let h = q (omega arith) in omega arith
@@ -188,7 +188,7 @@ module _ {A : Type 0} where
       light = All-nil (λ (p : Piece A). weight p.moves.items ≤ 2 ^ 104);
     })
 
-    -- pieces that are put in order come to the round of all jobs
+    -- pieces that are put in order give the round of all jobs
     pub rounds : (pieces : List (Piece A)) (rounded : Rounded A) → 1 ≤ size → All (IsPiece by jobs size) pieces
         → ((x : ℕ) → times x (numbers_of pieces) ≡ times x (range_with_len 0 (batches size (length jobs)))) → IsJoined pieces rounded
         → IsRounded by jobs rounded
@@ -236,7 +236,7 @@ module _ {A : Type 0} where
         every = (let e = p.every in omega arith);
       })
 
-      -- a hand that works alone has its pieces, and has seen all drawn, if there was a call
+      -- a hand that works alone has its pieces, and knows that all were drawn, if there was a call
       pub alone : {hand : Hand} {pieces : List (Piece A)} {calls : ℕ} → WorksAlone by jobs size board hand pieces calls
           → AreOf by jobs size board hand pieces × (0 < calls → total_of board ≤ seen_below hand)
       alone (begins {hand = hand} fresh) = (

@@ -54,7 +54,7 @@ abbrev AreSmall : List Forget → Type 0
 AreSmall [] = Unit {0}
 AreSmall (f ∷ items) = (f.nlookup < 2 ^ 64) × AreSmall items
 
--- the numbers in a request have 64 bits, and its items are no more than so many bytes
+-- the numbers in a request have 64 bits, and its items are no more than this many bytes
 abbrev IsModest : ℕ → Op → Type 0
 IsModest bytes (silent (forget nlookup)) = nlookup < 2 ^ 64
 IsModest bytes (silent (batch_forget items)) = AreSmall items × (length items ≤ bytes)

@@ -16,6 +16,6 @@ answering_from first by = record {
   reading = λ q. reading_of by q;
 }
 
--- where all layers are held no data are read
+-- if all layers are held no data are read
 abbrev pub answering : Session → Stacked → Answering
 answering first stack = answering_from first (in_memory stack)

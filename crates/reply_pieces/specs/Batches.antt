@@ -11,7 +11,7 @@ use Rattle.reply_pieces.specs.declared.pieces.Piece.{Piece}
 use Rattle.reply_pieces.specs.Jobs.{AreReplied, Job, moved_by}
 use Rattle.reply_pieces.specs.Sums.{AreSums}
 
--- how many batches so many jobs have; the last may be smaller
+-- how many batches this many jobs have; the last may be smaller
 abbrev pub batches : ℕ → ℕ → ℕ
 batches size jobs = (jobs + size - 1) / size
 

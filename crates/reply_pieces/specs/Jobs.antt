@@ -1,4 +1,4 @@
--- What a round of jobs comes to.
+-- The result of a round of jobs.
 use Rattle.std.specs.Prelude.{◌≡◌, ℕ, ◌<◌, ◌≤◌, ◌^◌, List, [], ◌∷◌, ◌++◌, length}
 use Rattle.std.specs.List.{flat_map}
 use Rattle.fuse_wire.specs.declared.request.Request.{Request}
@@ -17,11 +17,11 @@ use Rattle.reply_pieces.specs.Sums.{AreSums}
 abbrev pub Job : Type 0
 Job = Session × Request
 
--- these bytes may be told as the reply to a job
+-- these bytes are a possible reply to a job
 abbrev pub IsReplyTo : Sourced → Job → List ℕ → Type 0
 IsReplyTo by job bytes = IsReplyOver by job.0 (asked_of job.1) bytes
 
--- these bytes may be told as the replies to jobs one after another
+-- these bytes are possible replies to jobs one after another
 abbrev pub AreReplied : Sourced → List Job → List ℕ → Type 0
 AreReplied by [] bytes = bytes ≡ []
 AreReplied by (job ∷ jobs) bytes =
@@ -39,7 +39,7 @@ pub record IsRounded {A : Type 0} (by : Sourced) (jobs : List Job)
   pub sums : AreSums (flat_map (moved_by by.stack) jobs) rounded.moves.items
 
 -- a request has no more items than a message has room for, and asks for no more rows than 32 bits
--- say
+-- can count
 abbrev pub HasFewItems : Op → Type 0
 HasFewItems (silent (batch_forget items)) = length items ≤ MAX_FORGETS
 HasFewItems (at_node (readdirplus offset size)) = size < 2 ^ 32

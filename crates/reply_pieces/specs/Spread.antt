@@ -43,13 +43,13 @@ pub record AnswerAll {A : Type 0} (by : Sourced) (jobs : List Job) (size : ℕ)
   pub answered : All (IsPiece by jobs size) pieces
   pub light : AreLight pieces
 
--- so many of the first messages of a stream may be answered by workers
+-- this many of the first messages of a stream may be answered by workers
 pub record IsSpreadable (stream : List ℕ) (messages : ℕ) : Type 0 where
   pub some : 1 ≤ messages
   pub few : messages ≤ MAX_ROUND_MESSAGES
   pub short : length stream ≤ 2 ^ 57
 
--- some of the first messages of a stream, at least one if one is whole, are answered in pieces
+-- some of the first messages of a stream, at least one if one is complete, are answered in pieces
 pub record SpreadsFrom {A : Type 0} (by : Sourced) (s : Session) (stream : List ℕ)
     (spread : RoundPieces A) : Type 0 where
   pub jobs : List Job

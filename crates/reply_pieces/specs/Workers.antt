@@ -1,4 +1,4 @@
--- What a worker's call leaves of its hand, and what hands come to that draw by such calls alone.
+-- The effect of a worker's call on its hand, and of hands that draw only by such calls.
 use Rattle.std.specs.Prelude.{◌≡◌, ℕ, ◌+◌, ◌≤◌, List, [], ◌++◌, length, IsOkAnd, Result}
 use Rattle.std.specs.declared.vec.Vec.{Vec}
 use Rattle.std.specs.List.{All, flat_map, range_with_len}
@@ -47,20 +47,20 @@ pub record AreOf {A B : Type 0} (by : Sourced) (jobs : List Job) (size : ℕ) (b
       → times number (numbers_of pieces) ≡ times number (numbers (total_of board) (positions hand))
   pub answered : All (IsPiece by jobs size) pieces
 
--- the same of a worker's hand that had drawn nothing, once it has seen that all was drawn
+-- the same for a worker's hand that had drawn nothing, once it knows that all was drawn
 pub record HasAll {A B : Type 0} (by : Sourced) (jobs : List Job) (size : ℕ) (board : Board B)
     (hand : Hand) (pieces : List (Piece A)) : Type 0 where
   pub of_hand : AreOf by jobs size board hand pieces
   pub every : total_of board ≤ seen_below hand
 
--- the pieces of two workers, one after the other, where both gave theirs
+-- the pieces of two workers, one after the other, if both gave theirs
 abbrev pub AreBoth : {A E : Type 0} → Result (Vec (Piece A) A) E → Result (Vec (Piece A) A) E
     → List (Piece A) → Type 0
 AreBoth pieces more all =
     IsOkAnd pieces (λ xs. IsOkAnd more (λ ys. all ≡ xs.items ++ ys.items))
 
--- a hand that draws by `work` alone, the pieces that came of it and of the hands that it took in,
--- and how many calls there were, each of them without want of memory
+-- a hand that draws only by `work`, the pieces from it and from the hands that it took over, and
+-- how many calls there were, each with enough memory
 pub data WorksAlone {A B : Type 0} (by : Sourced) (jobs : List Job) (size : ℕ) (board : Board B)
     : Hand → List (Piece A) → ℕ → Type 0 where
   begins : {hand : Hand} → positions hand ≡ [] → WorksAlone by jobs size board hand [] 0
@@ -79,7 +79,7 @@ pub data WorksAlone {A B : Type 0} (by : Sourced) (jobs : List Job) (size : ℕ)
       → TakesIn board old other new
       → WorksAlone by jobs size board new (mine ++ others) (calls + more)
 
--- the hand with the draws of all hands, as a board is closed with it after so many draws
+-- the hand with the draws of all hands, as a board is closed with it after this many draws
 pub record IsLast (hand : Hand) (draws : ℕ) : Type 0 where
   pub positions : positions hand ≡ range_with_len 0 draws
   pub seen : seen_below hand ≤ draws

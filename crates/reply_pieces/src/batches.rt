@@ -7,7 +7,7 @@ ghost use Rattle.reply_pieces.specs.Batches.{batch_of, batches};
 use fuse_wire::Request;
 use reply_model::Session;
 
-/// How many batches of this size so many jobs have.
+/// How many batches of this size this many jobs have.
 pub fn count_batches(jobs: usize, size: u32) -> u32
     requires few { jobs ≤ MAX_ROUND_MESSAGES }
     requires some { 1 ≤ size }

@@ -1,8 +1,7 @@
 //! Moves, summed by node.
 //!
-//! The moves are sorted by their nodes, so that those of one node stand side by side, and summed
-//! from the front on. So the steps go by the number of moves (times its logarithm), and not by that
-//! of the nodes.
+//! The moves are sorted by node, which makes those of one node adjacent, and summed from the front.
+//! The steps depend on the number of moves (times its logarithm), not on that of nodes.
 
 ghost use Rattle.std.specs.Prelude.{◌≡◌, ◌<◌, ◌+◌, ◌^◌, ◌+ℤ◌, ◌≤◌, unsigned_abs, IfOk, OnOk};
 ghost use Rattle.std.specs.List.Sorted.{IsNonDecreasingBy};
@@ -13,7 +12,7 @@ use reply_model::Move;
 use std::alloc::{AllocError, Allocator};
 
 /// The sums of moves by node, in ascending order: each node once with its sum, and none whose sum
-/// is 0. `AllocError` comes only where memory was refused.
+/// is 0. `AllocError` only if memory was refused.
 pub fn sums<A: Allocator + Copy>(
     alloc: A,
     mut moves: Vec<Move, A>,

@@ -1,12 +1,12 @@
 //! What the jobs of a round are answered with, in pieces, and how the pieces are put together.
 //!
-//! A job is a request, with the session before it. The jobs of a round come in batches, of which
-//! number k holds the jobs from k times the size on ([`batch`]). What a batch is answered with is a
-//! [`Piece`], and the pieces of all batches come in any order. They are sorted by number, and
-//! joined to one [`Rounded`] with its moves summed (`pieces`, `by_node`), or appended to a loop's
-//! bytes and balances (`gathered`). The definitions say what requests are replied to and move
-//! (`reply_model`), over the layers and the shown paths of a stack. What answers a request this
-//! crate does not know, so it is proved beside `fuse_answer`.
+//! A job is a request, with the session before it. The jobs of a round come in batches; number k
+//! holds the jobs from k times the size on ([`batch`]). The answer to a batch is a [`Piece`], and
+//! the pieces of all batches come in any order. They are sorted by number, and joined to one
+//! [`Rounded`] with its moves summed (`pieces`, `by_node`), or appended to a loop's bytes and
+//! balances (`gathered`). Replies and moves are those of `reply_model`, over the layers and the
+//! visible paths of a stack. This crate does not know what answers a request, so it is proved
+//! beside `fuse_answer`.
 #![tactic(auto)]
 
 mod batches;

@@ -11,7 +11,7 @@ use fuse_wire::Replies;
 use reply_model::Move;
 use std::alloc::{AllocError, Allocator};
 
-/// What jobs come to, those of a batch or of a whole round.
+/// The results of jobs, for a batch or an entire round.
 #[derive(Drop)]
 pub struct Rounded<A: Allocator> {
     /// The replies in the order of the jobs, one after another.
@@ -34,7 +34,7 @@ pub struct Piece<A: Allocator> {
 }
 
 /// Joins pieces in the order of their numbers: their bytes one after another, and the sums of their
-/// moves. Each number occurs once. `AllocError` comes only where memory was refused.
+/// moves. Each number occurs once. `AllocError` only if memory was refused.
 pub fn in_order<A: Allocator + Copy>(
     alloc: A,
     mut pieces: Vec<Piece<A>, A>,

@@ -1,4 +1,4 @@
--- What a pool asks of the workers that answer its long rounds.
+-- What a pool requires from the workers that answer its long rounds.
 use Rattle.std.specs.Prelude.{ℕ, List, Result, IfOk}
 use Rattle.std.specs.Fn.{Shared}
 use denote.Ref.{Bor}
@@ -6,7 +6,7 @@ use Rattle.reply_model.specs.declared.session.Session.{Session}
 use Rattle.reply_pieces.specs.Spread.{IsSpreadable}
 
 -- workers that are called with a stream, a session and how many of its first messages: they take
--- what may be spread out, and what they give back is whole and answers the stream
+-- what may be spread out, and their result is complete and answers the stream
 pub record SpreadsRounds {F P E : Type 0}
     (calls : Shared F (Bor (List ℕ) × (Session × (ℕ × Unit {0}))) (Result P E)) (workers : F)
     (IsWhole : P → Type 0) (Answers : P → Session → List ℕ → Type 0) : Type 0 where

@@ -55,7 +55,7 @@ fn answer_job<A: Allocator, D: Contents, B: Allocator>(
     moves(served.table, *session, request, moved)
 }
 
-// A request has few items, which bounds what it moves. This does nothing but tell so.
+// A request has few items, which bounds what it moves. This function only states that.
 fn few_items_of(request: &Request<'_>)
     ensures { HasFewItems (asked_of request.now).op }
 {

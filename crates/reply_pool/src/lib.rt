@@ -1,13 +1,13 @@
 //! Requests, answered over a table in batches.
 //!
 //! [`Pool`] answers the rounds of a serving loop: on the caller's thread, message after message,
-//! once what its LOOKUPs will read was read ahead, or by workers where replies are long (`spread`);
-//! `round_plan` judges which. [`round`] answers requests that were read before, by a [`Plan`]:
+//! after reading ahead what its LOOKUPs will read, or by workers if replies are long (`spread`);
+//! `round_plan` decides which. [`round`] answers requests that were read before, by a [`Plan`]:
 //! workers draw batches from one `draw_board::Board`, and the pieces are put in order
-//! (`reply_pieces`). [`work`] is one such worker, which callers' own threads may run. What they
-//! give are the replies that `reply_model` defines, and the sums of its moves, which have one form
-//! ([`laws`]), for every plan. A pool appends to the loop's own buffer and adds to its balances, so
-//! that a message takes no memory of its own.
+//! (`reply_pieces`). [`work`] is one such worker, which callers' own threads may run. For every
+//! plan the results are the replies that `reply_model` defines, and the sums of its moves, which
+//! have one form ([`laws`]). A pool appends to the loop's own buffer and adds to its balances, so a
+//! message takes no memory of its own.
 #![tactic(auto)]
 
 mod jobs;

@@ -29,7 +29,7 @@ pub struct Pool<'a, A: Allocator, D, G: Gate, F> {
     first: Session,
     plan: Plan,
     gate: &'a G,
-    // Answers so many of the first messages of a stream, by workers.
+    // Answers this many of the first messages of a stream, by workers.
     workers: F,
     // Of how many of the first nodes balances are kept.
     counted: u64,
@@ -37,7 +37,7 @@ pub struct Pool<'a, A: Allocator, D, G: Gate, F> {
 
 impl<'a, A: Allocator, D: Contents, G: Gate, F> Pool<'a, A, D, G, F> {
     /// Answers over this table and these files, by this plan, with these workers. Streams begin in
-    /// the session `first`. Balances are kept of so many of the first nodes.
+    /// the session `first`. Balances are kept of this many of the first nodes.
     pub fn new(
         served: Served<'a, A, D>,
         first: Session,
@@ -63,7 +63,7 @@ impl<'a, A: Allocator, D: Contents, G: Gate, F> Pool<'a, A, D, G, F> {
         }
     }
 
-    // How many of the first messages of a stream workers are to answer; none where the plan has one
+    // How many of the first messages of a stream workers must answer; none if the plan has one
     // worker, no session has begun, or the round is not worth it.
     fn worth(&self, stream: &[u8], session: Session) -> Option<usize>
         ensures { IfSome result (λ n. (1 ≤ n) × (n ≤ MAX_ROUND_MESSAGES)) }

@@ -29,9 +29,9 @@ struct Taken<'a, A: Allocator> {
     round: RoundEnd,
 }
 
-/// Answers so many of the first messages of a stream, or as many as are whole: 1 to 256 of them, by
-/// workers of a plan. The batches are the plan's, or smaller, so that there is one for each worker.
-/// `AllocError` comes only where memory was refused, in whichever thread.
+/// Answers this many of the first messages of a stream, or as many as are complete: 1 to 256 of
+/// them, by workers of a plan. The batches are the plan's, or smaller to give each worker one.
+/// `AllocError` only if memory was refused, in any thread.
 pub fn spread_out<
     R: Threads + Sync,
     A: Allocator + Copy + Send + Sync,
@@ -59,7 +59,7 @@ pub fn spread_out<
     Ok(RoundPieces { round, pieces })
 }
 
-// Reads so many of the first messages of a stream, or as many as are whole.
+// Reads this many of the first messages of a stream, or as many as are complete.
 fn take_jobs<'a, A: Allocator>(
     alloc: A,
     stream: &'a [u8],
@@ -97,7 +97,7 @@ fn take_jobs<'a, A: Allocator>(
     Ok(Taken { jobs, round })
 }
 
-// How many jobs a batch has, of so many in all: the plan's number, or fewer.
+// How many jobs a batch has, of this many in all: the plan's number, or fewer.
 fn batch_size(plan: Plan, jobs: usize) -> u32
     requires { jobs ≤ MAX_ROUND_MESSAGES }
     ensures some { 1 ≤ result }

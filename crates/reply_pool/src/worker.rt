@@ -22,10 +22,10 @@ use work_gate::{Gate, Work};
 /// Draws batches from a board until none is left, and answers those drawn, in that order. The gate
 /// is passed before the first answer of each.
 ///
-/// The jobs are requests, each with the session before it: at most 256, in batches of 1 to 256, of
-/// which number k has those from k times `size` on. The board's total is the number of batches.
-/// Threads may share one board, each with a hand of its own. `AllocError` comes only where memory
-/// was refused; what was drawn until then stays the hand's, and no other worker answers it.
+/// The jobs are requests, each with the session before it: at most 256, in batches of 1 to 256;
+/// number k has those from k times `size` on. The board's total is the number of batches. Threads
+/// may share one board, each with a hand of its own. `AllocError` only if memory was refused; what
+/// was drawn until then remains the hand's, and no other worker answers it.
 pub fn work<
     R: Threads + Sync,
     A: Allocator,

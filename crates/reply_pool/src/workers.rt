@@ -36,7 +36,7 @@ use work_gate::Gate;
 /// Batch k holds the jobs from k times the plan's batch on; the gate is passed before its first
 /// answer. As many workers as the plan has, but no more than there are batches, draw the batches as
 /// they come free; a worker that cannot be started is done by its caller. For every plan the result
-/// is the same. `AllocError` comes only where memory was refused, in whichever thread.
+/// is the same. `AllocError` only if memory was refused, in any thread.
 pub fn round<
     R: Threads + Sync,
     A: Allocator + Copy + Send + Sync,
@@ -58,7 +58,7 @@ pub fn round<
     in_order(alloc, pieces)
 }
 
-/// Answers jobs in batches of this size, by so many workers, but no more than there are batches.
+/// Answers jobs in batches of this size, by this many workers, but no more than there are batches.
 pub(crate) fn answer_batches<
     R: Threads + Sync,
     A: Allocator + Copy + Send + Sync,
@@ -90,7 +90,7 @@ pub(crate) fn answer_batches<
     pieces
 }
 
-/// Draws in so many workers at the same time until nothing is left, each with a hand of its own,
+/// Draws in this many workers at the same time until nothing is left, each with a hand of its own,
 /// and gives their pieces and the hand that all hands were rejoined into.
 #[cycle(crew)]
 fn draw_all<
@@ -122,7 +122,7 @@ fn draw_all<
     }
     let low = workers / 2;
     let high = workers - low;
-    // the hand has a miss for each worker, so it keeps some
+    // the hand has a miss for each worker and keeps some
     let Ok(other) = board.split(&mut hand, high) else {
         unreachable!()
     };
@@ -153,7 +153,7 @@ fn draw_all<
     (both(pieces, more), hand)
 }
 
-// The pieces of two hands, where neither wanted memory.
+// The pieces of two hands, if neither lacked memory.
 fn both<A: Allocator>(
     pieces: Result<Vec<Piece<A>, A>, AllocError>,
     more: Result<Vec<Piece<A>, A>, AllocError>,

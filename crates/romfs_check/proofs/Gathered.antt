@@ -1,5 +1,4 @@
--- What was gathered of known bytes is judged as they are (judged_alike), with their trailer under every
--- profile (judged_with_trailer).
+-- What was gathered from known bytes is judged as they are (judged_alike), with their trailer under every profile (judged_with_trailer).
 use Rattle.std.proofs.Common.{◌≡◌, ℕ, List, ◌↔◌, Some, None, IsTrue}
 use Rattle.romfs_format.specs.declared.rule.Profile.{Profile}
 use Rattle.romfs_format.specs.Profiles.{reads_attributes}

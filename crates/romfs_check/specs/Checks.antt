@@ -1,4 +1,4 @@
--- What bytes are that a check takes for an image.
+-- Which bytes a check accepts as an image.
 use Rattle.std.specs.Prelude.{◌≡◌, ℕ, List}
 use Rattle.romfs_format.specs.declared.attribute_row.AttributeRow.{AttributeRow}
 use Rattle.romfs_format.specs.declared.rule.Profile.{Profile}

@@ -1,4 +1,4 @@
--- What a refused image is refused for.
+-- Why an image is refused.
 use Rattle.std.specs.Prelude.{ℕ, List}
 use Rattle.romfs_check.specs.declared.refusal.CheckFault.{CheckFault}
 use Rattle.romfs_check.specs.declared.refusal.CheckFault.TheVariants.{Broken, Memory}

@@ -1,4 +1,4 @@
--- Refusals in words, as they are printed.
+-- Refusals as printed.
 use Rattle.std.specs.Prelude.{ℕ, List, codes}
 use Rattle.romfs_format.specs.Texts.{text_of}
 use Rattle.romfs_check.specs.declared.refusal.CheckFault.{CheckFault}

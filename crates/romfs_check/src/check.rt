@@ -17,7 +17,7 @@ use std::alloc::{AllocError, Allocator};
 
 /// What bytes are checked to be.
 pub trait Check: Sized {
-    /// Where memory comes from.
+    /// The allocator.
     type Memory;
 
     /// The bytes.
@@ -44,7 +44,7 @@ impl<A: Allocator + Copy> Check for Image<A> {
     ///
     /// `Broken` names the image's fault: the first broken rule of the volume header; else, of all
     /// broken rules of file headers, that at the least place, and there the first; else a path that
-    /// is too deep. `Memory` comes only where memory was refused.
+    /// is too deep. `Memory` only if memory was refused.
     ///
     /// It takes n log n steps in headers, whatever the image: chains may merge, loop and lead
     /// anywhere. Beside the image it takes at most a byte for each 40 of its bytes and 96 for each
@@ -58,9 +58,9 @@ impl<A: Allocator + Copy> Check for Image<A> {
     }
 
     /// Checks that bytes are an image as `check` does, by the rules of a profile: a strict one also
-    /// asks that the words of each header, its name and the padding sum to 0 (romfs.rst,
-    /// "checksum"), which costs one more pass over headers and names; one with attributes also asks
-    /// that the attribute trailer behind the full size, if there is one, is not broken.
+    /// requires that the words of each header, its name and the padding sum to 0 (romfs.rst,
+    /// "checksum"), which costs one more pass over headers and names; one with attributes also
+    /// requires that the attribute trailer after the full size, if there is one, is not broken.
     #[tactic(auto, using(romfs_format::proofs::Faults::profile_sound))]
     fn check_as(alloc: A, bytes: Vec<u8, A>, profile: Profile) -> Result<Image<A>, CheckFault>
         ensures ok { IfOk result (λ image. IsChecked profile bytes.items image.bytes) }
@@ -78,8 +78,8 @@ impl<A: Allocator + Copy> Check for Image<A> {
 /// trailer, or the profile is one without attributes. They take 28 bytes each. Of an image that
 /// stays in its file nothing else is looked at: of a trailer that was not kept nothing is said.
 ///
-/// `Broken` names the fault as [`Check::check_as`] does; of what was gathered of known bytes it is
-/// the fault of these ([`laws`](crate::laws)). `Memory` comes only where memory was refused. It
+/// `Broken` names the fault as [`Check::check_as`] does; of what was gathered from known bytes it is
+/// the fault of these ([`laws`](crate::laws)). `Memory` comes only if memory was refused. It
 /// takes the steps and the memory of that check.
 #[tactic(auto, using(romfs_format::proofs::Faults::profile_sound))]
 pub fn check_held<A: Allocator + Copy>(

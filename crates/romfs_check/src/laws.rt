@@ -9,7 +9,7 @@ ghost use Rattle.kept_image.specs.Gathered.{IsGathered, IsGatheredWithTrailer};
 ghost use Rattle.romfs_check.specs.declared.refusal.CheckFault.{CheckFault};
 ghost use Rattle.romfs_check.specs.Refusals.{IsRefusal};
 
-/// What was gathered of known bytes is sound where they are, and is else refused for what they are,
+/// What was gathered from known bytes is sound if they are, and otherwise refused with their fault,
 /// under a profile without attributes.
 pub fn kept_is_judged_as_its_bytes()
     ensures { (profile : Profile) → ¬ IsTrue (reads_attributes profile) → (b a : List ℕ) →
@@ -17,8 +17,8 @@ pub fn kept_is_judged_as_its_bytes()
         × ((fault : CheckFault) → IsRefusal profile a fault ↔ IsRefusal profile b fault) }
 {}
 
-/// What was gathered of known bytes with their trailer is judged so under every profile, and shows
-/// the rows that they show, where they are sound.
+/// What was gathered from known bytes with their trailer is judged so under every profile, and
+/// shows the rows that they show, if they are sound.
 pub fn kept_with_trailer_is_judged_as_its_bytes()
     ensures { (profile : Profile) → (b a : List ℕ) → IsGatheredWithTrailer (Some b) a →
         (IsSound profile a ↔ IsSound profile b)

@@ -1,6 +1,6 @@
--- An image has one fault (one_fault): of two that differ in stage, place or number one is named
--- before the other, and rules with one number are one rule (one_rule). What breaks a rule breaks it
--- under each profile that asks no less (carried), so what is sound there is sound (sound_too).
+-- An image has one fault (one_fault): of two that differ in stage, place or number one is named before the other, and rules with one number
+-- are one rule (one_rule). What breaks a rule breaks it under each profile that requires no less (carried), so what is sound there is sound
+-- (sound_too).
 use Rattle.std.proofs.Common.{◌≡◌, ◌∙◌, sym, ap, ℕ, ◌≤◌, ◌↔◌, inl, inr, true, false, IsTrue, List, [], ◌∷◌, length, get_or, refl}
 use Rattle.std.proofs.lemmas.Bool.{cases_lt, cases_order, false≢true}
 use Rattle.romfs_format.specs.declared.rule.Rule.{Rule}
@@ -71,7 +71,7 @@ full_size profile b s = (
   elim (cases_lt (length b) (word b 8)) [ inl l ↦ absurd (s.keeps FullSize 8 (inl l, refl)) | inr l ↦ l ],
 )
 
--- what breaks a rule of one profile breaks it under another that asks no less of these bytes
+-- what breaks a rule of one profile breaks it under another that requires no less of these bytes
 module _ (p q : Profile) (b : List ℕ) (sums : IsTrue (asks_sums p) → IsTrue (asks_sums q))
     (attributes : IsTrue (reads_attributes p) → IsTrailerBroken b → IsTrue (reads_attributes q)) where
   pub carried : (r : Rule) (h : ℕ) → Breaks p b r h → Breaks q b r h
@@ -107,8 +107,7 @@ profile_sound profile b = sound_too Usual profile b (λ t. absurd (false≢true 
 pub strict_sound : (b : List ℕ) → IsSound Strict b → IsSound Usual b
 strict_sound b = profile_sound Strict b
 
--- a profile that reads attributes asks that a trailer is not broken, and else what one asks that
--- does not, and looks at sums alike
+-- a profile that reads attributes requires a good trailer, and else what one without attributes requires with the same choice of sums
 module _ (with without : Profile) (same : asks_sums without ≡ asks_sums with) (reads : reads_attributes with ≡ true)
     (skips : reads_attributes without ≡ false) (b : List ℕ) where
   pub one_rule_more : IsSound with b ↔ (IsSound without b × ¬ IsTrailerBroken b)

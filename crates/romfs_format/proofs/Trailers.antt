@@ -22,7 +22,7 @@ stable_eq m n h = elim (cases_order m n) [
   | inr (inr l) ↦ absurd (h (λ k. omega arith))
 ]
 
--- a trailer of which it can't be that it breaks its rule keeps it
+-- a trailer that cannot break its rule keeps it
 stable_trailer : (full : ℕ) (t : List ℕ) → ¬ ¬ IsTrailer full t → IsTrailer full t
 stable_trailer full t h = record {
   whole = stable_le _ _ (λ n. h (λ x. n x.whole));

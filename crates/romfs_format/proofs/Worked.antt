@@ -1,5 +1,4 @@
--- The worked examples: each size and limit is a constant, so that it is the number named is had by
--- computation (limits).
+-- The worked examples: each size and limit is a constant, so it equals the named number by computation (limits).
 use Rattle.std.proofs.Common.{refl}
 use Rattle.romfs_format.specs.Examples.{LimitExamples}
 

@@ -76,7 +76,7 @@ whole = record {
   between = refl;
 }
 
--- what each profile asks, and shows
+-- what each profile requires, and shows
 pub profiles : ProfileExamples
 unfolding trailers_on_literals
 profiles = record {

@@ -1,10 +1,10 @@
--- romfs.rst, "next filehdr" and "spec.info": which headers stand in which directory.
+-- romfs.rst, "next filehdr" and "spec.info": which headers are in which directory.
 use Rattle.std.specs.Prelude.{◌≡◌, ◌≢◌, ℕ, zero, suc, ◌⊎◌, List, [], ◌∷◌, Some, codes}
 use Rattle.romfs_format.specs.declared.head.Kind.TheVariants.{Directory}
 use Rattle.romfs_format.specs.Fields.{root, IsInside, kind, next, spec, cleared, name}
 
--- h is the first header of the directory d: none where its spec.info is 0, or names d itself,
--- unless d is the root
+-- h is the first header of the directory d: none if its spec.info is 0, or names d itself, unless d
+-- is the root
 abbrev pub IsFirst : List ℕ → ℕ → ℕ → Type 0
 IsFirst a d h = (h ≡ cleared (spec a d)) × (h ≢ 0) × ((h ≡ d) → d ≡ root a)
 
@@ -12,7 +12,7 @@ IsFirst a d h = (h ≡ cleared (spec a d)) × (h ≢ 0) × ((h ≡ d) → d ≡ 
 abbrev pub IsNext : List ℕ → ℕ → ℕ → Type 0
 IsNext a h g = IsInside a h × (g ≡ next a h) × (g ≢ 0)
 
--- h stands at position n, from 0, of the chain that begins at the first header of d
+-- h is at position n, from 0, of the chain that begins at the first header of d
 abbrev pub IsAt : List ℕ → ℕ → ℕ → ℕ → Type 0
 IsAt a d zero h = IsFirst a d h
 IsAt a d (suc n) g = (h : ℕ) × IsAt a d n h × IsNext a h g
@@ -37,7 +37,7 @@ pub data IsOpened (a : List ℕ) : ℕ → Type 0 where
   below : {d h : ℕ} → IsOpened a d → IsInChain a d h → ¬ IsPassedOver a d h
       → IsInside a h → kind a h ≡ Directory → IsOpened a h
 
--- h stands in the chain of the opened directory d
+-- h is in the chain of the opened directory d
 pub record Stands (a : List ℕ) (d h : ℕ) : Type 0 where
   pub opened : IsOpened a d
   pub in_chain : IsInChain a d h

@@ -29,7 +29,7 @@ image b = take (word b 8) b
 unfoldable pub summed : List ℕ → List ℕ
 summed a = take SUMMED_SIZE a
 
--- the sum of the whole words
+-- the sum of the complete words
 abbrev pub word_sum : List ℕ → ℕ
 word_sum (x ∷ y ∷ z ∷ w ∷ bytes) = x * 2 ^ 24 + y * 2 ^ 16 + z * 2 ^ 8 + w + word_sum bytes
 word_sum _ = 0
@@ -48,7 +48,7 @@ ended (suc n ∷ bytes) = option_map (λ text. suc n ∷ text) (ended bytes)
 abbrev pub is_dot_name : List ℕ → Bool
 is_dot_name n = bytes_eq n (codes ".") || bytes_eq n (codes "..")
 
--- where the padding ends of a name that begins at p
+-- the end of the padding of a name that begins at p
 abbrev pub text_end : ℕ → List ℕ → ℕ
 text_end p text = p + padded (length text + 1)
 
@@ -57,12 +57,12 @@ abbrev pub if_within : ℕ → ℕ → Option (List ℕ) → Option (List ℕ)
 if_within n p None = None
 if_within n p (Some text) = if nat_le (text_end p text) n then Some text else None
 
--- the name that begins at p, up to its first zero byte; none where it or its padding does not end
--- in time
+-- the name that begins at p, up to its first zero byte; none if it or its padding does not end in
+-- time
 abbrev pub text_at : List ℕ → ℕ → Option (List ℕ)
 text_at a p = if_within (length a) p (ended (name_field a p))
 
--- the first header, which is the root's: it stands after the volume name
+-- the first header, which is the root's: it follows the volume name
 unfoldable pub root : List ℕ → ℕ
 root a = option_map_or (text_end HEAD_SIZE) (text_at a HEAD_SIZE) 0
 
@@ -70,7 +70,7 @@ root a = option_map_or (text_end HEAD_SIZE) (text_at a HEAD_SIZE) 0
 abbrev pub IsInside : List ℕ → ℕ → Type 0
 IsInside a h = (root a ≤ h) × (h + HEAD_SIZE ≤ length a)
 
--- the kind that the low three bits of a header's first word say
+-- the kind in the low three bits of a header's first word
 abbrev pub kind_of : ℕ → Kind
 kind_of zero = HardLink
 kind_of (suc zero) = Directory
@@ -89,7 +89,7 @@ kind a h = kind_of (word a h % 8)
 abbrev pub exec : List ℕ → ℕ → Bool
 exec a h = word a h / 8 % 2 == 1
 
--- the header after h; 0 where there is none
+-- the header after h; 0 if there is none
 abbrev pub next : List ℕ → ℕ → ℕ
 next a h = cleared (word a h)
 
@@ -101,14 +101,14 @@ spec a h = word a (h + 4)
 abbrev pub size : List ℕ → ℕ → ℕ
 size a h = word a (h + 8)
 
--- the name of a header; none where it is not ended
+-- the name of a header; none if it is not ended
 abbrev pub name : List ℕ → ℕ → Option (List ℕ)
 name a h = text_at a (h + HEAD_SIZE)
 
--- where the data begins of a header with this name
+-- the start of the data of a header with this name
 abbrev pub data_at : ℕ → List ℕ → ℕ
 data_at h text = text_end (h + HEAD_SIZE) text
 
--- the header with this name, up to where the padding ends
+-- the header with this name, up to the end of the padding
 unfoldable pub header_bytes : List ℕ → ℕ → List ℕ → List ℕ
 header_bytes a h text = take (HEAD_SIZE + padded (length text + 1)) (drop h a)

@@ -4,7 +4,7 @@ use Rattle.romfs_format.specs.declared.head.Head.{Head}
 use Rattle.romfs_format.specs.declared.limits.TheConstants.{HEAD_SIZE}
 use Rattle.romfs_format.specs.Fields.{IsInside, kind, exec, next, spec, size, name}
 
--- the name of a header; the empty one where it is not ended
+-- the name of a header; empty if it is not ended
 abbrev pub name_of : List ℕ → ℕ → List ℕ
 name_of a h = unwrap_or (name a h) []
 

@@ -23,7 +23,7 @@ IsHardLink a h = IsInside a h × (kind a h ≡ HardLink)
 abbrev pub IsDirectory : List ℕ → ℕ → Type 0
 IsDirectory a h = IsInside a h × (kind a h ≡ Directory)
 
--- where a hard link leads
+-- the destination of a hard link
 abbrev pub destination : List ℕ → ℕ → ℕ
 destination a h = cleared (spec a h)
 
@@ -37,7 +37,7 @@ pub data IsFinal (a : List ℕ) : ℕ → ℕ → Type 0 where
   stays : {h : ℕ} → ¬ IsHardLink a h → IsFinal a h h
   follows : {h e : ℕ} → IsHardLink a h → IsFinal a (destination a h) e → IsFinal a h e
 
--- where the chain from h ends
+-- the end of the chain from h
 abbrev pub EndsAs : List ℕ → ℕ → End → Type 0
 EndsAs a h AtDirectory = (e : ℕ) × IsFinal a h e × IsDirectory a e
 EndsAs a h AtOther = (e : ℕ) × IsFinal a h e × ¬ IsDirectory a e

@@ -1,9 +1,9 @@
--- What each profile asks of an image beside the rules that all ask.
+-- What each profile requires of an image besides the rules common to all.
 use Rattle.std.specs.Prelude.{Bool, true, false, if◌then◌else◌}
 use Rattle.romfs_format.specs.declared.rule.Profile.{Profile}
 use Rattle.romfs_format.specs.declared.rule.Profile.TheVariants.{Usual, Strict, UsualWithAttributes, StrictWithAttributes}
 
--- the words of each header have to sum to 0
+-- the words of each header must sum to 0
 abbrev pub asks_sums : Profile → Bool
 asks_sums Usual = false
 asks_sums Strict = true
@@ -17,7 +17,7 @@ reads_attributes Strict = false
 reads_attributes UsualWithAttributes = true
 reads_attributes StrictWithAttributes = true
 
--- the profile that asks for sums and reads attributes, or not, as these say
+-- the profile that requires sums and reads attributes, or not, as these say
 abbrev pub profile_with : Bool → Bool → Profile
 profile_with sums attributes =
     if attributes

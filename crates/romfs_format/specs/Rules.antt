@@ -70,8 +70,8 @@ IsNamesake a g h =
     (g < h) × ((d : ℕ) × IsMember a d g × IsMember a d h) × IsNamed a g × IsNamed a h
     × (name a g ≡ name a h)
 
--- the words of the header at h, of its name and of the padding do not sum to 0; a name that is not
--- ended stands for no sum, and of such headers only the root's is asked for one
+-- the words of the header at h, of its name and of the padding do not sum to 0; a header whose name
+-- is not ended has no sum, and only the root's must have one then
 abbrev pub HasBadSum : List ℕ → ℕ → Type 0
 HasBadSum a h =
     MatchOption (name a h) (h ≡ root a) (λ n. word_sum (header_bytes a h n) % 2 ^ 32 ≢ 0)
@@ -162,7 +162,7 @@ pub record IsVolume (b : List ℕ) : Type 0 where
 pub record IsSound (profile : Profile) (b : List ℕ) : Type 0 where
   pub keeps : (r : Rule) (p : ℕ) → ¬ Breaks profile b r p
 
--- the fault of b under the profile; none where it is sound
+-- the fault of b under the profile; none if it is sound
 abbrev pub IsFaultOf : Profile → List ℕ → Option ImageFault → Type 0
 IsFaultOf profile b fault =
     MatchOption fault (IsSound profile b) (λ f. IsFault profile b f.rule f.place)

@@ -1,4 +1,4 @@
--- The attribute trailer: owners, modes and times of an image's files, in a table behind its full
+-- The attribute trailer: owners, modes and times of an image's files, in a table after its full
 -- size, where no reader of romfs looks.
 use Rattle.std.specs.Prelude.{◌≡◌, ℕ, zero, suc, ◌+◌, ◌*◌, ◌%◌, ◌^◌, ◌<◌, ◌≤◌, ◌==◌, ◌&&◌, Bool, List, [], ◌∷◌, ◌++◌, length, take, drop, Option, Some, None, nat_eq, nat_lt, codes, IsTrue, if◌then◌else◌}
 use Rattle.std.specs.List.{starts_with}
@@ -9,7 +9,7 @@ use Rattle.romfs_format.specs.declared.rule.Profile.{Profile}
 use Rattle.romfs_format.specs.Fields.{word, padded, word_sum}
 use Rattle.romfs_format.specs.Profiles.{reads_attributes}
 
--- b is all bytes of an image, and t those from where its trailer begins on. Numbers are big-endian,
+-- b is all bytes of an image, and t those from the start of its trailer on. Numbers are big-endian,
 -- as in the image.
 
 -- a trailer begins at the first multiple of 16 at or behind the full size
@@ -20,7 +20,7 @@ trailer_at b = padded (word b 8)
 unfoldable pub trailer : List ℕ → List ℕ
 trailer b = drop (trailer_at b) b
 
--- b has a trailer: that place is below 2 ^ 32, and these letters stand there
+-- b has a trailer: that place is below 2 ^ 32, and has these letters
 abbrev pub has_trailer : List ℕ → Bool
 has_trailer b =
     nat_lt (trailer_at b) (2 ^ 32) && starts_with nat_eq (trailer b) (codes "-attr01-")
@@ -29,15 +29,15 @@ has_trailer b =
 abbrev pub HasTrailer : List ℕ → Type 0
 HasTrailer b = IsTrue (has_trailer b)
 
--- how many rows it has: the word behind the letters
+-- how many rows it has: the word after the letters
 abbrev pub row_count : List ℕ → ℕ
 row_count t = word t 8
 
--- where row i begins, from 0 on
+-- the start of row i, from 0 on
 abbrev pub row_start : ℕ → ℕ
 row_start i = TRAILER_HEAD_SIZE + ROW_SIZE * i
 
--- where a trailer ends: behind its last row
+-- the end of a trailer: after its last row
 abbrev pub trailer_end : List ℕ → ℕ
 trailer_end t = row_start (row_count t)
 
@@ -89,7 +89,7 @@ abbrev pub first_rows : List ℕ → ℕ → List AttributeRow
 first_rows t zero = []
 first_rows t (suc n) = first_rows t n ++ row_of t n ∷ []
 
--- the rows of the trailer of b; none where it has none
+-- the rows of the trailer of b; none if it has none
 abbrev pub rows : List ℕ → List AttributeRow
 rows b = if has_trailer b then first_rows (trailer b) (row_count (trailer b)) else []
 

@@ -17,7 +17,7 @@ bare_image = bytes_of (
     0x2d726f6d ∷ 0x3166732d ∷ 0x00000040 ∷ 0x2b271d26 ∷ 0x76000000 ∷ 0 ∷ 0 ∷ 0
     ∷ 0x00000009 ∷ 0x00000020 ∷ 0x00000000 ∷ 0xd1ffffd7 ∷ 0x2e000000 ∷ 0 ∷ 0 ∷ 0 ∷ [])
 
--- it with a trailer behind it: how many rows, what makes its sum 0, and the words of its rows
+-- it with a trailer after it: how many rows, what makes its sum 0, and the words of its rows
 abbrev pub behind : List ℕ → List ℕ
 behind words = bare_image ++ codes "-attr01-" ++ bytes_of words
 
@@ -59,11 +59,11 @@ one_row sum place mode nanoseconds last =
 abbrev pub two_places : ℕ → ℕ → ℕ → List ℕ
 two_places sum p q = behind ((2 ∷ sum ∷ p ∷ replicate 7 0) ++ (q ∷ replicate 7 0))
 
--- where the trailer of an image of this full size begins
+-- the start of the trailer of an image of this full size
 abbrev pub begins : ℕ → ℕ
 begins full = trailer_at (replicate 8 0 ++ bytes_of (full ∷ []))
 
--- where a trailer begins, and what is none
+-- the start of a trailer, and what is none
 pub record NoTrailerExamples : Type 0 where
   pub at_full_size : begins 0x40 ≡ 0x40
   pub behind_full_size : begins 0x41 ≡ 0x50
@@ -89,7 +89,7 @@ pub record TrailerExamples : Type 0 where
   pub before : row_at (rows two_rows) 0x10 ≡ None
   pub between : row_at (rows two_rows) 0x28 ≡ None
 
--- each profile by what it asks, and that it shows rows only where it reads them
+-- each profile by what it requires, and that it shows rows only if it reads them
 pub record ProfileExamples : Type 0 where
   pub usual : profile_with false false ≡ Usual
   pub strict : profile_with true false ≡ Strict

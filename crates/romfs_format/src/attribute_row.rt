@@ -1,9 +1,9 @@
-//! What an image says of a file beside its header.
+//! What an image says about a file besides its header.
 
-/// A row of an attribute trailer: owner, mode and time of the file whose header stands at a place.
+/// A row of an attribute trailer: owner, mode and time of the file whose header is at a place.
 #[derive(Clone, Copy)]
 pub struct AttributeRow {
-    /// Where the header stands, from the image's first byte on.
+    /// The place of the header, from the image's first byte on.
     pub place: u32,
     /// The low 12 bits of the mode: setuid, setgid, the sticky bit, and who may read, write and
     /// execute.

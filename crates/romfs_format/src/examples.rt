@@ -10,7 +10,7 @@ pub fn limits_example()
     ensures { LimitExamples }
 {}
 
-/// Where an attribute trailer begins, and what is none.
+/// The start of an attribute trailer, and what is none.
 #[tactic(auto, using(crate::proofs::WorkedTrailers::absent))]
 pub fn no_trailer_example()
     ensures { NoTrailerExamples }

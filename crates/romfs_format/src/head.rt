@@ -1,6 +1,6 @@
 //! File headers.
 
-/// What a file header stands for (romfs.rst: the low three bits of its first word).
+/// The kind of a file header (romfs.rst: the low three bits of its first word).
 #[derive(Clone, Copy, PartialEq, Eq)]
 pub enum Kind {
     HardLink,
@@ -16,21 +16,21 @@ pub enum Kind {
 /// A file header of an image. Offsets and sizes are in bytes.
 #[derive(Clone, Copy, PartialEq, Eq)]
 pub struct Head {
-    /// Where the header stands, from the image's first byte on.
+    /// The place of the header, from the image's first byte on.
     pub offset: u32,
-    /// The header after it in its directory; 0 where there is none.
+    /// The header after it in its directory; 0 if there is none.
     pub next: u32,
     pub kind: Kind,
     /// Whether the file is executable.
     pub exec: bool,
-    /// spec.info as it stands: a hard link's destination, a directory's first header, a device's
+    /// spec.info, unchanged: a hard link's destination, a directory's first header, a device's
     /// numbers.
     pub spec: u32,
     /// The size of its data.
     pub size: u32,
-    /// Where its name begins.
+    /// The start of its name.
     pub name_at: u32,
-    /// How long its name is, without the zero byte; 0 where the name has no end.
+    /// The length of its name, without the zero byte; 0 if the name has no end.
     pub name_len: u32,
 }
 

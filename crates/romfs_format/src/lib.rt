@@ -1,15 +1,15 @@
 //! The format of romfs images (Documentation/filesystems/romfs.rst in Linux): what it is, and the
 //! reading of single fields.
 //!
-//! `specs/` restates the document: the fields of headers (`Fields`, `Heads`), which headers stand
-//! in which directory (`Chains`), what they lead to (`Links`), the rules of an image and the one
-//! fault of an image that breaks some (`Rules`, in words `Texts`). Behind an image may stand an
-//! attribute trailer with the owners, modes and times of its files (`Trailer`), which the profiles
-//! read that ask for it (`Profiles`). [`limits`] has all sizes and limits, and [`examples`] the
-//! number of each, and worked trailers. [`read`] reads words, names and headers where they lie
-//! within the image; no call takes memory. [`laws`] says that an image has at most one fault.
+//! `specs/` restates the document: the fields of headers (`Fields`, `Heads`), which headers are in
+//! which directory (`Chains`), what they lead to (`Links`), the rules of an image and the one fault
+//! of an image that breaks some (`Rules`, as text `Texts`). An image may be followed by an
+//! attribute trailer with the owners, modes and times of its files (`Trailer`), which some profiles
+//! read (`Profiles`). [`limits`] has all sizes and limits, and [`examples`] the number of each, and
+//! worked trailers. [`read`] reads words, names and headers if they lie within the image; no call
+//! takes memory. [`laws`] says that an image has at most one fault.
 //!
-//! The crate stands on `byteorder` for words and `memchr` for the ends of names.
+//! The crate uses `byteorder` for words and `memchr` for the ends of names.
 #![tactic(auto)]
 
 pub mod attribute_row;

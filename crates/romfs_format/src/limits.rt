@@ -6,7 +6,7 @@ pub const HEAD_SIZE: usize = 16;
 /// The bytes among which a name ends, with its zero byte.
 pub const NAME_FIELD_SIZE: usize = 256;
 
-/// The bytes that the checksum of the volume goes over: so many, or all where there are fewer.
+/// The bytes that the checksum of the volume covers: this many, or all if there are fewer.
 pub const SUMMED_SIZE: usize = 512;
 
 /// The most bytes of the target of a symbolic link (`PATH_MAX` of linux/limits.h, without a zero
@@ -19,7 +19,7 @@ pub const MAX_MAJOR: u32 = 4_095;
 /// The most names of a path.
 pub const MAX_NAMES: u16 = 512;
 
-/// The size of what stands before the rows of an attribute trailer, in bytes.
+/// The size of an attribute trailer before its rows, in bytes.
 pub const TRAILER_HEAD_SIZE: usize = 16;
 
 /// The size of a row of an attribute trailer, in bytes.

@@ -50,7 +50,7 @@ pub fn cleared(word: u32) -> u32
     word / 16 * 16
 }
 
-/// The kind that the first word of a header says.
+/// The kind in the first word of a header.
 pub fn kind_of(word: u32) -> Kind
     ensures { result ≡ kind_of (word % 8) }
 {
@@ -66,7 +66,7 @@ pub fn kind_of(word: u32) -> Kind
     }
 }
 
-/// The name whose field begins at a place of the accessible bytes; none where it has no end, or its
+/// The name whose field begins at a place of the accessible bytes; none if it has no end, or its
 /// padding ends beyond them.
 pub fn text_at(image: &[u8], at: usize) -> Option<&[u8]>
     requires at { at ≤ length image.now }
@@ -101,7 +101,7 @@ pub fn header_bytes<'a>(image: &'a [u8], at: usize, name: &[u8]) -> &'a [u8]
     &rest[..HEAD_SIZE + padded(name.len() + 1)]
 }
 
-/// The sum of the whole words of some bytes.
+/// The sum of the complete words of some bytes.
 pub fn word_sum(bytes: &[u8]) -> u32
     ensures { result ≡ word_sum bytes.now % 2 ^ 32 }
 {
@@ -144,7 +144,7 @@ pub fn head_named(image: &[u8], at: u32, name_len: u32) -> Head
     }
 }
 
-/// Where the root stands.
+/// The place of the root.
 #[tactic(auto, unfolding(crate::specs::Fields::root))]
 pub fn root_of(image: &[u8]) -> u32
     requires long { HEAD_SIZE ≤ length image.now }
@@ -181,8 +181,8 @@ fn ended(field: &[u8]) -> Option<&[u8]>
     }
 }
 
-/// Where the first zero byte stands, if there is one. Most names are short, so the first bytes are
-/// looked at alone.
+/// The place of the first zero byte, if there is one. Most names are short, so the first bytes are
+/// searched alone.
 fn first_zero(field: &[u8]) -> Option<usize>
     ensures value { option_map (λ end. take end field.now) result ≡ ended field.now }
     ensures within { IfSome result (λ end. end < length field.now) }
@@ -196,7 +196,7 @@ fn first_zero(field: &[u8]) -> Option<usize>
     memchr(0, field)
 }
 
-/// How long the name of the header at a place is; 0 where it has no end.
+/// The length of the name of the header at a place; 0 if it has no end.
 fn name_len(image: &[u8], at: u32) -> u32
     requires inside { at + HEAD_SIZE ≤ length image.now }
     requires small { length image.now < 2 ^ 32 }

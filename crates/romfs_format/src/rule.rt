@@ -6,9 +6,9 @@ ghost use Rattle.romfs_format.specs.Texts.{text_of};
 
 use std::fmt;
 
-/// A rule that every image keeps, in the order in which rules are named where several are broken:
-/// the rules of the volume header one by one, then all rules of file headers by place, then the
-/// depth, then the attributes.
+/// A rule that every image keeps, in the order in which rules are named if several are broken: the
+/// rules of the volume header one by one, then all rules of file headers by place, then the depth,
+/// then the attributes.
 #[derive(Clone, Copy, Debug, PartialEq, Eq)]
 pub enum Rule {
     /// The image has 16 bytes or more.
@@ -21,7 +21,7 @@ pub enum Rule {
     BadSum,
     /// The volume name ends, and its padding lies within the full size.
     VolumeName,
-    /// A directory's header stands after the volume name.
+    /// A directory's header follows the volume name.
     NoRoot,
     /// A header that is reached lies between the root's and the end.
     Outside,
@@ -43,13 +43,13 @@ pub enum Rule {
     LinkDirectory,
     /// A device's major number is at most [`MAX_MAJOR`](crate::limits::MAX_MAJOR).
     MajorLarge,
-    /// The words of a header that is reached, with its name and padding, sum to 0. The strict
-    /// profile alone asks it.
+    /// The words of a header that is reached, with its name and padding, sum to 0. Only the strict
+    /// profile requires it.
     HeaderSum,
     /// A path has at most [`MAX_NAMES`](crate::limits::MAX_NAMES) names.
     TooDeep,
-    /// An attribute trailer behind the full size is whole, its words sum to 0, and its rows rise by
-    /// offset and hold nothing out of range. A profile with attributes alone asks it.
+    /// An attribute trailer after the full size is complete, its words sum to 0, and its rows rise
+    /// by offset and hold nothing out of range. Only a profile with attributes requires it.
     Attributes,
 }
 
@@ -86,7 +86,7 @@ impl Profile {
         }
     }
 
-    /// Whether it asks that the words of each header sum to 0.
+    /// Whether it requires that the words of each header sum to 0.
     pub fn asks_sums(self) -> bool
         ensures { result ≡ asks_sums self }
     {

@@ -1,4 +1,4 @@
--- Why images are not built, in words, as they are printed.
+-- Why images are not built, as printed.
 use Rattle.std.specs.Prelude.{ℕ, List, codes}
 use Rattle.romfs_image.specs.declared.sample.BuildFault.{BuildFault}
 use Rattle.romfs_image.specs.declared.sample.BuildFault.TheVariants as build

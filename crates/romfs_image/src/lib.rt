@@ -2,8 +2,8 @@
 //!
 //! [`Image::check`](Check::check) and [`Image::check_as`](Check::check_as) are `romfs_check`'s;
 //! [`Image`] gives headers, names and data, as `romfs_reader` has them; [`sample`] makes images for
-//! tests and examples. The crate has the names of both, for whoever wants all of an image from one
-//! place, and stands on `romfs_format` for what it makes. The program stands on those alone.
+//! tests and examples. The crate passes on both, for callers that want all of an image from one
+//! place, and uses `romfs_format` for what it makes. The program uses only those two.
 #![tactic(auto)]
 
 pub mod sample;

@@ -16,7 +16,7 @@ use std::alloc::{AllocError, AllocFailed, Allocator};
 use std::error::Error;
 use std::fmt;
 
-/// A file of an image to be built. Items stand in walk order: a directory before its members.
+/// A file of an image to be built. Items are in walk order: a directory before its members.
 #[derive(Drop)]
 pub struct Item<A: Allocator> {
     /// How many names its path has: 1 for the root's members.
@@ -94,9 +94,9 @@ impl<T: Drop> From<AllocFailed<T>> for BuildFault {
 /// directory is followed by its own `.` and `..`, hard links to it and to the directory above, and
 /// a file by its data. Header sums and the volume sum are set, and the full size is the length.
 ///
-/// `Listing` is looked at first, then `Size`; `Memory` comes only where memory was refused. Faults
-/// that break other rules of an image can be built, such as a bad name, a loop of hard links or a
-/// path that is too deep.
+/// `Listing` is checked first, then `Size`; `Memory` only if memory was refused. Faults that break
+/// other rules of an image can be built, such as a bad name, a loop of hard links or a path that is
+/// too deep.
 pub fn build<A: Allocator + Copy>(
     alloc: A,
     volume: &[u8],

@@ -1,5 +1,4 @@
--- Headers named `.` or `..`, told by the first bytes of their names alone: the zero byte is among
--- these, and the padding ends in the image.
+-- Headers named `.` or `..`, recognized by the first bytes of their names: the zero byte is among these, and the padding ends in the image.
 use Rattle.std.proofs.Common.{◌≡◌, ◌∙◌, ap, ℕ, ◌+◌, ◌≤◌, List, [], ◌∷◌, length, drop, get_or, length-drop, true, Some, arith, refl, leb}
 use Rattle.std.proofs.lemmas.Bool.Decides.{nat_tests}
 use Rattle.std.proofs.lemmas.List.{get_or-drop}

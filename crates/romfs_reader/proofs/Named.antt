@@ -1,6 +1,5 @@
--- What the name that was read says of the one that is there, where the empty name stands for one
--- that is not ended: a name with bytes is ended (`some_name`), and none is `.` or `..` (`dotted`).
--- Beyond the image there is none (`unnamed`).
+-- What the name that was read says about the true one, with the empty name for one that is not ended: a name with bytes is ended
+-- (`some_name`), and none is `.` or `..` (`dotted`). Beyond the image there is none (`unnamed`).
 use Rattle.std.proofs.Common.{◌≡◌, ◌≢◌, sym, ℕ, ◌+◌, ◌<◌, List, [], length, Option, Some, None, IsSome, false, refl, arith}
 use Rattle.std.specs.Prelude.{unwrap_or}
 use Rattle.std.specs.Option.{option_map_or}

@@ -1,6 +1,6 @@
--- Where the names and data of given headers lie, and which members a given directory has: that what
--- the readers of `parts` read is what the definitions say. Names and data lie in the image, as the
--- rules ask; members are those of the chain from the first header on (`chain_members`).
+-- The places of the names and data of given headers, and the members of a given directory: what the readers of `parts` read is what the
+-- definitions say. Names and data are in the image, as the rules require; members are those of the chain from the first header on
+-- (`chain_members`).
 use Rattle.std.proofs.Common.{◌≡◌, ◌≢◌, ◌∙◌, sym, ap, subst, ℕ, zero, suc, ◌+◌, ◌<◌, ◌≤◌, ◌⊎◌, inl, inr, List, [], length, Option, Some, None, arith, refl, IsSome, IsNone, IsSomeAnd, MatchOption, All}
 use Rattle.std.specs.Prelude.{unwrap_or}
 use Rattle.std.specs.Option.{option_map_or}

@@ -1,4 +1,4 @@
--- Where hard links end, as far as it is known.
+-- The ends of hard links, as far as they are known.
 use Rattle.std.specs.Prelude.{◌≡◌, ℕ, List, Some}
 use Rattle.std.specs.BTreeMap.{BTreeMap, get}
 use Rattle.std.specs.Ordering.{nat_cmp}

@@ -12,19 +12,19 @@ use Rattle.romfs_format.specs.Rules.{IsNamed}
 use Rattle.romfs_format.specs.Heads.{name_of, head_of}
 use Rattle.romfs_reader.specs.declared.parts.Part.{Part}
 
--- a header with an ended name stands at h
+-- there is a header with an ended name at h
 abbrev pub IsPlace : List ℕ → ℕ → Type 0
 IsPlace a h = (h % 16 ≡ 0) × IsNamed a h
 
--- the header at h; none where no header with an ended name stands there
+-- the header at h; none if there is no header with an ended name
 abbrev pub IsHeadAt : List ℕ → ℕ → Option Head → Type 0
 IsHeadAt a h found = MatchOption found (¬ IsPlace a h) (λ head. IsPlace a h × (head ≡ head_of a h))
 
--- where a chain of hard links from a member ends
+-- the end of a chain of hard links from a member
 abbrev pub IsEnd : List ℕ → ℕ → Type 0
 IsEnd a e = (h : ℕ) × IsSomeMember a h × IsFinal a h e
 
--- the image gives this header: as the root, as a member, or as where a member's hard links end
+-- the image gives this header: as the root, as a member, or as the end of a member's hard links
 pub record IsGiven (a : List ℕ) (head : Head) : Type 0 where
   pub is : head ≡ head_of a head.offset
   pub from : (head.offset ≡ root a) ⊎ IsSomeMember a head.offset ⊎ IsEnd a head.offset
@@ -54,7 +54,7 @@ pub record IsPart (a : List ℕ) (part : Part) : Type 0 where
   pub within : part.start + part.len ≤ length a
   pub short : 16 + part.len < 2 ^ 32
 
--- where the data of the header h begin, if it has any: behind its padded name
+-- the start of the data of the header h, if it has any: after its padded name
 abbrev pub data_start_of : List ℕ → ℕ → ℕ
 data_start_of a h = option_map_or (data_at h) (name a h) 0
 

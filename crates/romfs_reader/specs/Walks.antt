@@ -19,7 +19,7 @@ EndsWithin a (suc n) h = (h ≡ 0) ⊎ ((h ≢ 0) × IsInside a h × EndsWithin 
 abbrev pub places : List ℕ → ℕ
 places a = length a / 16
 
--- what is left of the members of the directory d, where its chain goes on at h
+-- what is left of the members of the directory d, if its chain goes on at h
 abbrev pub members_from : List ℕ → ℕ → ℕ → List Head
 members_from a d h = kept a d (chain_from a (places a) h)
 
@@ -29,7 +29,7 @@ pub record IsWalk (a : List ℕ) (r h : ℕ) : Type 0 where
   pub root : r ≡ root_of a
   pub ends : EndsWithin a (places a) h
 
--- the first of the members that are left, with which the walk can go on; none where none is left
+-- the first of the remaining members, with which the walk can go on; none if none is left
 abbrev pub IsNextMember : List ℕ → ℕ → ℕ → ℕ → Option Head → Type 0
 IsNextMember a r d h found = MatchOption found (members_from a d h ≡ [])
     (λ head. (members_from a d h ≡ head ∷ members_from a d head.next) × IsWalk a r head.next)

@@ -1,9 +1,9 @@
 //! Where many hard links end.
 //!
-//! Hard links may lead to one another in chains that many share: link -> link -> link -> file. So
-//! each link that a search passes is noted with the offset of the end that was found, and a later
-//! search stops at the first that is noted. A link that leads to the end itself is noted only where
-//! a search came to it from another link.
+//! Hard links may lead to one another in chains that many share: link -> link -> link -> file. Each
+//! link that a search passes is therefore noted with the offset of the end found, and a later
+//! search stops at the first noted one. A link that leads to the end itself is noted only if a
+//! search reached it from another link.
 //!
 //! All searches of an image together take n log n steps in the headers asked for and passed.
 
@@ -55,7 +55,7 @@ impl<'a, A: Allocator + Copy> Ends<'a, A> {
     }
 
     /// The header that a hard link leads to, after any further hard links (romfs.rst, "spec.info").
-    /// Any other header is given back. `AllocError` comes only where memory was refused.
+    /// Any other header is returned. `AllocError` only if memory was refused.
     ///
     /// It takes some bytes for each hard link that it passes on the way to another one, and passes
     /// none of these twice.
@@ -73,7 +73,7 @@ impl<'a, A: Allocator + Copy> Ends<'a, A> {
     }
 }
 
-/// Where the chain of hard links from a header that is given ends, by the first end that is known.
+/// The end of the chain of hard links from a given header, by the first end that is known.
 fn end_from<A: Allocator>(image: &Held<'_>, known: &BTreeMap<u32, u32, A>, head: &Head) -> Head
     requires image { IsImage image.now }
     requires given { IsGiven image.now head.now }

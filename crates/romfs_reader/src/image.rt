@@ -94,7 +94,7 @@ impl<A: Allocator> Image<A> {
         self.view().full()
     }
 
-    /// The header of the root, which stands after the volume name.
+    /// The header of the root, after the volume name.
     pub fn root(&self) -> Head
         ensures value { result ≡ head_of self.now.bytes (root_of self.now.bytes) }
         ensures directory { result.kind ≡ Kind.Directory }
@@ -104,8 +104,8 @@ impl<A: Allocator> Image<A> {
         self.view().root()
     }
 
-    /// The header at an offset in bytes; none where the offset is no multiple of 16, or the header
-    /// does not lie in the image, or its name has no end.
+    /// The header at an offset in bytes; none if the offset is no multiple of 16, the header is not
+    /// inside the image, or its name has no end.
     ///
     /// At the offset of a header that this image gave it is that header, and none only for a root
     /// whose name has no end.
@@ -133,7 +133,7 @@ impl<A: Allocator> Image<A> {
     }
 
     /// The header that a hard link leads to, after any further hard links (romfs.rst, "spec.info").
-    /// Any other header is given back.
+    /// Any other header is returned.
     ///
     /// A chain of hard links is no longer than the number of headers that the image has room for.
     pub fn target(&self, head: &Head) -> Head

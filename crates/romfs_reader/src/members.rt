@@ -21,7 +21,7 @@ use std::marker::Model;
 const PADDED: usize = 16;
 
 /// The members of a directory, in the order of its chain. A clause sees the list of those that are
-/// left, so that a loop over them knows which it has seen.
+/// left, so a loop knows which it has passed.
 ///
 /// A step reads the headers up to the next member, and takes no memory.
 #[derive(Drop)]
@@ -96,8 +96,8 @@ fn is_passed_over(image: &Held<'_>, root: u32, directory: u32, head: &Head) -> b
     is_dot_name(name_in(image, head))
 }
 
-/// Whether the first bytes of a header's name say that it is `.` or `..`: no end of a name is
-/// looked for. Each directory has such members, so that a walk meets many.
+/// Whether the first bytes of a header's name make it `.` or `..`: no end of a name is searched.
+/// Each directory has such members, so a walk meets many.
 fn begins_as_dots(image: &Held<'_>, at: u32) -> bool
     requires small { length image.now < 2 ^ 32 }
     requires inside { at + HEAD_SIZE ≤ length image.now }

@@ -14,14 +14,14 @@ use romfs_format::head::{Head, Kind};
 use romfs_format::limits::HEAD_SIZE;
 use romfs_format::read::{cleared, padded};
 
-/// A part of an image's bytes: where it begins, from the image's first byte on, and how long it is.
+/// A part of an image's bytes: its start, from the image's first byte on, and its length.
 #[derive(Clone, Copy, Debug, PartialEq, Eq)]
 pub struct Part {
     pub start: u32,
     pub len: u32,
 }
 
-/// The header at an offset, if a header with an ended name can stand there.
+/// The header at an offset, if there can be a header with an ended name.
 #[tactic(auto, using(crate::proofs::Named::some_name))]
 pub(crate) fn place_at(image: &Held<'_>, root: u32, offset: u32) -> Option<Head>
     requires image { IsImage image.now }
@@ -61,7 +61,7 @@ pub(crate) fn members_of<'a>(image: &Held<'a>, root: u32, directory: &Head) -> M
     Members::new(image, root, directory.offset, cleared(directory.spec))
 }
 
-/// Where the chain of hard links from a header that is given ends.
+/// The end of the chain of hard links from a given header.
 pub(crate) fn end_of(image: &Held<'_>, head: &Head) -> Head
     requires image { IsImage image.now }
     requires given { IsGiven image.now head.now }
@@ -75,7 +75,7 @@ pub(crate) fn end_of(image: &Held<'_>, head: &Head) -> Head
     end
 }
 
-/// So many bytes of an image from a place on, without those that would lie beyond it.
+/// This many bytes of an image from a place on, without those that would lie beyond it.
 #[tactic(auto, unfolding(crate::specs::Readers::bytes_at))]
 pub(crate) fn bytes_within(image: &[u8], from: usize, len: usize) -> &[u8]
     ensures { result.now ≡ bytes_at image.now from len }
@@ -97,8 +97,7 @@ pub(crate) fn byte_in(image: &Held<'_>, offset: u32) -> Option<u8>
     }
 }
 
-/// The name of the header at any offset; the empty one where it has no end or lies beyond the
-/// image.
+/// The name of the header at any offset; empty if it has no end or lies beyond the image.
 #[tactic(auto, using(crate::proofs::Named::unnamed))]
 pub(crate) fn named_at<'a>(image: &Held<'a>, offset: u32) -> &'a [u8]
     requires { length image.now < 2 ^ 32 }
@@ -122,7 +121,7 @@ pub(crate) fn name_in<'a>(image: &Held<'a>, head: &Head) -> &'a [u8]
     name_of(image, head.offset, head.name_len)
 }
 
-/// Where the data of a header that is given lie.
+/// The place of the data of a given header.
 pub(crate) fn data_part(image: &Held<'_>, head: &Head) -> Part
     requires image { IsImage image.now }
     requires given { IsGiven image.now head.now }
@@ -131,7 +130,7 @@ pub(crate) fn data_part(image: &Held<'_>, head: &Head) -> Part
     said_part(image, head.offset, head.kind, head.name_len, head.size)
 }
 
-/// Where the data of the header at an offset lie, by what it says of them.
+/// The place of the data of the header at an offset, from what it says about them.
 pub(crate) fn said_part(image: &Held<'_>, offset: u32, kind: Kind, name_len: u32, size: u32) -> Part
     requires image { IsImage image.now }
     requires given { IsGiven image.now (head_of image.now offset) }
@@ -161,7 +160,7 @@ pub(crate) fn bytes_in(image: &[u8], part: Part) -> &[u8]
     bytes_at(image, part.start, part.len)
 }
 
-/// The bytes of a part, where all bytes of the image are held.
+/// The bytes of a part, if all bytes of the image are held.
 #[inline(always)]
 #[tactic(auto, unfolding(crate::specs::Readers::bytes_at))]
 pub(crate) fn part_of<'a>(image: &Held<'a>, part: Part) -> Option<&'a [u8]>

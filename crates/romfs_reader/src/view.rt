@@ -45,7 +45,7 @@ impl<'a> Model for ImageView<'a> {
 }
 
 impl<'a> ImageView<'a> {
-    /// An image whose root stands here.
+    /// An image with its root here.
     pub(crate) fn new(image: Held<'a>, root: u32) -> ImageView<'a>
         requires image { IsImage image }
         requires root { root ≡ root_of image }
@@ -62,7 +62,7 @@ impl<'a> ImageView<'a> {
         self.image.len() as u32
     }
 
-    /// The header of the root, which stands after the volume name.
+    /// The header of the root, after the volume name.
     #[tactic(auto, using(crate::proofs::Keeps::root_inside, crate::proofs::Keeps::root_directory))]
     pub fn root(&self) -> Head
         ensures value { result ≡ head_of self.now (root_of self.now) }
@@ -73,8 +73,8 @@ impl<'a> ImageView<'a> {
         head_at(&self.image, self.root)
     }
 
-    /// The header at an offset in bytes; none where the offset is no multiple of 16, or the header
-    /// does not lie in the image, or its name has no end.
+    /// The header at an offset in bytes; none if the offset is no multiple of 16, the header is not
+    /// inside the image, or its name has no end.
     ///
     /// At the offset of a header that this image gave it is that header, and none only for a root
     /// whose name has no end.
@@ -95,7 +95,7 @@ impl<'a> ImageView<'a> {
         head_at(&self.image, offset)
     }
 
-    /// The same, where the length of its name in bytes is known, so that its end is not sought.
+    /// The same with the known length of its name in bytes, so its end is not searched.
     pub fn given_named(&self, offset: u32, name_len: u32) -> Head
         requires head { IsGiven self.now (head_of self.now offset) }
         requires name { name_len ≡ length (name_of self.now offset) }
@@ -129,7 +129,7 @@ impl<'a> ImageView<'a> {
     }
 
     /// The header that a hard link leads to, after any further hard links (romfs.rst, "spec.info").
-    /// Any other header is given back.
+    /// Any other header is returned.
     ///
     /// A chain of hard links is no longer than the number of headers that the image has room for.
     pub fn target(&self, head: &Head) -> Head
@@ -158,7 +158,7 @@ impl<'a> ImageView<'a> {
     }
 
     /// The name of the header at an offset at which this image gave one before, by its length in
-    /// bytes, so that its end is not sought.
+    /// bytes, so its end is not searched.
     pub fn given_name(&self, offset: u32, name_len: u32) -> &'a [u8]
         requires head { IsGiven self.now (head_of self.now offset) }
         requires name { name_len ≡ length (name_of self.now offset) }
@@ -167,7 +167,7 @@ impl<'a> ImageView<'a> {
         name_of(&self.image, offset, name_len)
     }
 
-    /// The name of the header at any offset in bytes. It is empty where it has no end, or would lie
+    /// The name of the header at any offset in bytes. It is empty if it has no end, or would lie
     /// beyond the image.
     pub fn name_at(&self, offset: u32) -> &'a [u8]
         ensures { result.now ≡ name_of self.now offset }
@@ -175,9 +175,8 @@ impl<'a> ImageView<'a> {
         named_at(&self.image, offset)
     }
 
-    /// Where the data of a regular file or the target of a symbolic link lie: a part of no bytes
-    /// for headers of kinds that have none. Who keeps it comes back to the data and reads no header
-    /// again.
+    /// The place of the data of a regular file or of a symbolic link's target: a part of no bytes
+    /// for other kinds. A caller that keeps it finds the data and reads no header again.
     pub fn data_part(&self, head: &Head) -> Part
         requires { IsGiven self.now head.now }
         ensures { IsDataPart self.now head.now.offset result }
@@ -185,8 +184,8 @@ impl<'a> ImageView<'a> {
         data_part(&self.image, head)
     }
 
-    /// The same of the header at an offset at which this image gave one before, by its kind, the
-    /// length of its name and the size of its data in bytes, so that it is not read again.
+    /// The same for the header at an offset at which this image gave one before, from its kind, the
+    /// length of its name and the size of its data in bytes; it is not read again.
     pub fn given_part(&self, offset: u32, kind: Kind, name_len: u32, size: u32) -> Part
         requires head { IsGiven self.now (head_of self.now offset) }
         requires kind { kind ≡ kind_in self.now offset }
@@ -227,7 +226,7 @@ impl<'a> Contents for ImageView<'a> {
     }
 }
 
-/// The same images, lent. `AllocError` comes only where memory was refused.
+/// The same images, lent. `AllocError` only if memory was refused.
 pub fn views_of<'a, A: Allocator>(
     alloc: A,
     images: &'a [Image<A>],

@@ -182,7 +182,7 @@ some_has : (w : Option ℕ) (g : ℕ) → Contains (option_to_list w) g → w �
 some_has None g c = absurd (none_in g c)
 some_has (Some n) g c = ap Some (one_in n g c)
 
--- a word that is there is in its list
+-- an existing word is in its list
 pub has_some : (w : Option ℕ) (g : ℕ) → w ≡ Some g → Contains (option_to_list w) g
 has_some w g e = subst (λ x. Contains (option_to_list x) g) (sym e) (has_one g)
 

@@ -1,6 +1,5 @@
--- Where a header leads, as a word that is there or not: none (nowhere), or the one that there is
--- (there). By these each branch of the code has its lemma: for next, for the first header of a
--- directory (firsts), for the first header below another header (downs), and for hard links.
+-- The destination of a header, as an optional word: none (nowhere), or some (there). By these each branch of the code has its lemma: for
+-- next, for the first header of a directory (firsts), for the first header below another header (downs), and for hard links.
 use Rattle.std.proofs.Common.{◌≡◌, ◌≢◌, ◌∙◌, sym, ap, subst, ℕ, List, Option, Some, None}
 use Rattle.romfs_format.specs.declared.head.Kind.TheVariants.{HardLink}
 use Rattle.romfs_format.specs.Fields.{root, IsInside, next, spec, cleared, kind}

@@ -1,6 +1,5 @@
--- What the fields of a header name, as a word that is there or not: next names the header after it
--- where it stands in a chain (next_named, no_next), and first its first header where it is an
--- opened directory (first_named, no_first).
+-- What the fields of a header name, as an optional word: next names the header after it if it is in a chain (next_named, no_next), and
+-- first its first header if it is an opened directory (first_named, no_first).
 use Rattle.std.proofs.Common.{ℕ, inl, inr, List, Option, None, refl}
 use Rattle.romfs_format.specs.Fields.{root}
 use Rattle.romfs_format.specs.Chains.{IsFirst, IsNext, IsOpened, at_root, Stands}

@@ -1,6 +1,5 @@
--- What names are mixed to, number by number (no_hashes, one_hash), and which names stand once: one
--- name is mixed to one hash, so a hash that was seen once is that of a name which one number alone
--- has (told_alone), and names are apart whose hashes are (hashes_apart, apart_more).
+-- The hashes of names, number by number (no_hashes, one_hash), and which names occur once: a name has one hash, so a hash that occurs once
+-- is that of a name which only one number has (told_alone), and names with different hashes differ (hashes_apart, apart_more).
 use Rattle.std.proofs.Common.{◌≡◌, ◌≢◌, ◌∙◌, sym, ap, ℕ, ◌+◌, ◌<◌, inl, inr, List, [], ◌∷◌, ◌++◌, length, Bool, Option, Some, None, arith, length-append}
 use Rattle.std.specs.Prelude.{slice_index}
 use Rattle.std.proofs.lemmas.List.{get_or_at, get_or_append_left}
@@ -9,11 +8,11 @@ use Rattle.duplicate_keys.specs.Names.{name_hash, AreNamesApart}
 use Rattle.duplicate_keys.proofs.Keyed.{below_or_at}
 use Rattle.romfs_rules.specs.Names.{AreNameHashes, HaveTheirsAlone}
 
--- names that are there, and equal as such, are equal
+-- existing names that are equal as such are equal
 pub same_some : (x y : List ℕ) → ◌≡◌ {A = Option (List ℕ)} (Some x) (Some y) → x ≡ y
 same_some x y e = cc
 
--- a name that is there is not missing
+-- an existing name is not missing
 pub some_none : (x : List ℕ) → ◌≡◌ {A = Option (List ℕ)} (Some x) None → ⊥
 some_none x e = cc
 
@@ -51,7 +50,7 @@ apart_more hashes n new old = λ i j p q e. elim (below_or_at i n p) [
   ]
 ]
 
--- a number whose hash was seen once has its name alone
+-- a number whose hash occurs once has its name alone
 pub told_alone : (name : ℕ → Option (List ℕ)) (n : ℕ) (hashes : List ℕ) (once : List Bool)
     → AreNameHashes name n hashes → AreSeenOnce hashes once → HaveTheirsAlone name n once
 told_alone name n hashes once w seen k q l t e j m f =

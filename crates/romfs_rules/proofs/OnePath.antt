@@ -1,6 +1,5 @@
--- Where no header is linked twice, one number of names leads to each: it stands in one chain
--- (one_dir), so one number leads to its directory (one_depth, one_standing). Then the number with
--- which a walk comes to a header says whether it is too deep (is_deep, too_deep).
+-- If no header is linked twice, one number of names leads to each: it is in one chain (one_dir), so one number leads to its directory
+-- (one_depth, one_standing). Then the number with which a walk reaches a header says whether it is too deep (is_deep, too_deep).
 use Rattle.std.proofs.Common.{◌≡◌, ◌≢◌, sym, ap, subst, ℕ, zero, suc, ◌+◌, ◌<◌, ◌≤◌, ◌⊎◌, inl, inr, List, [], ◌∷◌, ◌++◌, length, Option, Some, None, refl, arith, lit≤, lit<, length-append}
 use Rattle.std.proofs.lemmas.Bool.{cases_eq, cases_order}
 use Rattle.romfs_format.specs.declared.rule.Rule.TheVariants.{Outside, NameOpen, LinkedTwice, TooDeep}

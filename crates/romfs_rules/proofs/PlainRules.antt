@@ -1,6 +1,5 @@
--- An image whose directories were all gone along keeps every rule. Each opened directory was gone
--- along (was_gone), so each header of its chain was seen (seen), each target is where a link ends
--- right away (target), one field names a header (one_field), and paths are short (short).
+-- An image whose directories were all walked keeps every rule. Each opened directory was walked (was_gone), so each header of its chain was
+-- passed (seen), each target is where a link ends right away (target), one field names a header (one_field), and paths are short (short).
 use Rattle.std.proofs.Common.{◌≡◌, ◌≢◌, ◌∙◌, sym, ap, subst, ℕ, zero, suc, ◌+◌, ◌<◌, ◌≤◌, ◌⊎◌, inl, inr, List, [], ◌∷◌, length, get_or, Bool, Some, IsNone, IsSomeAnd, refl, arith}
 use Rattle.std.specs.List.{Contains}
 use Rattle.std.proofs.lemmas.Bool.{false≢true, true≢false}
@@ -58,7 +57,7 @@ module _ (a : List ℕ) (v : IsVolumeImage a) (marks : List Bool) (d : Descends 
             (s.comes (λ e. p (inl (s.plain.own e, e))) (record { inside = i; kind = t; kept = λ q. p (inr q) })),
       )
 
-  -- each header in the chain of an opened directory was seen there
+  -- each header in the chain of an opened directory was passed there
   seen : (c h : ℕ) → IsOpened a c → IsInChain a c h → (n : ℕ) × Contains d.done (folder c n) × IsSeen a marks [] d.done (folder c n) h
   seen c h o k = let r = was_gone c o in (r.0, r.1, in_gone c r.0 h r.1 k)
 

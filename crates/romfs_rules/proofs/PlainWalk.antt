@@ -1,6 +1,5 @@
--- The walk over all directories, as lists. Descends says which of them were gone along (begun), also
--- once one more is (steps), which leaves less to do (less); what a chain that was gone along holds
--- was seen (seen_at).
+-- The walk over all directories, as lists. Descends says which of them were walked (begun), also once one more is (steps), which leaves
+-- less to do (less); the headers of a walked chain were passed (seen_at).
 use Rattle.std.proofs.Common.{◌≡◌, ◌≢◌, ◌∙◌, sym, ap, subst, ℕ, ◌+◌, ◌/◌, ◌<◌, ◌⊎◌, inl, inr, List, [], ◌∷◌, ◌++◌, length, get_or, replicate, Bool, false, arith, length-append}
 use Rattle.std.specs.List.{Contains}
 use Rattle.std.proofs.lemmas.List.Elements.{Contains-append_left, Contains-append_right, Contains-append_cases}
@@ -48,7 +47,7 @@ pub record Descends (a : List ℕ) (todo : List Folder) (marks : List Bool) : Ty
 unfoldable pub left : List Folder → List Bool → ℕ
 left todo marks = length todo + unmarked marks
 
--- a header in a chain that was gone along was seen
+-- a header in a walked chain was passed
 pub seen_at : (a : List ℕ) (marks : List Bool) (todo done : List Folder) (w : Folder) (h : ℕ) → IsGone a marks todo done w
     → IsInChain a w.header h → IsSeen a marks todo done w h
 seen_at a marks todo done w h g c = let x = g.at c.0 h c.1 in subst (λ y. IsSeen a marks todo done w y) x.1 (g.each c.0 x.0)

@@ -290,5 +290,5 @@ module _ (a : List ℕ) (Q : ℕ → Type 0) where
             q,
           )
 
--- what becomes of what was found, by a word that is there or not
+-- what becomes of what was found, by an optional word
 pub ruleset notes = (unnamed, noted, unnoted)

@@ -1,7 +1,6 @@
--- Which breach is named first: on a header the rules are tried by number (one_tried, first_broken),
--- the headers upward by slot (scan_more, asked_next, scan_all). The first breach is below the root,
--- inside, or past the end (breach_..); else the depth is asked (fault_by_depth, kept_by_depth), and
--- at last the attributes (fault_by_trailer, sound_by_trailer).
+-- Which breach is named first: on a header the rules are tried by number (one_tried, first_broken), the headers upward by slot (scan_more,
+-- asked_next, scan_all). The first breach is below the root, inside, or past the end (breach_..); else the depth is checked
+-- (fault_by_depth, kept_by_depth), and at last the attributes (fault_by_trailer, sound_by_trailer).
 use Rattle.std.proofs.Common.{◌≡◌, ◌∙◌, sym, subst, ℕ, ◌+◌, ◌*◌, ◌/◌, ◌<◌, ◌≤◌, ◌↔◌, ◌⊎◌, inl, inr, List, length, Bool, true, false, get_or, Option, Some, None, refl, arith, lit<, lit≤}
 use Rattle.std.proofs.lemmas.Bool.{cases_order, cases_lt, false≢true}
 use Rattle.romfs_format.specs.declared.rule.Rule.{Rule}
@@ -121,7 +120,7 @@ to_breaks profile b p = by_rule (λ r. BreaksHeader profile (image b) r p ↔ Br
   header_sum = same;
 })
 
--- a profile that does not look at sums asks of headers what the usual one does
+-- a profile that does not check sums requires of headers what the usual one does
 pub as_usual : (profile : Profile) (a : List ℕ) → asks_sums profile ≡ false → KeepsAllHeaderRules Usual a → KeepsAllHeaderRules profile a
 as_usual profile a skips k = record { keeps = λ s q x b. k.keeps s q x (same_there s q x b) }
   where
@@ -327,7 +326,7 @@ module _ (profile : Profile) (a : List ℕ) (v : IsVolumeImage a) where
 abbrev pub IsReachedBelow : List ℕ → ℕ → Type 0
 IsReachedBelow a h = IsReached a h × IsBeforeRoot a h
 
--- the header is reached, and from the root's on it is not whole in the image
+-- the header is reached, and from the root's on it is not completely in the image
 abbrev pub IsReachedAbove : List ℕ → ℕ → Type 0
 IsReachedAbove a h = IsReached a h × IsPastEnd a h
 

@@ -11,7 +11,7 @@ use Rattle.romfs_rules.specs.Marks.{Opens}
 abbrev pub IsTooDeep : List ℕ → Waiting → Type 0
 IsTooDeep a w = (MAX_NAMES ≤ w.names) × (w.header ≢ root a) × ¬ IsDotted a w.header
 
--- the least header so far, where w comes to it
+-- the least header so far, if w reaches it
 abbrev pub NotesDeep : List ℕ → Waiting → Option ℕ → Option ℕ → Type 0
 NotesDeep a w deep after =
     (IsTooDeep a w × (after ≡ Some (option_map_or (λ h. min h w.header) deep w.header)))

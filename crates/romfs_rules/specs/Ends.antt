@@ -1,4 +1,4 @@
--- Where the hard links of an image end, as walks along their chains found it.
+-- The ends of an image's hard links, as walks along their chains found them.
 use Rattle.std.specs.Prelude.{◌≡◌, ◌≢◌, ℕ, suc, ◌*◌, ◌/◌, ◌<◌, List, length, get_or}
 use Rattle.romfs_format.specs.declared.head.End.{End}
 use Rattle.romfs_format.specs.declared.head.End.TheVariants.{AtDirectory}
@@ -6,8 +6,8 @@ use Rattle.romfs_format.specs.Links.{IsHardLink, IsTarget, EndsAs}
 use Rattle.romfs_rules.specs.Marks.{AreMarks}
 use Rattle.slot_sets.specs.Words.{Words}
 
--- by slot, walks has the number of the walk that passed there, or 0; by walk, from 1, ends has
--- where its chain ends
+-- by slot, walks has the number of the walk that passed there, or 0; by walk, from 1, ends has the
+-- end of its chain
 pub record HasEnds (a walks : List ℕ) (ends : List End) : Type 0 where
   pub each : (k n : ℕ) → get_or walks k 0 ≡ suc n
       → (n < length ends) × EndsAs a (k * 16) (get_or ends n AtDirectory)
@@ -29,7 +29,7 @@ pub record KnowsEnd (a : List ℕ) (walks : Words) (ends : List End) (h : ℕ) :
 abbrev pub IsUnpassed : List ℕ → List ℕ → ℕ → Type 0
 IsUnpassed a walks slot = IsHardLink a (slot * 16) × (get_or walks slot 0 ≡ 0)
 
--- and stands on the destination chain of a member
+-- and is on the destination chain of a member
 abbrev pub IsUnpassedTarget : List ℕ → List ℕ → ℕ → Type 0
 IsUnpassedTarget a walks slot = IsTarget a (slot * 16) × IsUnpassed a walks slot
 

@@ -1,4 +1,4 @@
--- A reached header, with what the rules ask of it beside its bytes.
+-- A reached header, with what the rules need besides its bytes.
 use Rattle.std.specs.Prelude.{◌≡◌, ℕ, ◌+◌, ◌≤◌, ◌↔◌, List, length, IsTrue, Option, IfSome, MatchOption}
 use Rattle.std.specs.Option.{option_map}
 use Rattle.romfs_format.specs.declared.limits.TheConstants.{HEAD_SIZE}
@@ -12,13 +12,13 @@ use Rattle.romfs_format.specs.Rules.{IsUsed, BreaksHeader}
 use Rattle.romfs_rules.specs.Marks.{HasSlot, HasRootElsewhere}
 use Rattle.romfs_rules.specs.declared.header.Header.TheInside.{Inside}
 
--- the header at h is reached, and the root's is in no chain but its own, or stands at h
+-- the header at h is reached, and the root's is in no chain but its own, or is at h
 pub record IsAsked (a : List ℕ) (h : ℕ) : Type 0 where
   pub slot : HasSlot a h
   pub reached : IsReached a h
   pub alone : HasRootElsewhere a → h ≡ root a
 
--- where the chain of a member ends that is a hard link; none where h is not both
+-- the end of the chain of a member that is a hard link; none if h is not both
 abbrev pub IsEndOfMember : List ℕ → ℕ → Option End → Type 0
 IsEndOfMember a h end = MatchOption end (¬ (IsSomeMember a h × IsHardLink a h))
     (λ e. IsSomeMember a h × IsHardLink a h × EndsAs a h e)

@@ -10,7 +10,7 @@ use Rattle.romfs_format.specs.Rules.{Breaks, BreaksHeader, rule_number, IsNamedB
 use Rattle.romfs_rules.specs.Marks.{HasSlot}
 use Rattle.romfs_rules.specs.Outside.{IsLeast}
 
--- the rules of file headers, of which the least place is named
+-- the rules of file headers, for which the least place is named
 abbrev pub IsHeaderRule : Rule → Type 0
 IsHeaderRule r = (6 ≤ rule_number r) × (rule_number r < 17)
 
@@ -28,7 +28,7 @@ pub record IsFirstRule (profile : Profile) (a : List ℕ) (h : ℕ) (r : Rule) :
   pub broken : BreaksHeader profile a r h
   pub before : KeepsBefore profile a h (rule_number r)
 
--- the first of those with a number below n that h breaks; none where it keeps them all
+-- the first of those with a number below n that h breaks; none if it keeps them all
 abbrev pub IsFirstRuleBelow : Profile → List ℕ → ℕ → ℕ → Option Rule → Type 0
 IsFirstRuleBelow profile a h n rule =
     MatchOption rule (KeepsBefore profile a h n) (IsFirstRule profile a h)
@@ -59,12 +59,12 @@ pub record IsFirstBreach (profile : Profile) (a : List ℕ) (r : Rule) (p : ℕ)
   pub first : (s : Rule) (q : ℕ) → IsHeaderRule s → BreaksHeader profile a s q
       → ¬ IsNamedBefore s q r p
 
--- the first breach of a rule of file headers; none where there is none
+-- the first breach of a rule of file headers; none if there is none
 abbrev pub IsHeaderFault : Profile → List ℕ → Option ImageFault → Type 0
 IsHeaderFault profile a fault =
     MatchOption fault (KeepsAllHeaderRules profile a) (λ f. IsFirstBreach profile a f.rule f.place)
 
--- the least header that is too deep, where no header breaks another rule
+-- the least header that is too deep, if no header breaks another rule
 abbrev pub IsDeepFault : List ℕ → Option ImageFault → Option ℕ → Type 0
 IsDeepFault a fault deep = IsNone fault → IsLeast (BreaksHeader Usual a TooDeep) deep
 
@@ -73,7 +73,7 @@ pub record KeepsToDepth (profile : Profile) (b : List ℕ) : Type 0 where
   pub keeps : (r : Rule) (p : ℕ) → rule_number r < rule_number Attributes
       → ¬ Breaks profile b r p
 
--- the fault of b, whatever its attributes; none where it breaks no rule but theirs
+-- the fault of b, whatever its attributes; none if it breaks no rule but theirs
 abbrev pub IsFaultToDepth : Profile → List ℕ → Option ImageFault → Type 0
 IsFaultToDepth profile b fault =
     MatchOption fault (KeepsToDepth profile b) (λ f. IsFault profile b f.rule f.place)

@@ -5,15 +5,15 @@ use Rattle.romfs_format.specs.Fields.{root}
 use Rattle.romfs_format.specs.Chains.{IsFirst, IsNext}
 use Rattle.romfs_rules.specs.Marks.{IsInRootChain, IsElsewhere, Opens}
 
--- h stands in the chain of some opened directory
+-- h is in the chain of some opened directory
 abbrev pub IsInSomeChain : List ℕ → ℕ → Type 0
 IsInSomeChain a h = IsInRootChain a h ⊎ IsElsewhere a h
 
--- h stands in a chain where it is not passed over as the root's own
+-- h is in a chain where it is not passed over as the root's own
 abbrev pub StandsKept : List ℕ → ℕ → Type 0
 StandsKept a h = (IsInRootChain a h × (h ≢ root a)) ⊎ IsElsewhere a h
 
--- P holds of the word, if it is there, and of no other header
+-- P holds for the word, if there is one, and for no other header
 pub record IsTheOne (P : ℕ → Type 0) (word : Option ℕ) : Type 0 where
   pub each : (h : ℕ) → (word ≡ Some h) ↔ P h
 

@@ -14,7 +14,7 @@ pub record IsVolumeImage (a : List ℕ) : Type 0 where
   pub behind : 2 * HEAD_SIZE ≤ root a
   pub inside : root a + HEAD_SIZE ≤ length a
 
--- a header may stand at h
+-- there may be a header at h
 pub record HasSlot (a : List ℕ) (h : ℕ) : Type 0 where
   pub inside : IsInside a h
   pub aligned : cleared h ≡ h
@@ -27,13 +27,13 @@ IsMarked marks h = get_or marks (h / 16) false ≡ true
 abbrev pub IsFresh : List ℕ → List Bool → ℕ → Type 0
 IsFresh a marks h = IsInside a h × (h / 16 < length marks) × (get_or marks (h / 16) false ≡ false)
 
--- the marks are those of the headers inside the image of which P holds
+-- the marks are those of the headers inside the image for which P holds
 pub record AreMarks (a : List ℕ) (P : ℕ → Type 0) (marks : List Bool) : Type 0 where
   pub sized : length marks ≡ length a / 16
   pub each : (k : ℕ) → get_or marks k false ≡ true → P (k * 16) × IsInside a (k * 16)
   pub all : (h : ℕ) → P h → IsInside a h → IsMarked marks h
 
--- the headers inside the image of which P holds, rising
+-- the headers inside the image for which P holds, rising
 pub record IsListOf (a : List ℕ) (P : ℕ → Type 0) (found : List ℕ) : Type 0 where
   pub each : (h : ℕ) → Contains found h → P h
   pub all : (h : ℕ) → P h → IsInside a h → cleared h ≡ h → Contains found h
@@ -43,7 +43,7 @@ pub record IsListOf (a : List ℕ) (P : ℕ → Type 0) (found : List ℕ) : Typ
 abbrev pub IsInRootChain : List ℕ → ℕ → Type 0
 IsInRootChain a h = IsInChain a (root a) h
 
--- h stands in the chain of an opened directory other than the root
+-- h is in the chain of an opened directory other than the root
 pub record IsElsewhere (a : List ℕ) (h : ℕ) : Type 0 where
   pub dir : ℕ
   pub other : dir ≢ root a

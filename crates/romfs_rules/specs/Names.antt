@@ -21,7 +21,7 @@ pub record AreNameHashes (name : ℕ → Option (List ℕ)) (n : ℕ) (hashes : 
   pub level : length hashes ≡ n
   pub each : (k : ℕ) (q : List ℕ) → k < n → name k ≡ Some q → slice_index hashes k ≡ name_hash q
 
--- whoever is told, if it has a name, has it alone
+-- each that is marked and has a name has it alone
 abbrev pub HaveTheirsAlone : (ℕ → Option (List ℕ)) → ℕ → List Bool → Type 0
 HaveTheirsAlone name n told =
     (k : ℕ) (q : List ℕ) → k < n → get_or told k false ≡ true → name k ≡ Some q

@@ -18,7 +18,7 @@ NamesBySpec a h g = IsLink a (first_of h) g ⊎ NamesDestination a h g
 abbrev pub Names : List ℕ → ℕ → ℕ → Type 0
 Names a h g = IsLink a (next_of h) g ⊎ NamesBySpec a h g
 
--- the number is the least of P; there is none where nothing is of P
+-- the number is the least of P; there is none if nothing is in P
 pub record IsLeast (P : ℕ → Type 0) (least : Option ℕ) : Type 0 where
   pub is : (h : ℕ) → least ≡ Some h → P h
   pub whole : (h : ℕ) → P h → (g : ℕ) × (least ≡ Some g) × (g ≤ h)
@@ -27,7 +27,7 @@ pub record IsLeast (P : ℕ → Type 0) (least : Option ℕ) : Type 0 where
 abbrev pub IsBeforeRoot : List ℕ → ℕ → Type 0
 IsBeforeRoot a h = h < root a
 
--- from the root's header on, and not whole in the image
+-- from the root's header on, and not completely in the image
 abbrev pub IsPastEnd : List ℕ → ℕ → Type 0
 IsPastEnd a h = (root a ≤ h) × (length a < h + HEAD_SIZE)
 
@@ -35,11 +35,11 @@ IsPastEnd a h = (root a ≤ h) × (length a < h + HEAD_SIZE)
 abbrev pub IsLeastBelow : List ℕ → Option ℕ → Type 0
 IsLeastBelow a least = IsLeast (λ h. IsReached a h × IsBeforeRoot a h) least
 
--- the number is the least reached header from the root's on that is not whole in the image
+-- the number is the least reached header from the root's on that is not completely in the image
 abbrev pub IsLeastPastEnd : List ℕ → Option ℕ → Type 0
 IsLeastPastEnd a least = IsLeast (λ h. IsReached a h × IsPastEnd a h) least
 
--- the lesser of a word and what was found before
+-- the lesser of a word and the one found before
 abbrev pub lesser : Option ℕ → ℕ → ℕ
 lesser None word = word
 lesser (Some least) word = if nat_le least word then least else word

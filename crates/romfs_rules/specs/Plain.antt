@@ -1,4 +1,4 @@
--- What a walk down from the root sees of an image that plainly keeps every rule.
+-- What a walk down from the root finds in an image that plainly keeps every rule.
 use Rattle.std.specs.Prelude.{◌≡◌, ◌≢◌, ℕ, ◌+◌, ◌/◌, ◌<◌, ◌≤◌, ◌⊎◌, List, length, get_or, Bool, true, false, not, count_by, Some, Contains}
 use Rattle.duplicate_keys.specs.Names.{name_hash}
 use Rattle.romfs_format.specs.declared.head.Kind.TheVariants.{HardLink, Directory}
@@ -63,8 +63,8 @@ pub record WalkState : Type 0 where
   pub heads : List ℕ
   pub hashes : List ℕ
 
--- h stands at position i of the chain of w, as a walk along it found it: it had no mark before, and
--- is still to come as a directory, if it is one
+-- h is at position i of the chain of w, as a walk along it found it: it had no mark before, and is
+-- still to come as a directory, if it is one
 pub record IsPassed (a : List ℕ) (w : Folder) (old new : WalkState) (i h : ℕ) : Type 0 where
   pub at : IsAt a w.header i h
   pub plain : IsPlainHeader a w h
@@ -84,7 +84,7 @@ pub record PassesFront (a : List ℕ) (w : Folder) (old new : WalkState) : Type 
   pub inside : (v : Folder) → Contains new.todo v → Contains old.todo v ⊎ IsInside a v.header
   pub few : length new.todo ≤ length old.todo + length new.heads
 
--- the whole chain was, and the hashes are what its names are mixed to
+-- the full chain was, and the hashes are those of its names
 pub record PassesChain (a : List ℕ) (w : Folder) (old new : WalkState) : Type 0 where
   pub front : PassesFront a w old new
   pub hashed : AreNameHashes (kept_names a new.heads) (length new.heads) new.hashes
@@ -95,7 +95,7 @@ pub record PassesFolder (a : List ℕ) (w : Folder) (old new : WalkState) : Type
   pub chain : PassesChain a w old new
   pub apart : HaveNamesApart a new.heads
 
--- a header of the chain of w, which comes to the directories after, if it is one
+-- a header of the chain of w, which joins the directories after it, if it is one
 pub record AddsFolder (a : List ℕ) (w : Folder) (at : ℕ) (before after : List Folder) : Type 0 where
   pub comes : at ≢ root a → Opens a at → Contains after (folder at (w.names + 1))
   pub waits : (v : Folder) → Contains before v → Contains after v

@@ -1,4 +1,4 @@
--- The headers in chains, by number, and those of which a member of the same directory has the name.
+-- The headers in chains, by number, and those whose name another member of their directory has.
 use Rattle.std.specs.Prelude.{◌≡◌, ℕ, ◌+◌, ◌/◌, ◌<◌, List, length, get_or, Bool, true, false, Contains}
 use Rattle.romfs_format.specs.Fields.{root, IsInside}
 use Rattle.romfs_format.specs.Chains.{IsNext, Stands}
@@ -12,7 +12,7 @@ pub record HaveSameNames (a found : List ℕ) : Type 0 where
   pub all : (h : ℕ) → HasSameName a h → Contains found h
   pub rising : (i j : ℕ) → i < j → j < length found → get_or found i 0 < get_or found j 0
 
--- where the root's header stands in no chain but its own, and headers that rise in any case
+-- if the root's header is in no chain but its own, and headers that rise in any case
 pub record HaveSameNamesIfAlone (a found : List ℕ) : Type 0 where
   pub names : ¬ IsElsewhere a (root a) → HaveSameNames a found
   pub rising : (i j : ℕ) → i < j → j < length found → get_or found i 0 < get_or found j 0
@@ -31,7 +31,7 @@ pub record AreNumbered (a heads : List ℕ) (set : List Bool) : Type 0 where
   pub place : (h : ℕ) → IsLinked a h
       → (rank set (h / 16) < length heads) × (get_or heads (rank set (h / 16)) 0 ≡ h)
 
--- the number of the header after h, or that of headers where there is none inside the image
+-- the number of the header after h, or the count of headers if there is none inside the image
 pub record IsNextNumber (a heads : List ℕ) (h number : ℕ) : Type 0 where
   pub below : number < length heads + 1
   pub only : number < length heads → IsNext a h (get_or heads number 0)

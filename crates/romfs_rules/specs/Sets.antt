@@ -9,8 +9,7 @@ use Rattle.romfs_rules.specs.Ends.{AreWalkedEnds}
 use Rattle.romfs_rules.specs.Outside.{IsLeastBelow, IsLeastPastEnd}
 use Rattle.romfs_rules.specs.SameNames.{HaveSameNamesIfAlone}
 
--- the sets are what their names say; equal names are known where the root stands in no chain but
--- its own
+-- the sets are what their names say; equal names are known if the root is in no chain but its own
 pub record AreSets {A : Type 0} (a : List ℕ) (sets : Inside A) : Type 0 where
   pub chains : AreChains a sets.chains.now
   pub targets : AreMarks a (IsTarget a) sets.targets.now

@@ -17,8 +17,8 @@ pub record IsClosed (a : List ℕ) (marks : List Bool) : Type 0 where
   pub each : (k : ℕ) → get_or marks k false ≡ true → IsHardLink a (k * 16)
       → IsFollowed a marks (k * 16)
 
--- the new marks are the old ones, and those of headers on the destination chain of h, where h leads
--- among them
+-- the new marks are the old ones, and those of headers on the destination chain of h, with the
+-- destination of h among them
 pub record FollowsLink (a : List ℕ) (h : ℕ) (old new : List Bool) : Type 0 where
   pub sized : length new ≡ length old
   pub kept : (k : ℕ) → get_or old k false ≡ true → get_or new k false ≡ true

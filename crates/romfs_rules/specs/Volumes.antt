@@ -1,4 +1,4 @@
--- What the volume header of an image breaks and keeps.
+-- The rules that the volume header of an image breaks and keeps.
 use Rattle.std.specs.Prelude.{ℕ, ◌+◌, ◌≤◌, List, length, Option, MatchOption}
 use Rattle.romfs_format.specs.declared.limits.TheConstants.{HEAD_SIZE}
 use Rattle.romfs_format.specs.declared.rule.ImageFault.{ImageFault}
@@ -6,8 +6,7 @@ use Rattle.romfs_format.specs.declared.rule.Profile.{Profile}
 use Rattle.romfs_format.specs.Fields.{image, root, word}
 use Rattle.romfs_format.specs.Rules.{IsFault, IsVolume}
 
--- the fault of b under every profile, which is of its volume header; none where that keeps its
--- rules
+-- the fault of b under every profile, in its volume header; none if that keeps its rules
 abbrev pub IsVolumeFault : List ℕ → Option ImageFault → Type 0
 IsVolumeFault b fault =
     MatchOption fault (IsVolume b) (λ f. (profile : Profile) → IsFault profile b f.rule f.place)

@@ -1,8 +1,8 @@
-//! Which headers stand in the root's chain, and which in chains of other directories.
+//! Which headers are in the root's chain, and which in chains of other directories.
 //!
 //! Chains may merge, loop or be shared, so none but the root's is walked on its own: one list of
-//! headers to come serves all other directories together. A header that comes without a mark gets
-//! one, and adds the header after it and, as a directory, its first. So each is passed once.
+//! headers to come serves all other directories together. A header without a mark gets one, and
+//! adds the header after it and, as a directory, its first. Each is thus passed once.
 
 ghost use Rattle.std.specs.Prelude.{◌≡◌, ◌+◌, ◌/◌, ◌<◌, ◌++◌, false, length, replicate, IfOk};
 ghost use Rattle.std.specs.Option.{option_to_list};
@@ -19,13 +19,13 @@ use romfs_format::read::cleared;
 use slot_sets::SlotSet;
 use std::alloc::{AllocError, Allocator};
 
-/// The headers in chains. Which of them stand in the root's and which elsewhere matters for the
-/// root's own header alone.
+/// The headers in chains. Which of them are in the root's and which elsewhere matters only for the
+/// root's own header.
 #[derive(Drop)]
 pub(crate) struct Chains<A: Allocator> {
     /// The headers in the chain of some opened directory.
     pub(crate) headers: SlotSet<A>,
-    /// Whether the root's header stands in the chain of another directory.
+    /// Whether the root's header is in the chain of another directory.
     pub(crate) root_elsewhere: bool,
 }
 

@@ -1,6 +1,6 @@
 //! Members whose paths have too many names.
 //!
-//! It is asked only where an image breaks no other rule. Then one number of names leads to each
+//! It is checked only if an image breaks no other rule. Then one number of names leads to each
 //! header, so a walk down from the root carries that number with it and passes each header once.
 
 ghost use Rattle.std.specs.Prelude.{◌≡◌, [], ◌+◌, ◌/◌, ◌<◌, ◌↔◌, ◌^◌, ◌++◌, false, length, replicate, IsTrue, IfOk};

@@ -1,4 +1,4 @@
-//! Where the hard links of an image end. They may lead to one another in chains that many share, so
+//! The ends of an image's hard links. They may lead to one another in chains that many share, so
 //! each walk along a chain leaves its number at the headers that it passes, and a walk that comes
 //! to another's number ends as that one did:
 //!
@@ -23,17 +23,17 @@ use romfs_format::read::{cleared, kind_of};
 use slot_sets::{SlotSet, SlotWords};
 use std::alloc::{AllocError, Allocator};
 
-/// Where the chains end of the hard links that members' hard links lead over.
+/// The ends of the chains of the hard links that members' hard links lead over.
 #[derive(Drop)]
 pub(crate) struct WalkedEnds<'s, A: Allocator> {
-    /// The number of the walk that passed each, from 1; 0 where none did.
+    /// The number of the walk that passed each, from 1; 0 if none did.
     pub(crate) walks: SlotWords<'s, A>,
-    /// Where each walk ended.
+    /// The end of each walk.
     pub(crate) ends: Vec<End, A>,
 }
 
 impl<'s, A: Allocator> WalkedEnds<'s, A> {
-    /// Where the chain of a member ends that is a hard link.
+    /// The end of the chain of a member that is a hard link.
     pub(crate) fn of_member(&self, volume: &Volume, at: usize) -> End
         requires ends { AreWalkedEnds volume.now.bytes.now self.now.walks self.now.ends.items }
         requires member { IsSomeMember volume.now.bytes.now at }
@@ -48,7 +48,7 @@ impl<'s, A: Allocator> WalkedEnds<'s, A> {
         }
     }
 
-    // Where the chain of one of these hard links ends.
+    // The end of the chain of one of these hard links.
     fn at(&self, at: usize) -> End
         requires { (a : List ℕ) × KnowsEnd a self.now.walks self.now.ends.items at }
         ensures { (a : List ℕ) → KnowsEnd a self.now.walks self.now.ends.items at
@@ -80,7 +80,7 @@ impl<'s, A: Allocator> WalkedEnds<'s, A> {
     }
 }
 
-/// Follows each hard link that members' hard links lead over to where it ends.
+/// Follows each hard link that members' hard links lead over to its end.
 pub(crate) fn find_ends<'s, A: Allocator + Copy>(
     alloc: A,
     volume: &Volume,
@@ -107,7 +107,7 @@ fn is_left<A: Allocator>(volume: &Volume, slot: usize, walks: &SlotWords<A>) -> 
     walks.at(slot) == 0 && is_hard_link(volume, slot * 16)
 }
 
-// Where the chain of a hard link ends. Marks each hard link on the way with the number of this
+// The end of the chain of a hard link. Marks each hard link on the way with the number of this
 // walk, up to one that an earlier walk passed.
 fn end_of<A: Allocator>(volume: &Volume, from: usize, walks: &mut SlotWords<A>, ends: &[End]) -> End
     requires aligned { cleared from ≡ from }
@@ -138,7 +138,7 @@ fn end_of<A: Allocator>(volume: &Volume, from: usize, walks: &mut SlotWords<A>, 
     end_at(volume, at)
 }
 
-// Where a chain ends at a header that is no hard link.
+// The end of a chain at a header that is no hard link.
 fn end_at(volume: &Volume, at: usize) -> End
     requires at { at < 2 ^ 32 }
     requires last { ¬ IsHardLink volume.now.bytes.now at }

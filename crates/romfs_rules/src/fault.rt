@@ -26,12 +26,12 @@ use held_image::read::{root_of, word};
 use romfs_format::{ImageFault, Profile};
 use std::alloc::{AllocError, Allocator};
 
-/// The fault of some bytes as an image, under a profile; none where they break no rule of it.
+/// The fault of some bytes as an image, under a profile; none if they break no rule of it.
 ///
 /// That is the first broken rule of the volume header; else, of all broken rules of file headers,
 /// the one at the least place, and there the first; else a path of too many names, at the least
-/// such header; else, under a profile with attributes, a trailer that is broken, where it begins.
-/// The error comes only where memory was refused.
+/// such header; else, under a profile with attributes, a broken trailer, at its start. Fails only
+/// if memory was refused.
 ///
 /// It takes n log n steps in headers and one pass over the bytes of the image, whatever they are,
 /// or over those that are kept of it. Beside them it takes at most a byte for each 40 of the image
@@ -68,7 +68,7 @@ fn fault_to_depth<A: Allocator + Copy>(
     }
 }
 
-// The fault of an image, where that before its attributes are looked at is known.
+// The fault of an image, if that before its attributes is known.
 #[tactic(auto, using(crate::proofs::Verdict::long_enough))]
 fn fault_with_attributes(
     image: &Held<'_>,
@@ -90,9 +90,9 @@ fn fault_with_attributes(
     }
 }
 
-// The fault of an image that keeps the rules of the volume header, by its accessible bytes,
-// whatever its attributes; none where it breaks no other rule. Most images are plainly sound, and
-// then no set is made.
+// The fault of an image that keeps the rules of the volume header, from its accessible bytes,
+// whatever its attributes; none if it breaks no other rule. Most images are plainly sound, and then
+// no set is made.
 fn fault_in<A: Allocator + Copy>(
     alloc: A,
     volume: &Volume,
@@ -107,8 +107,8 @@ fn fault_in<A: Allocator + Copy>(
     }
 }
 
-// Whether an image keeps all rules of headers, as far as one walk tells. Their sums are not looked
-// at there, so under a strict profile it is not told.
+// Whether one walk finds that an image keeps all rules of headers. It does not check their sums, so
+// never under a strict profile.
 fn is_plain_by<A: Allocator + Copy>(
     alloc: A,
     volume: &Volume,
@@ -124,7 +124,7 @@ fn is_plain_by<A: Allocator + Copy>(
     }
 }
 
-// What [`fault_in`] tells, by sets of the image's headers.
+// The result of [`fault_in`], from sets of the image's headers.
 fn fault_by_sets<A: Allocator + Copy>(
     alloc: A,
     volume: &Volume,
@@ -154,8 +154,8 @@ fn find_header_fault<A: Allocator + Copy>(
     find_header_fault_by_chains(alloc, volume, profile, &chains, &same_names, &twice)
 }
 
-// The headers of which a member of the same directory has the name at a lower place; none where the
-// root stands in another chain than its own, since then no fault of a name is the first.
+// The headers whose name another member of their directory has at a lower place; none if the root
+// is in another chain than its own, since then no fault of a name is the first.
 fn same_names_below<A: Allocator + Copy>(
     alloc: A,
     volume: &Volume,
@@ -171,8 +171,8 @@ fn same_names_below<A: Allocator + Copy>(
     }
 }
 
-// The first breach of a rule of file headers, where what goes by chains is known: by these sets,
-// and by those of hard links, which are made here.
+// The first breach of a rule of file headers, from these sets of chains and from those of hard
+// links, which are made here.
 fn find_header_fault_by_chains<A: Allocator + Copy>(
     alloc: A,
     volume: &Volume,

@@ -1,8 +1,8 @@
 //! A header that is reached, and the first rule of file headers that it breaks.
 //!
-//! What the rules ask of a header beside its bytes (whether it is a member, whether two links name
-//! it, where its hard links end) is looked up once, when the header is made (`Sets::header`). Then
-//! no rule looks at a set.
+//! What rules need besides a header's bytes (whether it is a member, whether two links name it,
+//! where its hard links end) is looked up once, when the header is made (`Sets::header`). Then no
+//! rule reads a set.
 
 ghost use Rattle.std.specs.Prelude.{◌≡◌, ◌+◌, ◌<◌, ◌≤◌, ◌↔◌, length, IsTrue, MatchOption};
 ghost use Rattle.romfs_format.specs.declared.limits.TheConstants.{HEAD_SIZE};
@@ -22,7 +22,7 @@ use romfs_format::read::{kind_of, padded};
 use romfs_format::rule::{ImageFault, Profile, Rule};
 use std::marker::Model;
 
-/// A reached header inside an image. A clause sees the image and where the header stands.
+/// A reached header inside an image. A clause sees the image and the header's place.
 #[derive(Drop)]
 pub(crate) struct Header<'h> {
     pub(crate) volume: &'h Volume<'h>,
@@ -35,10 +35,10 @@ pub(crate) struct Header<'h> {
     pub(crate) used: bool,
     /// Whether two links name it, or another directory's chain holds it as the root's.
     pub(crate) twice: bool,
-    /// Whether a member of the same directory has its name at a lower place; any value where
-    /// `twice` is true.
+    /// Whether a member of the same directory has its name at a lower place; any value if `twice`
+    /// is true.
     pub(crate) same_name: bool,
-    /// Where its hard links end, if it is a member and a hard link.
+    /// The end of its hard links, if it is a member and a hard link.
     pub(crate) end: Option<End>,
 }
 
@@ -112,8 +112,8 @@ impl<'h> Header<'h> {
         None
     }
 
-    // The first rule of links and of names in a directory that it breaks, where it keeps those
-    // before these.
+    // The first rule of links and of names in a directory that it breaks, if it keeps those before
+    // these.
     fn first_of_links(&self) -> Option<Rule>
         ensures { (profile : Profile)
             → KeepsBefore profile self.now.image self.now.at (rule_number Rule.LinkedTwice)

@@ -1,7 +1,7 @@
 //! The first rule of file headers that an image breaks, from sets of its headers.
 //!
-//! The headers that are reached are gone over once, upward. Each is made a `Header`, for which all
-//! sets are asked; the scan ends at the first that breaks a rule.
+//! The reached headers are scanned once, upward. Each is made a `Header`, for which all sets are
+//! queried; the scan ends at the first that breaks a rule.
 
 ghost use Rattle.std.specs.Prelude.{◌≡◌, ℕ, List, ◌*◌, ◌<◌, ◌↔◌, ◌/◌, length, IsTrue, MatchOption};
 ghost use Rattle.romfs_format.specs.declared.rule.Profile.TheVariants.{Usual};
@@ -39,9 +39,9 @@ pub(crate) struct Sets<'s, A: Allocator> {
     /// Those that two links name, rising.
     pub(crate) twice: &'s [u32],
     /// Those whose name a member of the same directory has at a lower place, rising. It may be
-    /// empty where the root's header stands in the chain of another directory.
+    /// empty if the root's header is in the chain of another directory.
     pub(crate) same_names: &'s [u32],
-    /// Where the hard links of members end.
+    /// The ends of members' hard links.
     pub(crate) ends: &'s WalkedEnds<'s, A>,
     /// The least of those that lie outside the image.
     pub(crate) outside: Outside,
@@ -138,7 +138,7 @@ impl<'s, A: Allocator> Sets<'s, A> {
         is_listed(self.twice, at) || at == self.volume.root && self.chains.root_elsewhere
     }
 
-    // Where the hard links of a header end, if it is a member and a hard link.
+    // The end of a header's hard links, if it is a member and a hard link.
     fn end_of(&self, at: usize, member: bool) -> Option<End>
         requires slot { HasSlot self.now at }
         requires member { IsTrue member ↔ IsSomeMember self.now at }

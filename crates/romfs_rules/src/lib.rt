@@ -1,17 +1,16 @@
 //! Which rule of romfs an image breaks.
 //!
 //! [`first_fault`] answers for every list of bytes, whatever a stranger made: directories whose
-//! chains merge, loop or lead anywhere, links to links, names that come twice. It reads an image
-//! that is held, whole or by what is kept of it (`held_image`). Most images keep every rule, and
-//! one walk down from the root shows it (`plain`, `plain_header`). Of all others it collects sets
-//! of headers (`chains`, `same_names`, `twice`, `targets`, `ends`), as a bit for every 16 bytes of
-//! the image or as a rising list (`slot_sets`); then it goes upward once over the headers that are
-//! reached (`judge`) and asks each for the first rule that it breaks (`header`); then the depth is
-//! looked at (`depth`), and at last the attribute trailer (`attribute_rows`). Each walk is a loop,
-//! and each visits a header a constant number of times. What [`first_fault`] promises is
-//! `IsFaultOf`, of `romfs_format`.
+//! chains merge, loop or lead anywhere, links to links, names that come twice. It reads a held
+//! image, in full or in part (`held_image`). Most images keep every rule, and one walk down from
+//! the root shows it (`plain`, `plain_header`). For all others it collects sets of headers
+//! (`chains`, `same_names`, `twice`, `targets`, `ends`), as a bit for every 16 bytes of the image
+//! or as a rising list (`slot_sets`); then it scans the reached headers once, upward (`judge`), for
+//! the first rule that each breaks (`header`); then it checks the depth (`depth`), and at last the
+//! attribute trailer (`attribute_rows`). Each walk is a loop, and each visits a header a constant
+//! number of times. What [`first_fault`] promises is `IsFaultOf`, of `romfs_format`.
 //!
-//! Images are read by `held_image`, so it answers the same of an image that is held whole and of
+//! Images are read by `held_image`, so the result is the same for an image held in full and for
 //! what is kept of one that stays in its file.
 #![tactic(auto)]
 

@@ -1,4 +1,4 @@
-//! What a header is to the directories in whose chains it stands.
+//! What a header is to the directories whose chains have it.
 
 ghost use Rattle.std.specs.Prelude.{◌≡◌, ◌+◌, ◌/◌, ◌<◌, ◌↔◌, false, IsTrue};
 ghost use Rattle.std.specs.Option.{option_map};
@@ -38,7 +38,7 @@ pub(crate) fn opens(volume: &Volume, at: usize) -> bool
     kind_of(word(volume.bytes, at)) == Kind::Directory && !is_dotted(volume, at)
 }
 
-/// Whether a header stands in a chain.
+/// Whether a header is in a chain.
 pub(crate) fn is_in_chain<A: Allocator>(volume: &Volume, at: usize, chains: &Chains<A>) -> bool
     requires slot { HasSlot volume.now.bytes.now at }
     requires chains { AreChains volume.now.bytes.now chains.now }
@@ -81,7 +81,7 @@ pub(crate) fn is_member_by<A: Allocator>(
     stands_kept(volume, at, chains) && !is_dotted_by(volume, at, name)
 }
 
-// Whether a header stands in a chain, the root's in another than its own.
+// Whether a header is in a chain, the root's in another than its own.
 fn stands_kept<A: Allocator>(volume: &Volume, at: usize, chains: &Chains<A>) -> bool
     requires slot { HasSlot volume.now.bytes.now at }
     requires chains { AreChains volume.now.bytes.now chains.now }

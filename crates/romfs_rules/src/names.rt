@@ -1,8 +1,8 @@
 //! Names of headers, as classes of their numbers, for the rule that a directory holds a name once.
-//! Whether a name is a bad one, `header` tells.
+//! Bad names are left to `header`.
 //!
-//! Most names stand once. So the names of all headers are mixed to numbers first, and those that
-//! were seen once among these are left out of the sort that finds equal ones.
+//! Most names occur once. So the names of all headers are hashed first, and those whose hash occurs
+//! once are left out of the sort that finds equal ones.
 
 ghost use Rattle.std.specs.Prelude.{◌≡◌, ◌+◌, ◌<◌, ◌≤◌, ◌^◌, ℕ, IfOk, IsTrue, MatchOption, length, get_or, slice_index};
 ghost use Rattle.std.specs.Option.{option_map};
@@ -18,8 +18,8 @@ use romfs_format::limits::HEAD_SIZE;
 use romfs_format::read::is_dot_name;
 use std::alloc::{AllocError, Allocator};
 
-/// The classes of headers by their names and what these are mixed to, each a number of a header,
-/// with one more for none; None only where no two headers have one name.
+/// The classes of headers by their names and hashes, each a number of a header, with one more for
+/// none; None only if no two headers have the same name.
 pub(crate) fn name_classes_by<A: Allocator + Copy>(
     alloc: A,
     volume: &Volume,
@@ -70,7 +70,7 @@ pub(crate) fn have_hashes_apart(hashes: &[u64]) -> bool
     true
 }
 
-// What the name of each header is mixed to, and 0 where it has none.
+// The hash of each header's name, and 0 if it has none.
 fn name_hashes<A: Allocator + Copy>(
     alloc: A,
     volume: &Volume,
@@ -92,8 +92,7 @@ fn name_hashes<A: Allocator + Copy>(
     Ok(hashes)
 }
 
-// The headers that have a name, each with it, but those of which it is told that theirs stands
-// once.
+// The headers that have a name, each with it, except those whose name is known to occur once.
 fn named_headers<'a, A: Allocator + Copy>(
     alloc: A,
     volume: &Volume<'a>,

@@ -1,7 +1,8 @@
 //! Headers that are reached, and lie outside the image.
 //!
 //! Only the least on each side can be the first fault, so two numbers are kept and no set. Each
-//! reached header but the root's is named by one inside, so the headers inside are gone over once.
+//! reached header but the root's is named by one inside, so one scan over the headers inside is
+//! enough.
 
 ghost use Rattle.std.specs.Prelude.{◌≡◌, ◌*◌, ◌/◌, ◌<◌, ◌⊎◌, ◌↔◌, IsTrue};
 ghost use Rattle.romfs_format.specs.Chains.{IsSomeMember};
@@ -63,7 +64,7 @@ pub(crate) fn find_outside<A: Allocator>(
     found
 }
 
-// What tells where headers lead. A clause sees the image.
+// What gives the destinations of headers. A clause sees the image.
 #[derive(Drop)]
 struct Known<'k, A: Allocator> {
     volume: &'k Volume<'k>,
@@ -166,7 +167,7 @@ fn note(found: Outside, volume: &Volume, word: Option<u32>) -> Outside
     }
 }
 
-// The lesser of a word and what was found before.
+// The lesser of a word and the one found before.
 fn lesser(found: Option<u32>, word: u32) -> u32
     ensures { result ≡ lesser found word }
 {

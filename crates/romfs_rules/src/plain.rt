@@ -1,9 +1,9 @@
 //! Images that plainly keep every rule.
 //!
-//! Most images do, and then one walk down from the root shows it: each directory's chain is gone
-//! along once, each header is looked at where it stands, and none is come to twice. So no other
-//! walk is needed, and no set but one. Where anything is unusual the walk ends, and it is left to
-//! the other modules whether a rule is broken, and which.
+//! Most images do, and then one walk down from the root shows it: each directory's chain is
+//! followed once, each header is checked in its place, and none is reached twice. No other walk is
+//! needed, and only one set. At anything unusual the walk ends, and the other modules find whether
+//! a rule is broken, and which.
 
 ghost use Rattle.std.specs.Prelude.{◌≡◌, ℕ, [], ◌+◌, ◌/◌, ◌<◌, ◌≤◌, ◌^◌, IfOk, IsTrue, length, get_or};
 ghost use Rattle.romfs_format.specs.declared.limits.TheConstants.{HEAD_SIZE};
@@ -32,7 +32,7 @@ pub(crate) struct Folder {
     pub(crate) names: u32,
 }
 
-/// Whether an image keeps all rules behind the volume header, as far as one walk tells.
+/// Whether one walk finds that an image keeps all rules after the volume header.
 pub(crate) fn is_plain_image<A: Allocator + Copy>(
     alloc: A,
     volume: &Volume,
@@ -84,8 +84,8 @@ impl<A: Allocator> Model for Walk<A> {
 }
 
 impl<A: Allocator + Copy> Walk<A> {
-    // Goes along the chain of a directory, and tells whether each header there is new and plain,
-    // and no two members have one name.
+    // Follows the chain of a directory, and says whether each header there is new and plain, and no
+    // two members have the same name.
     fn is_plain_folder(
         &mut self,
         alloc: A,

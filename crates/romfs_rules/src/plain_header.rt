@@ -1,8 +1,7 @@
 //! Headers that break no rule by their own bytes.
 //!
-//! What is asked of a header here is a little more than the rules ask: a hard link ends right where
-//! it leads, and each name is ended, also the root's. A header of which it is not told may be sound
-//! all the same.
+//! A plain header must keep a little more than the rules: a hard link ends right where it leads,
+//! and each name is ended, also the root's. A header that is not plain may still be sound.
 
 ghost use Rattle.std.specs.Prelude.{◌≡◌, ◌+◌, ◌<◌, ◌≤◌, ◌^◌, length, IsTrue, IfSome, Some};
 ghost use Rattle.romfs_format.specs.declared.limits.TheConstants.{HEAD_SIZE};
@@ -19,8 +18,8 @@ use romfs_format::head::Kind;
 use romfs_format::limits::{HEAD_SIZE, MAX_NAMES};
 use romfs_format::read::{cleared, is_dot_name, kind_of};
 
-/// What the name is mixed to of a header in the chain of a directory, if the header breaks no rule
-/// by its own bytes; none where it may break some.
+/// The hash of the name of a header in the chain of a directory, if the header breaks no rule by
+/// its own bytes; none if it may break some.
 #[inline(always)]
 pub(crate) fn plain_hash(volume: &Volume, folder: Folder, at: usize) -> Option<u64>
     requires { IsInside volume.now.bytes.now at }

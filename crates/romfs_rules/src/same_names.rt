@@ -1,10 +1,10 @@
 //! Members of a directory that have the name of another.
 //!
-//! Chains may merge and go round, so that a header may stand in the chains of many directories, and
-//! to compare the names of each chain on its own would be quadratic. But each header leads on to
-//! one, in whatever chain. So the headers are numbered, equal names are one class
-//! (`duplicate_keys`), and `successor_graph` notes the numbers with a lower one of their class on
-//! their way or before them. Where no two names are equal, there is nothing to be climbed.
+//! Chains may merge and loop, so a header may be in the chains of many directories, and to compare
+//! the names of each chain on its own would be quadratic. But each header leads on to one, in any
+//! chain. So the headers are numbered, equal names are one class (`duplicate_keys`), and
+//! `successor_graph` notes the numbers with a lower one of their class on their way or before them.
+//! If no two names are equal, there is nothing to climb.
 
 ghost use Rattle.std.specs.Prelude.{◌+◌, ◌/◌, ◌^◌, ◌<◌, ◌≤◌, ℕ, IfOk, length, get_or};
 ghost use Rattle.romfs_rules.specs.Marks.{HasRootElsewhere};
@@ -23,8 +23,8 @@ use slot_sets::{SlotNumbers, places_of};
 use std::alloc::{AllocError, Allocator};
 use successor_graph::note_repeats;
 
-/// The members that have the name of another member of their directory that stands at a lower
-/// place, in the order of their places.
+/// The members that have the name of another member of their directory at a lower place, in the
+/// order of their places.
 pub(crate) fn find_same_names<A: Allocator + Copy>(
     alloc: A,
     volume: &Volume,
@@ -82,7 +82,7 @@ fn next_numbers<A: Allocator + Copy>(
     Ok(next)
 }
 
-// The number of the header after one, or that of headers where there is none inside the image.
+// The number of the header after one, or the count of headers if there is none inside the image.
 fn next_number<A: Allocator>(
     volume: &Volume,
     heads: &[u32],

@@ -1,7 +1,7 @@
 //! The headers on the destination chains of hard links.
 //!
-//! Such chains may meet or go round. A hard link with a mark has its destination marked too, as far
-//! as that lies in the image, so a walk stops at a mark, and each header is marked once.
+//! Such chains may meet or loop. A hard link with a mark has its destination marked too, as far as
+//! that lies in the image, so a walk stops at a mark, and each header is marked once.
 
 ghost use Rattle.std.specs.Prelude.{◌≡◌, ◌<◌, ◌/◌, ◌^◌, length, IfOk};
 ghost use Rattle.romfs_rules.specs.InChains.{AreChains};

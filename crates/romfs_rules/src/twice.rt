@@ -1,7 +1,7 @@
 //! The headers that two links name.
 //!
-//! Two sets are enough: a header that a link names comes into the first, and into the second where
-//! the first held it. The links of the root's header and of each in a chain are looked at once.
+//! Two sets are enough: a header that a link names goes into the first, and into the second if the
+//! first held it. The links of the root's header and of each in a chain are read once.
 
 ghost use Rattle.std.specs.Prelude.{◌≡◌, ◌+◌, ◌*◌, ◌<◌, ◌/◌, length, IfOk};
 ghost use Rattle.romfs_format.specs.Rules.{IsLinkedTwice};

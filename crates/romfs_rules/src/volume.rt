@@ -19,7 +19,7 @@ use romfs_format::rule::{ImageFault, Rule};
 pub(crate) struct Volume<'v> {
     /// The accessible bytes.
     pub(crate) bytes: &'v Held<'v>,
-    /// Where the root's header stands.
+    /// The place of the root's header.
     pub(crate) root: usize,
     ghost keeps: { IsVolumeImage bytes.now },
     ghost rooted: { root ≡ root_of bytes.now },

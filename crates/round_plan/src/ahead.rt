@@ -5,9 +5,9 @@
 //! of a round are hashed first; then their guesses are read, then the rows that these point to,
 //! then the nodes and balances of these rows, each in a loop that does little else: none of these
 //! reads waits for that of another request, so they overlap. No answer follows from what is read:
-//! the answer to a LOOKUP is given the place that was guessed for it, and looks whether the row
-//! there has the name. It takes a few steps for each message of the round, as long as every fourth
-//! is a LOOKUP, and no memory. Of a small table, which stays in the caches, nothing is read ahead.
+//! the answer to a LOOKUP gets the place that was guessed for it, and checks whether the row there
+//! has the name. It takes a few steps for each message of the round, as long as every fourth is a
+//! LOOKUP, and no memory. For a small table, which stays in the caches, nothing is read ahead.
 
 ghost use Rattle.std.specs.Prelude.{◌≤◌};
 ghost use Rattle.serve_loop.specs.declared.limits.TheConstants.{MAX_ROUND_MESSAGES};
@@ -21,16 +21,17 @@ use table_reader::{Guess, Row, Table, hashed};
 /// node.
 const MANY: u64 = 8_192;
 
-/// So many LOOKUPs fewer than every fourth message may be seen before no more are looked for.
+/// By how many LOOKUPs a round may fall short of every fourth message before the search for them
+/// ends.
 const HEAD_START: usize = 4;
 
 /// What was read ahead.
 #[derive(Drop)]
 pub struct LookupsAhead {
-    // Two more than the place where the row of each message may stand, if it is a LOOKUP, or 1
-    // where none was noted; else 0.
+    // Two more than the place where the row of each message may be, if it is a LOOKUP, or 1 if none
+    // was noted; else 0.
     places: [u32; MAX_ROUND_MESSAGES],
-    // A sum of all that was read, so that no compiler leaves the reading out.
+    // A sum of all that was read, so no compiler drops the reading.
     sum: u64,
 }
 
@@ -43,8 +44,7 @@ impl LookupsAhead {
         }
     }
 
-    /// Where the row may stand that the answer to the message with this number reads, if it is a
-    /// LOOKUP.
+    /// The guessed place of the row for the message with this number, if it is a LOOKUP.
     #[inline(always)]
     pub fn guess(&self, number: u32) -> Guess {
         match self.places.get(number as usize) {
@@ -53,7 +53,7 @@ impl LookupsAhead {
         }
     }
 
-    /// Reads what the answers to the LOOKUPs at the front of a stream will read, where the table is
+    /// Reads what the answers to the LOOKUPs at the front of a stream will read, if the table is
     /// large.
     pub fn read<A: Allocator>(&mut self, table: &Table<A>, stream: &[u8], balances: &[i128]) {
         if MANY <= table.len() {
@@ -79,15 +79,15 @@ impl LookupsAhead {
         self.sum ^= sum;
     }
 
-    // Guesses where the rows of these messages, which are LOOKUPs with these hashes, stand.
+    // Guesses the places of the rows of these messages, which are LOOKUPs with these hashes.
     fn guess_all<A: Allocator>(&mut self, table: &Table<A>, hashes: &[u64], messages: &[u8]) {
         for (hash, message) in hashes.iter().zip(messages) {
             self.places[usize::from(*message)] = noted(table.guess(*hash));
         }
     }
 
-    // Reads the rows that were guessed for these messages. The numbers that they have go to
-    // `numbers`, and 0 where no row was guessed.
+    // Reads the rows that were guessed for these messages. Their numbers go to `numbers`, and 0 if
+    // no row was guessed.
     fn read_rows<A: Allocator>(&mut self, table: &Table<A>, messages: &[u8], numbers: &mut [u64]) {
         let mut sum = 0;
         for (number, message) in numbers.iter_mut().zip(messages) {
@@ -132,7 +132,7 @@ fn hash_all(
     lookups
 }
 
-// The number that tells a place, or that none was noted.
+// The number for a place, or for none.
 fn noted(place: Option<usize>) -> u32 {
     match place {
         None => 1,
@@ -141,7 +141,7 @@ fn noted(place: Option<usize>) -> u32 {
     }
 }
 
-// The guess that a number tells.
+// The guess for a number.
 #[inline(always)]
 fn guess_noted(noted: u32) -> Guess {
     match noted {
@@ -160,8 +160,8 @@ fn row_noted<A: Allocator>(table: &Table<A>, noted: u32) -> Option<&Row<A>> {
     }
 }
 
-// The last byte of a row, or of a long name that stands beside it. That of the row does not wait
-// for the name's length.
+// The last byte of a row, or of a long name beside it. That of the row does not wait for the name's
+// length.
 fn end_of<A: Allocator>(row: &Row<A>) -> u8 {
     match row.padded_name() {
         Some(name) => name[21],

@@ -1,12 +1,12 @@
 //! How much work a round is, and whether it is worth workers.
 //!
 //! A worker is started in the time of some hundred ordinary requests. So a round is worth workers
-//! only where its replies are long, and how long they are is told by the table: by the bytes of
-//! files and the rows of directories that are there, never by the size that a request asks for.
+//! only if its replies are long. Their lengths come from the table: from the bytes of files and the
+//! rows of directories, never from the size in a request.
 //!
-//! The look goes over the first messages and adds up what the reply to each is expected to take.
-//! It ends as soon as those seen take less time than their part of a whole round that is worth
-//! workers. So it sees five messages of ordinary requests, and all of a round that has many rows.
+//! A scan over the first messages adds up what the reply to each is expected to take. It ends as
+//! soon as those so far take less time than their share of a full round that is worth workers:
+//! after five messages of ordinary requests, and at the end of a round with many rows.
 
 ghost use Rattle.std.specs.Prelude.{◌≤◌, ◌^◌, IfSome};
 ghost use Rattle.serve_loop.specs.declared.limits.TheConstants.{MAX_ROUND_MESSAGES};
@@ -19,20 +19,21 @@ use serve_loop::limits::MAX_ROUND_MESSAGES;
 use std::alloc::Allocator;
 use table_reader::Table;
 
-/// A round is worth workers that one thread answers in so many nanoseconds. Within 2 MiB of replies
-/// READ and READDIRPLUS take less: what workers save on them, one more copy of their replies costs.
+/// A round is worth workers that one thread answers in this many nanoseconds. Within 2 MiB of
+/// replies READ and READDIRPLUS take less: what workers save on them, one more copy of their
+/// replies costs.
 const WORTH: u64 = 1_000_000;
 
 /// The most bytes of replies of a round that workers answer: 2 MiB.
 const MAX_REPLIES: u64 = 2_097_152;
 
-/// Nanoseconds for each message of a whole round that is just worth workers.
+/// Nanoseconds for each message of a full round that is just worth workers.
 const PACE: u64 = WORTH / MAX_ROUND_MESSAGES as u64;
 
 /// The first messages may take less than their part by so much, which is that of four.
 const HEAD_START: u64 = 4 * PACE;
 
-/// What any reply takes, in nanoseconds, beside the bytes and rows that it has.
+/// What any reply takes, in nanoseconds, besides its bytes and rows.
 const REPLY_TIME: u64 = 100;
 
 /// How many bytes of a file are copied in a nanosecond.
@@ -57,8 +58,8 @@ struct Load {
     ghost small: { room ≤ 2 ^ 33 },
 }
 
-/// How many of the first messages of a stream workers are to answer: 1 to 256, with no more than
-/// 2 MiB of replies. None where the round is not worth workers.
+/// How many of the first messages of a stream workers must answer: 1 to 256, with at most 2 MiB of
+/// replies. None if the round is not worth workers.
 pub fn worth_workers<A: Allocator>(table: &Table<A>, stream: &[u8]) -> Option<usize>
     ensures { IfSome result (λ n. (1 ≤ n) × (n ≤ MAX_ROUND_MESSAGES)) }
 {
@@ -88,8 +89,8 @@ const SHORT: Load = Load {
     room: SHORT_REPLY,
 };
 
-// What the reply to a request is expected to take. Each opcode is named, so that one more does not
-// compile before its reply is thought of.
+// What the reply to a request is expected to take. Each opcode is named, so a new one does not
+// compile before its reply is considered.
 fn expected<A: Allocator>(table: &Table<A>, request: &Request<'_>) -> Load {
     match request.op {
         Op::Read { offset, size } if size <= MAX_DATA_SIZE => {
@@ -111,7 +112,7 @@ fn expected<A: Allocator>(table: &Table<A>, request: &Request<'_>) -> Load {
     }
 }
 
-// Of data, of which so many bytes are left.
+// For data with this many bytes left.
 fn data_load(left: u64, size: u32) -> Load {
     let bytes = left.min(u64::from(size));
     Load {
@@ -120,7 +121,7 @@ fn data_load(left: u64, size: u32) -> Load {
     }
 }
 
-// Of rows, of which so many are left. A `struct fuse_dirent` (linux/fuse.h) has 24 bytes and a
+// For rows, this many of which are left. A `struct fuse_dirent` (linux/fuse.h) has 24 bytes and a
 // name, padded to eights: 32 to 280. With its entry a row has 128 bytes more.
 #[inline(always)]
 fn rows_load(left: u64, size: u32, with_entries: bool) -> Load {
@@ -150,7 +151,7 @@ fn file_size<A: Allocator>(table: &Table<A>, number: u64) -> u64 {
     }
 }
 
-// How many rows a directory has beside `.` and `..`; 0 of any other node.
+// How many rows a directory has besides `.` and `..`; 0 for any other node.
 fn rows<A: Allocator>(table: &Table<A>, number: u64) -> u64 {
     table.rows(number).len() as u64
 }

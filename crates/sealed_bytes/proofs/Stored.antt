@@ -8,7 +8,7 @@ use Rattle.hash_tree.proofs.Levels.{blocks-above}
 use Rattle.hash_tree.proofs.Filled.{length-tree}
 use Rattle.sealed_bytes.specs.Seal.{lowest_place}
 
--- what stands behind so many bytes
+-- what stands behind this many bytes
 behind : (front rest : List ℕ) (n k m : ℕ) → length front ≡ n → take m (drop (n + k) (front ++ rest)) ≡ take m (drop k rest)
 behind front rest n k m long =
     ap (λ j. take m (drop (j + k) (front ++ rest))) (sym long) ∙ ap (λ l. take m l) (drop-append-add front rest k)

@@ -174,7 +174,7 @@ image_short s place count fits lacks = record {
   no = λ xs o. short s.image_bytes xs place count (o.image_is) (let e = o.size in omega (arith, e, fits)) lacks;
 }
 
--- so many blocks of a tree from a place on
+-- this many blocks of a tree from a place on
 pub tree_short : (s : Seal) (sized : (m : List ℕ) → IsDigest s.algorithm (s.hash m)) (levels place count : ℕ)
     → HasLevels s.algorithm (blocks_of s.size) levels → place + count ≤ 4096 * tree_blocks s.algorithm levels (blocks_of s.size)
     → IsShort s.tree_bytes place count → IsTampered s

@@ -57,7 +57,7 @@ MayBeOnly s (suc k) kept = (b : List ℕ) × IsGiven s.image 0 (suc k) b × (kep
 abbrev pub MayBeFirst : Seal → List ℕ → Type 0
 MayBeFirst s kept = (b : List ℕ) × IsGiven s.tree 0 4096 b × (kept ≡ s.hash b)
 
--- what is kept of a tree of so many levels, as reads may give it
+-- what is kept of a tree of this many levels, as reads may give it
 abbrev pub MayBeKept : Seal → ℕ → List ℕ → Type 0
 MayBeKept s zero kept = MayBeOnly s s.size kept
 MayBeKept s (suc zero) kept = MayBeFirst s kept
@@ -65,7 +65,7 @@ MayBeKept s (suc (suc levels)) kept =
     (length kept ≡ kept_len s.algorithm (suc (suc levels)) (blocks_of s.size))
     × MayGive s.tree (4096 * tree_blocks s.algorithm levels (blocks_above s.algorithm (blocks_above s.algorithm (blocks_of s.size)))) kept
 
--- with the size that is told, this is kept of a file with the digest that is told
+-- with the size that is reported, this is kept of a file with the digest that is reported
 abbrev pub IsTop : Seal → ℕ → List ℕ → Type 0
 IsTop s levels kept =
     s.hash (descriptor s.algorithm s.size (kept_root s.algorithm s.hash levels kept (blocks_of s.size))) ≡ s.digest

@@ -11,12 +11,12 @@ use crate::filling::fill_block;
 use hash_tree::{Algorithm, BlockHash, Digest};
 use image_bytes::{Contents, Unread, fill};
 
-/// A file and the file of its tree, with the size and the digest that are told of it.
+/// A file and the file of its tree, with the size and the digest that are reported of it.
 pub trait NamedFiles {
     // What is known of the files, what reads of them may give, and how they are hashed.
     ghost seal: { Self → Seal };
 
-    /// The size that is told.
+    /// The size that is reported.
     fn size(&self) -> u64
         ensures { result ≡ (seal self.now).size };
 
@@ -28,12 +28,12 @@ pub trait NamedFiles {
     fn hash(&self, bytes: &[u8]) -> Digest
         ensures { digest_bytes result ≡ (seal self.now).hash bytes.now };
 
-    /// Whether these bytes have the digest that is told.
+    /// Whether these bytes have the digest that is reported.
     fn is_described(&self, descriptor: &[u8]) -> bool
         ensures is { IsTrue result → (seal self.now).hash descriptor.now ≡ (seal self.now).digest }
         ensures not { result ≡ false → (seal self.now).hash descriptor.now ≢ (seal self.now).digest };
 
-    /// Fills a block with so many bytes of the file, and zeros behind them.
+    /// Fills a block with this many bytes of the file, and zeros behind them.
     fn fill_image(&self, block: &mut [u8], count: usize, place: u64) -> Result<(), Unread>
         requires long { length block.old ≡ 4096 }
         requires fits { count ≤ 4096 }
@@ -92,7 +92,7 @@ fn stands_at(digests: &[u8], size: usize, place: usize, digest: &[u8]) -> bool
     digest == &digests[at..at + size]
 }
 
-/// Two files, with the size and the digest that are told.
+/// Two files, with the size and the digest that are reported.
 #[derive(Drop)]
 pub struct Files<C: Contents, D: Contents, H: BlockHash> {
     /// The file.
@@ -101,9 +101,9 @@ pub struct Files<C: Contents, D: Contents, H: BlockHash> {
     pub tree: D,
     /// How they are hashed.
     pub hash: H,
-    /// The digest that is told.
+    /// The digest that is reported.
     pub digest: Digest,
-    /// The size that is told.
+    /// The size that is reported.
     pub size: u64,
 }
 

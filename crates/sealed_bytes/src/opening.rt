@@ -55,7 +55,7 @@ impl From<Unread> for SealFault {
     }
 }
 
-/// How many levels stand above so many blocks.
+/// How many levels stand above this many blocks.
 fn level_count(algorithm: Algorithm, blocks: u64) -> u64
     requires { blocks ≤ 2 ^ 51 }
     ensures has { HasLevels algorithm blocks result }
@@ -68,7 +68,7 @@ fn level_count(algorithm: Algorithm, blocks: u64) -> u64
     }
 }
 
-/// How many blocks so many levels are.
+/// How many blocks this many levels are.
 fn tree_blocks(algorithm: Algorithm, levels: u64, blocks: u64) -> u64
     requires levels { levels ≤ 9 }
     requires blocks { blocks ≤ 2 ^ 51 }
@@ -127,7 +127,7 @@ fn above<F: NamedFiles, A: Allocator>(
     Ok(digests)
 }
 
-/// The digest at the top, so many levels above some blocks.
+/// The digest at the top, this many levels above some blocks.
 fn root_over<F: NamedFiles, A: Allocator + Copy>(
     alloc: A,
     files: &F,
@@ -227,7 +227,7 @@ fn load_kept<F: NamedFiles, A: Allocator>(
     }
 }
 
-/// Whether the digest that is told is the one over what is kept of a tree.
+/// Whether the digest that is reported is the one over what is kept of a tree.
 fn is_top<F: NamedFiles, A: Allocator + Copy>(
     alloc: A,
     files: &F,

@@ -75,7 +75,7 @@ impl<F: NamedFiles, A: Allocator> Sealed<F, A> {
         }
     }
 
-    /// Reads a part of a block: the block is read whole, and its part is copied.
+    /// Reads a part of a block: the block is read in full, and its part is copied.
     fn read_part(&self, leaf: &[u8], first: u64, place: u64, room: &mut [u8]) -> Result<(), Unread>
         requires some { place < (F.seal self.now.files).size }
         requires within { place + length room.old ≤ (F.seal self.now.files).size }

@@ -71,7 +71,7 @@ fn told(read: Result<usize, Unread>, room: &[u8; 10], place: u32) -> Outcome {
 }
 
 // What comes of the file where a bit of it and of its tree is changed, and where the file, the tree
-// and the size that is told are cut by so many bytes.
+// and the size that is reported are cut by this many bytes.
 fn changed<A: Allocator + Copy>(
     alloc: A,
     flipped: [Option<usize>; 2],

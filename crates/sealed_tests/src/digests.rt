@@ -110,7 +110,7 @@ fn is_read<F: NamedFiles, A: Allocator>(
     sealed.read_at(room, bytes.len() as u64) == Ok(0)
 }
 
-// Whether a file of so many bytes is opened under the digest, and read.
+// Whether a file of this many bytes is opened under the digest, and read.
 fn whole<A: Allocator + Copy>(
     alloc: A,
     size: u32,

@@ -6,7 +6,7 @@ use std::alloc::{AllocError, Allocator};
 /// The bytes of a block.
 const BLOCK: usize = 4096;
 
-/// So many bytes; the one at each place `i` is `(31 * i + i / 4096) % 251`.
+/// This many bytes; the one at each place `i` is `(31 * i + i / 4096) % 251`.
 pub fn bytes_of<A: Allocator>(alloc: A, size: u32) -> Result<Vec<u8, A>, AllocError> {
     let mut bytes = Vec::with_capacity(alloc, size as usize)?;
     for i in 0..u64::from(size) {

@@ -1,6 +1,5 @@
--- What serving over images comes to, in the words of the headline: served over good images, or
--- refused, for a wrong number or a broken layer. Each is what `serve` promises, with its other
--- cases ruled out.
+-- The result of serving over images, in the terms of the headline: served over good images, or refused, for a wrong number or a broken
+-- layer. Each is what `serve` promises, with its other cases ruled out.
 use Rattle.std.proofs.Common.{◌≡◌, ◌∙◌, sym, ap, subst, length, ℕ, List, map, inl, inr, Result, Ok, Err, IfOk, IsErrAnd, refl}
 use Rattle.devices.specs.States.{Devices}
 use Rattle.romfs_format.specs.declared.rule.ImageFault.{ImageFault}
@@ -47,7 +46,7 @@ pub not_begun : {A : Type 0} (call : Call) (result : Result (Done A) Stop) (stop
 not_begun call (Ok done) stop old e r = absurd e
 not_begun call (Err said) stop old e r = record { stop = stop; result_is = ap Err e; refused = r; kept = refl }
 
--- what may be told over layers that are held are the replies that are defined
+-- possible replies over held layers are the defined ones
 pub as_replied : (first : Session) (stack : Stacked) (messages : List (List ℕ)) (bytes : List ℕ)
     → AreRepliesTo (answering first stack) messages bytes → bytes ≡ replies stack first messages
 as_replied first stack messages bytes are =

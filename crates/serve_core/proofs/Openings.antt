@@ -1,4 +1,4 @@
--- A stream over a table: what the serving loop says of it, as what serving came to.
+-- A stream over a table: what the serving loop says about it, as the result of serving.
 use Rattle.std.proofs.Common.{◌≡◌, ◌∙◌, ap, subst, refl, ℕ, List, map, Result, Ok, Err, IsErrAnd}
 use Rattle.std.specs.Io.KnownBytes.{IsAtEnd}
 use Rattle.devices.specs.States.{Devices}
@@ -37,7 +37,7 @@ abbrev pub Loops : {A : Type 0} → Until → Bounds → Result (Opening A) Stre
 Loops until within result old new first by =
     Does (λ t. IsServedUntil until (answering_from first by) within.counted within.turns t result) old new
 
--- with lookups of so many nodes counted
+-- with lookups of this many nodes counted
 abbrev counting : Bounds → ℕ → Bounds
 counting within counted = bounds within.turns counted
 
@@ -102,7 +102,7 @@ module _ {A : Type 0} (within : Bounds) (old new : Devices) (first : Session) (b
     at_once = λ none. (let e = once none in absurd (cc));
   }
 
-  -- a run to its end came to its end
+  -- a run to its end ended
   pub ran_to_end : (done : Done A) → RunsUntil wanted.End first by within (Ok (openings.Ended done)) old new
       → RunsWithin first by within (Ok done) old new
   ran_to_end done r = record { run = r.run; end = r.end; at_once = λ none. (let e = r.at_once none in absurd (cc)) }

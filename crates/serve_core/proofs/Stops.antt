@@ -49,20 +49,20 @@ pub never_broken : {A : Type 0} (layer : ℕ) (broken : ImageFault) (ended : Res
 never_broken layer broken (Ok done) e = absurd (cc)
 never_broken layer broken (Err fault) e = not_broken layer broken fault (same_stop e)
 
--- a wrong number of images is told of that number alone
+-- a wrong number of images is reported only for that number
 pub many_told : (count : ℕ) (refusal : Refusal) → Layers count ≡ stop_of_refusal refusal → refusal ≡ refusals.Layers count
 many_told count (refusals.Layers n) e = cc
 many_told count (refusals.Layer layer fault) e = absurd (cc)
 many_told count refusals.Memory e = absurd (cc)
 
--- a broken image is told of that image and its fault alone
+-- a broken image is reported only for that image and its fault
 pub broken_told : (layer : ℕ) (broken : ImageFault) (refusal : Refusal) → Layer layer broken ≡ stop_of_refusal refusal
     → refusal ≡ refusals.Layer layer broken
 broken_told layer broken (refusals.Layer n fault) e = cc
 broken_told layer broken (refusals.Layers count) e = absurd (cc)
 broken_told layer broken refusals.Memory e = absurd (cc)
 
--- a failed read is told of a failed read alone
+-- a failed read is reported only for a failed read
 pub read_told : {A : Type 0} (ended : Result (Done A) StreamFault) → Err Read ≡ told ended → ended ≡ Err faults.Read
 read_told (Ok done) e = absurd (cc)
 read_told (Err fault) e = ap Err (one fault (same_stop e))

@@ -26,8 +26,8 @@ use Rattle.serve_core.specs.Stops.{IsRefusal, told}
 
 -- ---- run
 
--- how a stream is served: in at most so many turns, and lookups are counted of so many of the first
--- nodes
+-- how a stream is served: in at most this many turns, and lookups are counted of this many of the
+-- first nodes
 pub record Bounds : Type 0 where
   pub turns : ℕ
   pub counted : ℕ
@@ -45,12 +45,12 @@ abbrev pub nodes_counted : Counted → Stacked → ℕ
 nodes_counted AllNodes stack = length (nodes stack.entries)
 nodes_counted NoNodes stack = 0
 
--- the bounds over a stack, where lookups are counted of these nodes
+-- the bounds over a stack, with lookups of these nodes counted
 abbrev pub bounds_over : ℕ → Counted → Sourced → Bounds
 bounds_over turns counted by = bounds turns (nodes_counted counted by.stack)
 
 -- a stream that begins in this session was served over a stack of layers and the sources of their
--- data, each message as FUSE has it over the paths that they show, and its end is told
+-- data, each message as FUSE has it over the visible paths, and its end is reported
 pub record IsRunWithin {A : Type 0} (first : Session) (by : Sourced) (within : Bounds) (t : Trace)
     (result : Result (Done A) Stop) : Type 0 where
   pub ended : Result (Done A) StreamFault
@@ -65,11 +65,11 @@ pub record RunsWithin {A : Type 0} (first : Session) (by : Sourced) (within : Bo
   pub end : OnOk result (IsAtEnd new.source.left)
   pub at_once : within.turns ≡ 0 → result ≡ Err Turns
 
--- the first, where lookups of all nodes are counted
+-- the first, with lookups of all nodes counted
 abbrev pub IsRunFrom : {A : Type 0} → Session → Sourced → ℕ → Trace → Result (Done A) Stop → Type 0
 IsRunFrom first by turns t result = IsRunWithin first by (counting_all by turns) t result
 
--- both, where all layers are held
+-- both, if all layers are held
 abbrev pub IsRunOver : {A : Type 0} → Session → Stacked → ℕ → Trace → Result (Done A) Stop
     → Type 0
 IsRunOver first stack turns t result = IsRunFrom first (in_memory stack) turns t result
@@ -81,9 +81,9 @@ RunsBetween first stack turns result old new =
 
 -- ---- serve: prepare, then run
 
--- what a call is to serve: images by the rules of a profile, of which all that has no row of
--- attributes belongs to this owner, and over them a stream that begins in this session, in at most
--- so many turns
+-- what a call must serve: images by the rules of a profile, with this owner of everything that has
+-- no row of attributes, and over them a stream that begins in this session, in at most this many
+-- turns
 pub record Call : Type 0 where
   pub profile : Profile
   pub owner : Owner
@@ -96,7 +96,7 @@ abbrev pub owned_call : Profile → Owner → List (List ℕ) → Session → �
 owned_call profile owner images first turns =
     record { profile = profile; owner = owner; images = images; first = first; turns = turns }
 
--- where that owner is the superuser
+-- with the superuser as that owner
 abbrev pub call : Profile → List (List ℕ) → Session → ℕ → Call
 call profile images first turns = owned_call profile ROOT images first turns
 

@@ -25,7 +25,7 @@ stop_of_fault faults.Write = stops.Write
 stop_of_fault faults.Turns = stops.Turns
 stop_of_fault faults.Memory = stops.Memory
 
--- how a stream ended, as what serving came to
+-- how a stream ended, as the result of serving
 abbrev pub told : {A : Type 0} → Result (Done A) StreamFault → Result (Done A) Stop
 told (Ok done) = Ok done
 told (Err fault) = Err (stop_of_fault fault)

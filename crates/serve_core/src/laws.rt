@@ -26,9 +26,8 @@ ghost use Rattle.serve_core.specs.Headline.{Call, ServesBetween, HasServedAll, I
 
 use std::alloc::Allocator;
 
-/// Where layers are held in memory, what may be told to messages are the replies that are defined
-/// to them, one after another; and so it is where their data are read from sources that hold just
-/// the layers' bytes.
+/// If layers are held in memory, messages may only be answered with their defined replies, one
+/// after another; the same if their data are read from sources that hold exactly the layers' bytes.
 #[tactic(auto, using(crate::proofs::Headline::as_replied))]
 pub fn replies_are_those_defined()
     ensures held { (first : Session) (stack : Stacked) (messages : List (List ℕ))
@@ -41,11 +40,10 @@ pub fn replies_are_those_defined()
         bytes ≡ replies stack first messages }
 {}
 
-/// Over images, in whichever session a stream begins, `Ok` means that they are good, that the
-/// source met its end between two messages, and that what was written are the definition's replies
-/// to all messages, one after another.
-/// `Layers` and `Layer` tell what is wrong with the images, and no device was called. With no turns
-/// good images are answered `Turns`.
+/// Over images, in any session that a stream begins in, `Ok` means that they are good, that the
+/// source met its end between two messages, and that the definition's replies to all messages were
+/// written, one after another. `Layers` and `Layer` say what is wrong with the images, and no
+/// device was called. With no turns the result for good images is `Turns`.
 #[tactic(auto, using(crate::proofs::Headline::over_images))]
 pub fn streams_are_served_over_images<A: Allocator>()
     ensures served { (call : Call) (done : Done A) (old new : Devices) →
@@ -61,7 +59,7 @@ pub fn streams_are_served_over_images<A: Allocator>()
 {}
 
 /// To prepare images of any owner, and then to run a stream over their table with lookups of all
-/// nodes counted, is to serve it over the images: as where the program holds them whole.
+/// nodes counted, is to serve it over the images: as if the program holds them in full.
 #[tactic(auto, using(crate::proofs::Headline::run_once_prepared))]
 pub fn streams_are_served_once_images_are_prepared<A: Allocator>()
     ensures run { (call : Call) (stack : Stacked) (result : Result (Done A) Stop)

@@ -3,15 +3,14 @@
 //! [`prepare`] checks images, the lowest layer first, and stacks them (`stack_prepare`); [`run`]
 //! serves a stream over their table (`serve_loop`, `reply_pool`); [`serve`] is [`prepare`], then
 //! [`run`]. For every list of images, request stream, cutting of its pulls and [`Terms`], the bytes
-//! that are put are the definition's replies, one after another; or the images are refused, and no
-//! device is called. `_as` takes a profile of rules. [`run_from`] serves over a table and the files
-//! of its layers, as the program does: the data of a READ are then such as its layer's file may
-//! give, or the reply is EIO's. [`run_until`] is the one call below these, which may end as the
-//! session begins. What serving promises at each end is said by `IsRun` in `serve_loop`'s
-//! `specs/Serving`, and over images by `ServesBetween` in `specs/Headline`; [`laws`] draw from it
-//! what each end means, also of what the program calls: images that are prepared and a stream that
-//! is then run over them.
-//! [`Stop`] joins what the two halves tell: why images were refused, and why a stream was not
+//! put are the definition's replies, one after another; or the images are refused, and no device is
+//! called. `_as` takes a profile of rules. [`run_from`] serves over a table and the files of its
+//! layers, as the program does: the data of a READ are then those that its layer's file may give,
+//! or the reply is EIO. [`run_until`] is the one call below these, which may end as the session
+//! begins. `IsRun` in `serve_loop`'s `specs/Serving` defines what serving promises at each end, and
+//! `ServesBetween` in `specs/Headline` over images; [`laws`] derive from it what each end means,
+//! also for the program's calls: images that are prepared and a stream that is then run over them.
+//! [`Stop`] joins the faults of the two halves: why images were refused, and why a stream was not
 //! served to its end.
 #![tactic(auto)]
 

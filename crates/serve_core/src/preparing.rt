@@ -15,9 +15,9 @@ use work_gate::Gate;
 /// Checks images by the usual profile's rules and stacks them, the lowest layer first, into one
 /// table, as [`stack_prepare::prepare`] does.
 ///
-/// `Layers` comes exactly where there are none or more than 128, before anything else is done; else
-/// `Layer` names the lowest image that breaks a rule, and its fault. The gate is passed before each
-/// check and each tree.
+/// `Layers` exactly if there are none or more than 128, before anything else is done; else `Layer`
+/// names the lowest image that breaks a rule, and its fault. The gate is passed before each check
+/// and each tree.
 pub fn prepare<R: Threads + Sync, A: SharedAllocator, G: Gate + Sync>(
     rt: &R,
     alloc: A,

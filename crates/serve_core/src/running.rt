@@ -22,20 +22,20 @@ use std::alloc::AllocError;
 use std::thread::Threads;
 use work_gate::Gate;
 
-/// Serves the source's stream of requests over a table of images that are held whole into the sink,
-/// in at most as many pulls as its terms allow, of at most 65,536 bytes each. The bytes put are the
-/// replies to the stream, for every plan and however it is cut into pulls. Lookups of all nodes are
+/// Serves the source's stream of requests over a table of images held in full into the sink, in at
+/// most as many pulls as its terms allow, of at most 65,536 bytes each. The bytes put are the
+/// replies to the stream, for every plan and every cutting into pulls. Lookups of all nodes are
 /// counted.
 ///
 /// - `Ok`: the stream came to its end between two messages: nothing is left of it, and all replies
 ///   are written and flushed.
-/// - `BadLength`, `CutOff`, `Read` and `Turns`: all replies to the whole messages that came are
+/// - `BadLength`, `CutOff`, `Read` and `Turns`: all replies to the complete messages that came are
 ///   written and flushed.
 /// - `Write` and `Memory`: some of the first replies are written.
 ///
-/// `Read` and `Write` come exactly where the source's or the sink's count of failures rose in this
-/// call. A fault of an image is never told. No pull follows an end, a bad length or a failure, and
-/// no device is called after memory was refused. With no turns it answers `Turns` at once.
+/// `Read` and `Write` exactly if the source's or the sink's count of failures rose in this call.
+/// Faults of images do not occur. No pull follows an end, a bad length or a failure, and no device
+/// is called after memory was refused. With no turns it returns `Turns` at once.
 pub fn run<R: Threads + Sync, A: SharedAllocator, S: Source, K: Sink, G: Gate + Sync>(
     rt: &R,
     alloc: A,
@@ -56,8 +56,8 @@ pub fn run<R: Threads + Sync, A: SharedAllocator, S: Source, K: Sink, G: Gate + 
 }
 
 /// The same over a table and the files of its layers, with lookups counted as the terms say. Data
-/// that stay in a file are read when they are asked for: a READ is told what the file gave then, or
-/// EIO where a read failed or the file ended before. All else is told as [`run`] tells it.
+/// in a file are read on demand: a READ gets what the file gave then, or EIO if a read failed or
+/// the file ended earlier. All else is as in [`run`].
 pub fn run_from<
     R: Threads + Sync,
     A: SharedAllocator,

@@ -20,9 +20,9 @@ use work_gate::Gate;
 /// Checks images by the usual profile's rules, stacks them, the lowest layer first, and serves the
 /// source's stream over them, as [`run`](crate::run) does.
 ///
-/// `Layers` comes exactly where there are no images or more than 128, and `Layer` names the lowest
-/// broken image and its fault. Then, and where memory runs out before the table stands, no device
-/// is called. With no turns good images are answered `Turns`.
+/// `Layers` exactly if there are no images or more than 128, and `Layer` names the lowest broken
+/// image and its fault. Then, and if memory runs out before the table is complete, no device is
+/// called. With no turns the result for good images is `Turns`.
 pub fn serve<R: Threads + Sync, A: SharedAllocator, S: Source, K: Sink, G: Gate + Sync>(
     rt: &R,
     alloc: A,

@@ -12,7 +12,7 @@ use stack_prepare::Refusal;
 pub enum Stop {
     /// The image of this layer, from 0 on, breaks a rule, and is the lowest that does.
     Layer { layer: u16, fault: ImageFault },
-    /// There are so many images: none, or more than 128.
+    /// There are this many images: none, or more than 128.
     Layers { count: u64 },
     /// The message that begins at this place of the stream says a length that no message has.
     BadLength { at: u64, len: u32 },

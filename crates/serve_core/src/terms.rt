@@ -20,8 +20,8 @@ pub enum Counted {
 /// On which terms a stream is served.
 #[derive(Drop)]
 pub struct Terms<'a, G> {
-    /// The session that the stream begins in: in [`Session::LastingFresh`] one whose client is told
-    /// that the tree never changes.
+    /// The session that the stream begins in: in [`Session::LastingFresh`] the client learns that
+    /// the tree never changes.
     pub first: Session,
     /// How many workers answer a round, and in which batches.
     pub plan: Plan,

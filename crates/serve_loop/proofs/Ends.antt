@@ -16,7 +16,7 @@ answered : (by : Answering) (t : Trace) (messages : List (List ℕ)) (rest : Lis
 answered by t messages rest s a = record { split = s; put = a.put; flushed_all = a.flushed_all }
 
 module _ {A : Type 0} (by : Answering) (nodes turns : ℕ) (t : Trace) where
-  -- a run that ends with `Ok` has answered a stream of whole messages
+  -- a run that ends with `Ok` has answered a stream of complete messages
   pub served : (done : Done A) → IsRun by nodes turns t (Ok done) → HasServed by nodes t done
   served done r = record {
     ended = r.served.ended;

@@ -1,6 +1,5 @@
--- A stream that is served to its end, or until its session has begun. Where that is asked for, the
--- session had not begun before the last pull, nor has it now, where more is awaited (`IsAwaiting`);
--- after a pull that gave bytes it had not before (`IsFollowed`). Each other lemma is an end.
+-- A stream that is served to its end, or until its session has begun. If requested, the session had not begun before the last pull, nor has
+-- it now, if more is awaited (`IsAwaiting`); after a pull that gave bytes it had not before (`IsFollowed`). Each other lemma is an end.
 use Rattle.std.proofs.Common.{◌≡◌, ◌==◌, ◌∙◌, ap, sym, subst, refl, ℕ, ◌+◌, ◌^◌, ◌<◌, ◌≤◌, ◌⊎◌, inl, inr, ℤ, Bool, true, false, true≢false, List, [], ◌∷◌, ◌++◌, length, map, append-nil, Option, Result, Ok, Err, IsErrAnd, arith}
 use Rattle.std.specs.Io.KnownBytes.{Appends, Consumes}
 use Rattle.std.proofs.KnownBytes.{Appends-nil, Appends-trans, Consumes-nil, Consumes-trans}
@@ -29,7 +28,7 @@ use Rattle.serve_loop.proofs.Runs.{ends_bad, ends_clean, ends_cut, ends_halt, en
 use Rattle.serve_loop.proofs.Traces.{IsLow, IsRunning, from_nothing, no_bytes, none_left, some_left, start, take_none, take_whole, zero_more}
 use Rattle.serve_loop.proofs.Turns.{IsAfter, IsBefore, feeds, feeds_small, first_turn, goes_on, low, so_far}
 
--- what a stream came to that was served to its end, or stopped
+-- the result of a stream that was served to its end, or stopped
 abbrev pub as_opening : {A : Type 0} → Result (Done A) StreamFault → Result (Opening A) StreamFault
 as_opening (Ok done) = Ok (openings.Ended done)
 as_opening (Err fault) = Err fault

@@ -1,6 +1,5 @@
--- A stream served turn by turn. What holds before a turn (`IsRunning`) holds before the next: a
--- pull gives bytes (`fed`), and what is whole is answered (`went_round`). Each other lemma is an
--- end of the run, and says that it keeps the one promise (`IsRun`).
+-- A stream served turn by turn. What holds before a turn (`IsRunning`) holds before the next: a pull gives bytes (`fed`), and what is
+-- complete is answered (`went_round`). Each other lemma is an end of the run, and says that it keeps the one promise (`IsRun`).
 use Rattle.std.proofs.Common.{◌≡◌, ◌∙◌, sym, ap, subst, ℕ, ◌+◌, ◌^◌, ◌<◌, ◌≤◌, inl, inr, ℤ, List, [], ◌++◌, length, refl, arith, length-append, append_assoc, append-nil, Result, Ok, Err, Some}
 use Rattle.devices.specs.declared.limits.TheConstants.{PULL_SIZE}
 use Rattle.fuse_wire.specs.Stream.{IsBad, IsOpen, IsRest, IsSplit}
@@ -120,7 +119,7 @@ module _ (by : Answering) (nodes : ℕ) where
       };
     }
 
-    -- a run that has had all its turns ends with `Turns`
+    -- a run that used all its turns ends with `Turns`
     pub ends_turns : {A : Type 0} → IsRun {A = A} by nodes turn t (Err Turns)
     ends_turns = stops_between turn Turns (omega arith) (r.pulls, r.good, all_told t v ms r.goes r.flushed_all) refl refl refl
 

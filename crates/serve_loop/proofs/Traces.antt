@@ -76,7 +76,7 @@ unfinished s o n = elim o [ inl e ↦ absurd (n e) | inr u ↦ u ]
 pub zero_more : (n : ℕ) → n ≡ n + 0
 zero_more n = omega arith
 
--- nothing is answered yet of these bytes, in this session, to so many nodes
+-- nothing is answered yet of these bytes, in this session, to this many nodes
 abbrev pub start : Session → ℕ → List ℕ → ServingState
 start first nodes got = record { rest = got; session = first; at = 0; messages = 0; written = 0; balances = replicate nodes (pos 0) }
 

@@ -35,7 +35,7 @@ module _ (by : Answering) (nodes : ℕ) (old : Devices) where
     pub held : Appends old.sink.held now.sink.held put
     pub fed : IsFed by nodes turn (so_far old now got put) v messages
 
-  -- no count overflows in a call that has so many turns
+  -- no count overflows in a call that has this many turns
   pub low : (turns : ℕ) (now : Devices) (got put : List ℕ) → AreReady turns old → IsLow (so_far old now got put)
   low turns now got put ready = record { pulls = ready.pulls; ends = ready.ends; failures = ready.source_failures }
 

@@ -30,14 +30,14 @@ abbrev pub IsGot : Result ℕ Failed → List ℕ → Type 0
 IsGot (Ok n) got = (length got ≡ n) × (n ≤ PULL_SIZE)
 IsGot (Err e) got = got ≡ []
 
--- what a pull gave stands behind what was held
+-- what a pull gave follows what was held
 pub record IsPull (before after : Pulls) (old new got : List ℕ)
     (result : Result ℕ Failed) : Type 0 where
   pub counts : after ≡ pulled before result
   pub is : IsGot result got
   pub behind : new ≡ old ++ got
 
--- a pull took bytes off a source, and they stand behind what was held
+-- a pull took bytes from a source, and they follow what was held
 abbrev pub Fills : SourceState → SourceState → List ℕ → List ℕ → Result ℕ Failed → Type 0
 Fills before after old new result =
     (got : List ℕ) × Consumes before.left after.left got

@@ -6,7 +6,7 @@ use Rattle.serve_loop.specs.Rounds.{Answering, joined}
 use Rattle.serve_loop.specs.declared.done.Done.{Done}
 use Rattle.serve_loop.specs.Serving.{Trace, AreRepliesTo, BeginReplies, moves_of, flushed_bytes, AreBalances}
 
--- all replies to the whole messages that were got are put and flushed; this rest is left
+-- all replies to the complete messages that were got are put and flushed; this rest is left
 pub record HasAnsweredAll (by : Answering) (t : Trace) (messages : List (List ℕ))
     (rest : List ℕ) : Type 0 where
   pub split : IsSplit t.got messages rest

@@ -24,7 +24,7 @@ pub record Answering : Type 0 where
   pub moved : Session → Asked → List Move
   pub reading : Asked → Option Reading
 
--- these bytes may be told as the reply to a request
+-- these bytes are a possible reply to a request
 abbrev pub IsReply : Answering → Session → Asked → List ℕ → Type 0
 IsReply by s q bytes = IsTold (by.reading q) q.unique (by.reply s q) bytes
 
@@ -45,7 +45,7 @@ pub record IsAnswered (by : Answering) (s : Session) (m : List ℕ) (after : Ses
   pub moves : IsMoved (by.moved s (asked m)) b.old b.new
   pub light : IsLight (by.moved s (asked m)) (length m)
 
--- these are the first messages of a stream, with so many bytes
+-- these are the first messages of a stream, with this many bytes
 pub record AreFirst (stream : List ℕ) (messages : List (List ℕ)) (used : ℕ) : Type 0 where
   pub whole : stream ≡ joined messages ++ drop used stream
   pub each : AllByRecursion IsMessage messages
@@ -59,7 +59,8 @@ pub record AreAnswered (by : Answering) (s : Session) (messages : List (List ℕ
   pub moves : IsMoved (moves_by by.moved s (map asked messages)) b.old b.new
   pub light : IsLight (moves_by by.moved s (map asked messages)) (length (joined messages))
 
--- a round answered the first messages of a stream with these bytes: at least one, if one is whole
+-- a round answered the first messages of a stream with these bytes: at least one, if one is
+-- complete
 pub record IsRound (by : Answering) (s : Session) (stream : List ℕ) (round : RoundEnd)
     (put : List ℕ)
     (b : Balances) : Type 0 where

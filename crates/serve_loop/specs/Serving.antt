@@ -150,8 +150,8 @@ abbrev pub write_failures : {A : Type 0} → Result (Done A) StreamFault → ℕ
 write_failures (Err Write) = 1
 write_failures _ = 0
 
--- each fault is told where its device met it, and nowhere else; no more pulls than turns, no more
--- bytes than pulls
+-- each fault is reported exactly if its device met it; no more pulls than turns, no more bytes than
+-- pulls
 pub record IsCounted {A : Type 0} (turns : ℕ) (t : Trace)
     (result : Result (Done A) StreamFault) : Type 0 where
   pub pulls : t.source.pulls ≤ t.source_before.pulls + turns
@@ -168,8 +168,8 @@ pub record IsPrompt (by : Answering) (t : Trace) : Type 0 where
   pub good : IsOpen rest
   pub told : HaveReplies by messages (flushed_bytes t)
 
--- a stream was served: what was put is the beginning of the replies, at every end, and all of them
--- where nothing stood in the way
+-- a stream was served: what was put is a beginning of the replies, at every end, and all of them if
+-- nothing prevented it
 pub record IsRun {A : Type 0} (by : Answering) (nodes turns : ℕ) (t : Trace)
     (result : Result (Done A) StreamFault) : Type 0 where
   pub messages : List (List ℕ)

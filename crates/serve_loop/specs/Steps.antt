@@ -38,8 +38,8 @@ serving_state p = record {
   balances = p.balances.items;
 }
 
--- nothing is answered yet of a stream that begins in this session, and balances are kept of so many
--- nodes
+-- nothing is answered yet of a stream that begins in this session, and balances are kept of this
+-- many nodes
 abbrev pub beginning : Session → ℕ → ServingState
 beginning first nodes = record {
   rest = [];
@@ -74,12 +74,12 @@ pub record Goes (by : Answering) (from to : ServingState) (messages : List (List
   pub count : to.messages ≡ from.messages + length messages
   pub written : to.written ≡ from.written + length put
 
--- a round takes bytes away, or no message is whole
+-- a round removes bytes, or no message is complete
 abbrev pub GoesOn : Bool → ServingState → ServingState → Type 0
 GoesOn true from to = length to.rest < length from.rest
 GoesOn false from to = IsRest to.rest
 
--- how often the sink failed where answering stopped for this reason
+-- how often the sink failed if answering stopped for this reason
 abbrev pub sink_failures : StreamFault → ℕ
 sink_failures Write = 1
 sink_failures _ = 0
@@ -112,12 +112,12 @@ pub record Proceeds (by : Answering) (from to : ServingState) (old new : SinkSta
   pub held : Appends old.held new.held put
   pub flushed : HasFlushed put old.counts new.counts
 
--- one round was answered and its replies handed on, or no message was whole
+-- one round was answered and its replies handed on, or no message was complete
 abbrev pub Advances : Answering → ServingState → ServingState → SinkState → SinkState → Bool
     → Type 0
 Advances by from to old new on = Proceeds by from to old new × GoesOn on from to
 
--- all that is whole was answered, and the replies handed on
+-- all complete messages were answered, and the replies handed on
 abbrev pub AdvancesToRest : Answering → ServingState → ServingState → SinkState → SinkState → Type 0
 AdvancesToRest by from to old new = Proceeds by from to old new × IsRest to.rest
 

@@ -1,9 +1,9 @@
 //! What was pulled and is not answered yet.
 //!
-//! The bytes stand from `start` up to `end` in a vector that keeps its length, so that no pull
-//! clears memory. They are moved to the front when room is made for a pull, and only then. As the
-//! bytes that are left were all pulled last, or all belong to one message that is not whole, no
-//! byte is moved more than a few times, whatever the pulls' sizes.
+//! The bytes are from `start` up to `end` in a vector that keeps its length, so no pull clears
+//! memory. They are moved to the front only when room is made for a pull. The remaining bytes were
+//! all pulled last, or all belong to one incomplete message, so no byte is moved more than a few
+//! times, whatever the pulls' sizes.
 
 ghost use Rattle.std.specs.Prelude.{◌≡◌, ◌+◌, ◌-◌, ◌<◌, ◌≤◌, length, take, drop, [], OnOk, IfOk, MatchResult};
 ghost use Rattle.std.specs.Io.KnownBytes.{Consumes, IsAtEnd, Keeps};
@@ -54,8 +54,8 @@ impl<A: Allocator> Buffer<A> {
         self.start += used;
     }
 
-    // Makes room for a pull behind what it holds, which then stands at the front. Where memory is
-    // refused there is none, and it holds what it held.
+    // Makes room for a pull after what it holds, which then is at the front. If memory is refused
+    // there is none, and it holds what it held.
     pub(crate) fn make_room(&mut self) -> Result<(), AllocError>
         requires { IsWithinBytes self.old }
         ensures range { IsWithinBytes self.new }
@@ -96,8 +96,8 @@ fn to_front<A: Allocator>(bytes: &mut Vec<u8, A>, start: usize, end: usize)
     bytes.copy_within(start..end, 0);
 }
 
-// Makes the vector long enough for a pull behind the first `filled` bytes; and for one more, where
-// something was left of the pull before. A source that gives whole messages leaves nothing.
+// Makes the vector long enough for a pull after the first `filled` bytes; and for one more, if
+// something was left of the pull before. A source that gives complete messages leaves nothing.
 fn grow<A: Allocator>(bytes: &mut Vec<u8, A>, filled: usize) -> Result<(), AllocError>
     requires { filled ≤ length bytes.old.items }
     ensures same { take filled bytes.new.items ≡ take filled bytes.old.items }

@@ -1,8 +1,8 @@
-//! What a served stream came to.
+//! The result of a served stream.
 
 use std::alloc::Allocator;
 
-/// What a stream came to that was served to its end.
+/// The result of a stream that was served to its end.
 #[derive(Drop)]
 pub struct Done<A: Allocator> {
     /// How many messages there were.

@@ -1,4 +1,5 @@
-//! What a served stream means, end by end: each law follows from what [`crate::run_until`] promises.
+//! What a served stream means, end by end: laws that follow from the promise of
+//! [`crate::run_until`].
 
 ghost use Rattle.std.specs.Prelude.{◌≡◌, ◌↔◌, ◌+◌, ℕ, ℤ, true, List, Result, Ok, Err};
 ghost use Rattle.fuse_wire.specs.Stream.{IsSplit};
@@ -15,7 +16,7 @@ ghost use Rattle.serve_loop.specs.Laws.{HasServed, HasBadLength, IsCutOff, HasFa
 
 use std::alloc::Allocator;
 
-/// `Ok`, `BadLength`, `CutOff`, `Read` and `Turns` tell how the stream ended, and all replies are
+/// `Ok`, `BadLength`, `CutOff`, `Read` and `Turns` say how the stream ended, and all replies are
 /// written and flushed.
 #[tactic(auto, using(crate::proofs::Ends::ends))]
 pub fn ends_are_told<A: Allocator>()
@@ -31,8 +32,8 @@ pub fn ends_are_told<A: Allocator>()
         IsRun {A = A} by n turns t (Err Turns) → HasUsedTurns by turns t }
 {}
 
-/// `Read` comes exactly where the source failed in the call, and `Write` exactly where the sink
-/// did, and each failed once.
+/// `Read` exactly if the source failed in the call, and `Write` exactly if the sink did, and each
+/// failed once.
 #[tactic(auto, using(crate::proofs::Ends::faults))]
 pub fn faults_are_the_devices<A: Allocator>()
     ensures read { (by : Answering) (n turns : ℕ) (t : Trace) (r : Result (Done A) StreamFault) →
@@ -56,8 +57,8 @@ pub fn replies_come_in_order<A: Allocator>()
         IsSplit (before t) messages rest → HaveReplies by messages (flushed_bytes t) }
 {}
 
-/// Where the session of a stream has begun, what was got does not say that it has not, if the
-/// stream began in a fresh session.
+/// If a stream began in a fresh session and its session has begun, then what was got contains that
+/// beginning.
 #[tactic(auto, using(crate::proofs::Openings::begun_or_not))]
 pub fn sessions_have_begun_or_not<A: Allocator>()
     ensures { (by : Answering) (n turns : ℕ) (t : Trace) (begun : Begun A) →

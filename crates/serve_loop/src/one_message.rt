@@ -18,7 +18,7 @@ pub trait AnswersOne {
     /// it. Appends the reply, and adds what the message moves to the balances, in which node n has
     /// the place n - 1. What it moves of a node that has none is not counted.
     ///
-    /// Where memory is refused, the replies and the balances may hold a part of the answer.
+    /// If memory is refused, the replies and the balances may hold a part of the answer.
     fn answer<A: Allocator>(
         &self,
         number: u32,

@@ -30,7 +30,7 @@ pub trait AnswersRounds {
     fn first(&self) -> Session
         ensures { result ≡ (answering self.now).first };
 
-    /// What a round asks for: where it calls workers, that they do what they are to do.
+    /// What a round requires: if it calls workers, that they do what they must.
     ghost ready: { Self → Type 0 };
 
     /// Of how many nodes balances are kept: the first ones, which are numbered from 1 on.
@@ -38,10 +38,10 @@ pub trait AnswersRounds {
         ensures { result ≡ nodes self.now };
 
     /// Answers some of the first messages of the stream's bytes in the session, and at least one,
-    /// if one is whole. Appends their replies, and adds what they move to the balances, in which
-    /// node n has the place n - 1. What they move of a node that has none is not counted.
+    /// if one is complete. Appends their replies, and adds what they move to the balances, in which
+    /// node n has the place n - 1. Moves of a node that has none are not counted.
     ///
-    /// Where memory is refused, the replies and the balances may hold a part of the round.
+    /// If memory is refused, the replies and the balances may hold a part of the round.
     fn answer_round<A: Allocator>(
         &self,
         stream: &[u8],

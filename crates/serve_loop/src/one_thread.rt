@@ -11,11 +11,10 @@ use fuse_wire::{Framed, Replies, frame};
 use reply_model::Session;
 use std::alloc::{AllocError, Allocator};
 
-/// Answers the first whole messages of the stream's bytes one after another: all of them, but no
-/// more than 256, and none after the reply with which 262,144 bytes of replies are reached.
+/// Answers the first complete messages of the stream's bytes one after another: all of them, but at
+/// most 256, and none after the reply that reaches 262,144 bytes of replies.
 ///
-/// Each message is borrowed from the stream; each is looked at once. `AllocError` comes only where
-/// memory was refused.
+/// Each message is borrowed from the stream and read once. `AllocError` only if memory was refused.
 pub fn walk<T: AnswersOne, A: Allocator>(
     answers: &T,
     stream: &[u8],

@@ -9,7 +9,7 @@ use crate::progress::Progress;
 use reply_model::Session;
 use std::alloc::Allocator;
 
-/// How far a stream is to be served.
+/// How far a stream is served.
 #[derive(Clone, Copy)]
 pub enum Until {
     /// To its end.
@@ -23,7 +23,7 @@ pub enum Until {
 pub struct Begun<A: Allocator> {
     /// The session after its messages.
     pub session: Session,
-    /// What they came to.
+    /// Their result.
     pub done: Done<A>,
 }
 
@@ -32,12 +32,12 @@ pub struct Begun<A: Allocator> {
 pub enum Opening<A: Allocator> {
     /// Its session has begun, and more may follow.
     Begun(Begun<A>),
-    /// It came to its end.
+    /// It ended.
     Ended(Done<A>),
 }
 
-// Whether the stream is to be served no further, since its session has begun, and no part of a
-// message is left.
+// Whether serving the stream ends here, since its session has begun, and no part of a message is
+// left.
 pub(crate) fn is_reached<A: Allocator>(until: Until, progress: &Progress<A>) -> bool
     requires { IsWithinBytes progress.now.buffer }
     ensures asked { IsTrue result → until ≡ Until.Begun }
@@ -52,7 +52,7 @@ pub(crate) fn is_reached<A: Allocator>(until: Until, progress: &Progress<A>) -> 
     }
 }
 
-// Whether no INIT was accepted, or DESTROY came since.
+// Whether no INIT was accepted, or DESTROY followed.
 fn is_fresh(session: Session) -> bool
     ensures { result ≡ is_fresh session }
 {

@@ -12,8 +12,8 @@ use fuse_wire::limits::MAX_REPLY_SIZE;
 use reply_model::Session;
 use std::alloc::{AllocError, Allocator};
 
-/// Room for the replies of a round on one thread: fewer bytes than end it, and one reply more.
-/// Where workers answer more it grows.
+/// Room for the replies of a round on one thread: fewer bytes than end it, and one more reply. If
+/// workers answer more it grows.
 const REPLIES_ROOM: usize = ENOUGH_REPLIES + MAX_REPLY_SIZE;
 
 /// How far a stream is answered.
@@ -36,8 +36,8 @@ pub(crate) struct Progress<A: Allocator> {
 }
 
 impl<A: Allocator + Copy> Progress<A> {
-    // Nothing is answered yet of a stream that begins in this session. Balances are kept of so many
-    // nodes.
+    // Nothing is answered yet of a stream that begins in this session. Balances are kept of this
+    // many nodes.
     pub(crate) fn new(alloc: A, first: Session, nodes: u64) -> Result<Progress<A>, AllocError>
         ensures { IfOk result (λ p. IsWithinBytes p.buffer
             × (serving_state p ≡ beginning first nodes)) }
@@ -55,7 +55,7 @@ impl<A: Allocator + Copy> Progress<A> {
 }
 
 impl<A: Allocator> Progress<A> {
-    // What the stream came to.
+    // The result of the stream.
     pub(crate) fn done(self) -> Done<A>
         ensures messages { result.messages ≡ self.messages }
         ensures written { result.written ≡ self.written }

@@ -9,7 +9,7 @@ use crate::stream_fault::StreamFault;
 use devices::{Sink, hand_on};
 use std::alloc::Allocator;
 
-// Answers all that is whole.
+// Answers all complete messages.
 pub(crate) fn answer_all<T: AnswersRounds, K: Sink, A: Allocator>(
     answers: &T,
     progress: &mut Progress<A>,
@@ -34,7 +34,7 @@ pub(crate) fn answer_all<T: AnswersRounds, K: Sink, A: Allocator>(
     }
 }
 
-// Answers one round, and hands its replies on. It is false where no message is whole.
+// Answers one round, and hands its replies on. False if no message is complete.
 fn answer_round<T: AnswersRounds, K: Sink, A: Allocator>(
     answers: &T,
     progress: &mut Progress<A>,

@@ -26,13 +26,13 @@ use std::alloc::Allocator;
 ///   flushed. No session had begun where that was to end it.
 /// - `Begun`: the session has begun, and had not before the last pull. All that was got is
 ///   answered, the replies are flushed, and neither device failed or met its end.
-/// - `BadLength`, `CutOff`, `Read` and `Turns`: all replies to the whole messages that came are
+/// - `BadLength`, `CutOff`, `Read` and `Turns`: all replies to the complete messages that came are
 ///   written and flushed.
 /// - `Write` and `Memory`: some of the first replies are written.
 ///
-/// `Read` and `Write` come exactly where the source's or the sink's count of failures rose in this
-/// call. No pull follows an end, a bad length or a failure, and no device is called after memory
-/// was refused. With no turns it answers `Turns` at once.
+/// `Read` and `Write` exactly if the source's or the sink's count of failures rose in this call. No
+/// pull follows an end, a bad length or a failure, and no device is called after memory was
+/// refused. With no turns it returns `Turns` at once.
 pub fn run_until<T: AnswersRounds, S: Source, K: Sink, A: Allocator + Copy>(
     alloc: A,
     answers: &T,
@@ -84,7 +84,7 @@ pub fn run_until<T: AnswersRounds, S: Source, K: Sink, A: Allocator + Copy>(
     Err(StreamFault::Turns)
 }
 
-// The length that the next message says, where no message has it, of bytes in which none is whole.
+// The length in the next message, if no message has it, in bytes with no complete message.
 fn bad_length(rest: &[u8]) -> Option<u32>
     requires { IsRest rest.now }
     ensures { MatchOption result (IsOpen rest.now) (λ n. IsBad rest.now n) }

@@ -1,4 +1,4 @@
--- What was gathered of a sound image looks as its accessible bytes do (looks_alike): its paths lead to the same headers, hard links there
+-- What was gathered from a sound image looks as its accessible bytes do (looks_alike): its paths lead to the same headers, hard links there
 -- to the same ends, and symbolic links have the same targets.
 use Rattle.std.proofs.Common.{◌≡◌, ◌∙◌, sym, ap, subst, ℕ, ◌≤◌, inl, inr, List, Bool, length, take, drop, Some, arith}
 use Rattle.std.specs.Prelude.{IsSome}
@@ -77,7 +77,7 @@ looks_of kept headers a xs g c short = record {
   short = short;
 }
 
--- what was gathered of an image that has its full size
+-- what was gathered from an image that has its full size
 module _ (b : List ℕ) (low : 16 ≤ word b 8) (high : word b 8 ≤ length b) (short : HasShortTargets (image b)) where
   gathered_looks : (a : List ℕ) → IsGatheredOf b a → LooksSame (image b) (image a)
   gathered_looks a g =

@@ -1,4 +1,4 @@
--- What the nodes of a stack are asked for is said of places of its entries alone.
+-- What requests need of a stack's nodes depends only on places of its entries.
 use Rattle.std.proofs.Common.{◌≡◌, sym, subst, ℕ, zero, suc, ◌+◌, ◌-◌, inl, inr, List, [], ◌∷◌, Bool, true, false, length, take, drop, Option, Some, None, refl, if◌then◌else◌}
 use Rattle.std.specs.Prelude.{find}
 use Rattle.std.specs.List.{AllByRecursion, filter_map, enumerate_from}

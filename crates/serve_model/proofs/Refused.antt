@@ -1,4 +1,4 @@
--- What was gathered of images is refused as they are (refused_alike): it is sound where they are, and has their faults.
+-- What was gathered from images is refused as they are (refused_alike): it is sound where they are, and has their faults.
 use Rattle.std.proofs.Common.{◌≡◌, ◌∙◌, ◌↔◌, sym, ap, subst, ℕ, zero, suc, ◌++◌, inl, inr, List, [], ◌∷◌, length, Option, Some, None, true≢false, refl, arith}
 use Rattle.std.specs.Prelude.{All, ⊤}
 use Rattle.romfs_format.specs.declared.rule.Profile.{Profile}

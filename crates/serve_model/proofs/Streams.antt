@@ -1,4 +1,4 @@
--- A stream that is served over what was gathered of images is replied as over the images (replied_alike), and served as over them to its
+-- A stream that is served over what was gathered from images is replied as over the images (replied_alike), and served as over them to its
 -- end (served_over).
 use Rattle.std.proofs.Common.{◌≡◌, ◌∙◌, ap, subst, ℕ, List, [], ◌∷◌, ◌++◌, length, map, refl}
 use Rattle.image_bytes.specs.Sources.{held}

@@ -1,6 +1,6 @@
--- What may be told over what was gathered of images: where data are read from sources that hold just the images' bytes, the reply that is
--- defined over the images (told_of), and no other (told_back). From any sources, that reply, if it is to no READ (others_of); and to a
--- READ one as long behind its header, or EIO (front_of).
+-- Possible replies over what was gathered from images: if data are read from sources that hold exactly the images' bytes, the reply that is
+-- defined over the images (told_of), and no other (told_back). From any sources, that reply, if it is to no READ (others_of); and to a READ
+-- one as long after its header, or EIO (front_of).
 use Rattle.std.proofs.Common.{◌⊎◌, ◌≡◌, ◌≢◌, ◌∙◌, sym, ap, subst, ℕ, ◌+◌, ◌-◌, ◌<◌, List, [], ◌∷◌, Bool, length, take, drop, map, min, inl, inr, Option, Some, None, refl, arith, length-take, length-drop, if◌then◌else◌}
 use Rattle.std.specs.Prelude.{slice_get}
 use Rattle.std.specs.Option.{option_map, option_map_or, option_and_then}

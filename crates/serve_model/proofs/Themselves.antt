@@ -1,4 +1,4 @@
--- The first bytes of an image were gathered of it (itself), so of images, under a profile that reads no attributes (all_themselves).
+-- The first bytes of an image were gathered from it (itself), so of images, under a profile that reads no attributes (all_themselves).
 use Rattle.std.proofs.Common.{◌≡◌, ◌∙◌, ap, ℕ, ◌==◌, List, [], ◌∷◌, true, false, IsTrue, length, map, inr, take, get_or, min, refl, arith, length-take}
 use Rattle.std.proofs.lemmas.Bool.Decides.{nat_tests}
 use Rattle.romfs_format.specs.declared.rule.Profile.{Profile}

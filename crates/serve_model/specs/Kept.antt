@@ -1,4 +1,4 @@
--- Images that stay in their files, what was gathered of each, and the stacks of both.
+-- Images that stay in their files, what was gathered from each, and the stacks of both.
 use Rattle.std.specs.Prelude.{◌≡◌, ◌⊎◌, ℕ, List, [], ◌∷◌, ⊤, false, map}
 use Rattle.romfs_format.specs.Fields.{image}
 use Rattle.romfs_format.specs.declared.rule.Profile.{Profile}
@@ -8,7 +8,7 @@ use Rattle.node_attr.specs.declared.owner.Owner.{Owner}
 use Rattle.stack_model.specs.Listing.{Stacked}
 use Rattle.stack_prepare.specs.Preparing.{AreStacked}
 
--- this was gathered of the image for a profile: with its trailer; or without, where the profile
+-- this was gathered from the image for a profile: with its trailer; or without, if the profile
 -- reads no attributes
 abbrev pub WasGatheredFor : Profile → List ℕ → List ℕ → Type 0
 WasGatheredFor profile b a =
@@ -26,7 +26,7 @@ WereGatheredFor profile (b ∷ images) [] = ⊥
 abbrev pub over : List (List ℕ) → Stacked → Stacked
 over images stack = record stack { layers = map image images }
 
--- the first is the stack of what was gathered of these images, the second that of the images
+-- the first is the stack of what was gathered from these images, the second that of the images
 pub record AreStacksOf (images : List (List ℕ)) (gathered whole : Stacked) : Type 0 where
   pub profile : Profile
   pub owner : Owner

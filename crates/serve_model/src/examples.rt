@@ -7,7 +7,7 @@ ghost use Rattle.romfs_format.specs.TrailerExamples.{two_rows};
 ghost use Rattle.kept_image.specs.Footprint.{reach};
 ghost use Rattle.kept_image.specs.Gathered.{IsGatheredOf};
 
-/// Where a profile reads attributes, an image is gathered with its trailer: of the image with two
+/// If a profile reads attributes, an image is gathered with its trailer: from the image with two
 /// rows its accessible bytes are gathered without it, and show other rows.
 pub fn trailer_left_out_example()
     ensures gathered { IsGatheredOf two_rows (take (reach two_rows) two_rows) }

@@ -1,5 +1,5 @@
-//! What was gathered of images is refused for what they are refused for, shows what they show, and
-//! is answered as they are.
+//! What was gathered from images is refused for what they are refused for, shows what they show,
+//! and is answered as they are.
 
 ghost use Rattle.std.specs.Prelude.{◌≡◌, ◌≢◌, ◌⊎◌, ◌↔◌, ℕ, List, map, length, take, false};
 ghost use Rattle.image_bytes.specs.Sources.{Source, held};
@@ -30,7 +30,7 @@ ghost use Rattle.serve_model.specs.Kept.{WereGatheredFor, AreStacksOf, over};
 
 use std::alloc::Allocator;
 
-/// The first bytes of images, as many as are looked at, were gathered of them, for a profile that
+/// The first bytes of images, as many as are read, were gathered from them, for a profile that
 /// reads no attributes.
 #[tactic(auto, using(crate::proofs::Themselves::all_themselves))]
 pub fn images_are_gathered_of_themselves()
@@ -38,7 +38,7 @@ pub fn images_are_gathered_of_themselves()
         WereGatheredFor profile images (map (λ b. take (reach b) b) images) }
 {}
 
-/// What was gathered of images is refused for what they are refused for.
+/// What was gathered from images is refused for what they are refused for.
 #[tactic(auto, using(crate::proofs::Refused::refused_alike))]
 pub fn refused_as_they_are()
     ensures { (profile : Profile) (images kept : List (List ℕ)) →
@@ -46,8 +46,7 @@ pub fn refused_as_they_are()
         (AreRefused profile kept r ↔ AreRefused profile images r) }
 {}
 
-/// It can be stacked where they can, and shows then what they show: the same entries, rows and
-/// owner.
+/// It can be stacked if they can, and then shows what they show: the same entries, rows and owner.
 pub fn stacked_as_they_are()
     ensures forth { (profile : Profile) (images kept : List (List ℕ)) →
         WereGatheredFor profile images kept → (owner : Owner) (stack : Stacked) →
@@ -57,8 +56,8 @@ pub fn stacked_as_they_are()
         AreStacked profile owner kept stack → AreStacked profile owner images (over images stack) }
 {}
 
-/// Over what was gathered, with data that are read from sources that hold the images, a request may
-/// be told the reply that is defined over the images, and no other; and it moves the same lookups.
+/// Over what was gathered, with data read from sources that hold the images, a request may only get
+/// the reply that is defined over the images; and it moves the same lookups.
 pub fn answered_as_they_are()
     ensures told { (images : List (List ℕ)) (gathered whole : Stacked) →
         AreStacksOf images gathered whole → (s : Session) (q : Asked) (bytes : List ℕ) →
@@ -68,9 +67,8 @@ pub fn answered_as_they_are()
         moves gathered s q ≡ moves whole s q }
 {}
 
-/// Whatever the sources give, as files do that were changed since, or that fail: each request but a
-/// READ is told the reply that is defined over the images, and a READ one as long behind its
-/// header, or EIO.
+/// Whatever the sources give, for instance files that were changed or fail: each request but a READ
+/// gets the reply that is defined over the images, and a READ one with as much data, or EIO.
 pub fn only_data_are_read()
     ensures others { (images : List (List ℕ)) (gathered whole : Stacked) →
         AreStacksOf images gathered whole → (sources : List Source) (s : Session) (q : Asked)

@@ -1,9 +1,9 @@
 //! What it means to serve images that stay in their files: definitions and laws alone, with no
 //! code.
 //!
-//! Of such an image only what its rules look at is held, and data are read from its file. The laws
-//! say that what was gathered of images is refused, stacked and answered as the images are: where
-//! the files hold them, in each byte; and whatever the files give, in all but the data of a READ.
+//! Only what the rules check is held of such an image, and data are read from its file. The laws
+//! say that what was gathered from images is refused, stacked and answered as the images are: in
+//! each byte if the files hold them, and in all but the data of a READ whatever the files give.
 #![tactic(auto)]
 
 pub mod examples;

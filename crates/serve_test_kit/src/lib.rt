@@ -1,7 +1,7 @@
 //! What the tests of serving share.
 //!
-//! - `reader` and `writer`: two devices that give and take as they are told, and their `calls`.
-//! - `runs`: runs of streams over tables and images, and what they came to.
+//! - `reader` and `writer`: two devices that give and take as instructed, and their `calls`.
+//! - `runs`: runs of streams over tables and images, and their results.
 #![tactic(auto)]
 
 pub mod calls;

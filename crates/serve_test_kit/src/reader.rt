@@ -3,7 +3,7 @@
 use crate::calls::Calls;
 use std::io::{self, Error, ErrorKind, Read};
 
-/// A reader that gives its bytes in pieces of at most so many, and then ends or fails.
+/// A reader that gives its bytes in pieces of at most this many, and then ends or fails.
 #[derive(Drop)]
 pub struct Pieces<'a> {
     pub rest: &'a [u8],

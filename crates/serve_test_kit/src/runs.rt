@@ -1,4 +1,4 @@
-//! Runs of streams over tables and images, and what they came to.
+//! Runs of streams over tables and images, and their results.
 
 ghost use Rattle.std.specs.Prelude.{◌≡◌, true, IfSome};
 
@@ -40,8 +40,8 @@ pub enum Stream {
 #[derive(Clone, Copy)]
 pub struct Run {
     pub stream: Stream,
-    /// How many first bytes of it are given, in pieces of so many, and whether the read after them
-    /// fails.
+    /// How many first bytes of it are given, in pieces of this many, and whether the read after
+    /// them fails.
     pub given: usize,
     pub piece: usize,
     pub breaks: bool,
@@ -71,7 +71,7 @@ pub const WHOLE: Run = Run {
     flushes: u64::MAX,
 };
 
-/// All of a stream by so many workers, in batches of so many messages.
+/// All of a stream by this many workers, in batches of this many messages.
 pub fn by(plan: (u32, u32)) -> Run {
     Run { plan, ..WHOLE }
 }
@@ -82,7 +82,7 @@ pub type Watched<'a> = Option<&'a Refusing<Global>>;
 /// How many messages and how many bytes of replies, or why it stopped.
 pub type End = Result<(u64, u128), Stop>;
 
-/// What a run came to.
+/// The result of a run.
 #[derive(Drop)]
 pub struct Finished<A: Allocator> {
     done: Result<Done<A>, Stop>,
@@ -113,7 +113,7 @@ impl<A: Allocator> Finished<A> {
         }
     }
 
-    /// The balance of each node; none where the run stopped.
+    /// The balance of each node; none if the run stopped.
     pub fn balances(&self) -> &[i128] {
         match &self.done {
             Ok(done) => done.balances.as_slice(),
@@ -121,7 +121,7 @@ impl<A: Allocator> Finished<A> {
         }
     }
 
-    /// What is seen of it, where these are the replies.
+    /// What it gave, if these are the replies.
     fn seen(&self, replies: &[u8]) -> Seen {
         Seen {
             end: self.end(),
@@ -133,11 +133,11 @@ impl<A: Allocator> Finished<A> {
     }
 }
 
-/// What is seen of a run.
+/// What a run gave.
 #[derive(Clone, Copy, PartialEq, Eq)]
 pub struct Seen {
     pub end: End,
-    /// How many bytes were put, where they are the first of the replies.
+    /// How many bytes were put, if they begin the replies.
     pub put: Option<usize>,
     pub reads: u64,
     /// Writes and flushes.
@@ -250,7 +250,7 @@ pub fn ran_from<R: Threads + Sync, D: Contents + Sync>(
     Some(Finished::of(done, pieces, taker))
 }
 
-/// What is seen of a run of a stream, the first of these two, over a table.
+/// What a run of a stream, the first of these two, gives over a table.
 pub fn run_over<R: Threads + Sync, A: Allocator + Copy + Send + Sync>(
     rt: &R,
     global: Global,
@@ -267,7 +267,7 @@ pub fn run_over<R: Threads + Sync, A: Allocator + Copy + Send + Sync>(
     Some(ran.seen(replies))
 }
 
-/// What is seen of a run over the table of the sample image, which stands in memory of `plain`.
+/// What a run gives over the table of the sample image, which is in memory of `plain`.
 pub fn run_of<R: Threads + Sync, A: Allocator + Copy + Send + Sync>(
     rt: &R,
     global: Global,
@@ -282,7 +282,7 @@ pub fn run_of<R: Threads + Sync, A: Allocator + Copy + Send + Sync>(
     run_over(rt, global, alloc, &table, (&stream, &replies), row, watched)
 }
 
-/// What is seen of a run over images, by `serve_as`, of a stream that is served lastingly or not.
+/// What a run over images by `serve_as` gives for a stream that is served lastingly or not.
 pub fn serve_of<R: Threads + Sync, A: Allocator + Copy + Send + Sync>(
     rt: &R,
     global: Global,

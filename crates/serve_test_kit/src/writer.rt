@@ -3,8 +3,9 @@
 use crate::calls::Calls;
 use std::io::{self, Error, ErrorKind, Write};
 
-/// A writer that takes so many bytes in all, and at most so many at once; then each write fails, or
-/// takes none. So many of its flushes succeed, then one fails. It counts its writes and flushes.
+/// A writer that takes this many bytes in all, and at most this many at once; then each write
+/// fails, or takes none. This many of its flushes succeed, then one fails. It counts its writes and
+/// flushes.
 #[derive(Drop)]
 pub struct Taker<'a> {
     pub taken: Vec<u8>,

@@ -1,6 +1,5 @@
--- Walks over sets of slots. What holds at a slot and goes on from slot to slot holds at every later
--- one (`over_to`). A union is made so: it holds the other set's slots below the one come to
--- (`united_more`), and is whole where none is left (`united_all`).
+-- Walks over sets of slots. What holds at a slot and goes on from slot to slot holds at every later one (`over_to`). A union holds the
+-- other set's slots below the current one (`united_more`), and is complete if none is left (`united_all`).
 use Rattle.std.proofs.Common.{◌≡◌, ◌∙◌, sym, subst, ℕ, zero, suc, ◌+◌, ◌-◌, ◌<◌, ◌≤◌, ◌⊎◌, inl, inr, List, length, Bool, true, false, get_or, set, Option, Some, None, refl, arith}
 use Rattle.std.proofs.lemmas.Bool.{cases_eq, cases_lt, true≢false}
 use Rattle.std.proofs.lemmas.List.{length-set, get_or-set_same, get_or-set_other, get_or_past}
@@ -59,7 +58,7 @@ module _ (one other : List Bool) where
       fits : slot < length both
       fits = let s = u.sized in let h = n.high in omega arith
 
-  -- where the other set has no more slots, the union is whole
+  -- if the other set has no more slots, the union is complete
   pub united_all : (from : ℕ) (both : List Bool) → IsUnionBelow from one other both → IsClear other from (length other)
       → IsUnion one other both
   united_all from both u c = record {

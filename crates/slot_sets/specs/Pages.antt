@@ -1,5 +1,4 @@
--- Words by pages of eight, of which those are held that have a word which is not 0, behind a page
--- of zeros.
+-- Words by pages of eight; those with a nonzero word are held, after a page of zeros.
 use Rattle.std.specs.Prelude.{◌≡◌, ℕ, zero, suc, ◌+◌, ◌*◌, ◌/◌, ◌%◌, ◌<◌, ◌≤◌, ◌⊎◌, List, [], ◌∷◌, length, map, get_or}
 use Rattle.std.specs.List.{range_with_len}
 

@@ -1,4 +1,4 @@
--- Sets of slots, as a bit for each: 64 a word, the lowest first.
+-- Sets of slots, as a bit for each: 64 a word, lowest first.
 use Rattle.std.specs.Prelude.{◌≡◌, ℕ, zero, suc, ◌+◌, ◌*◌, ◌/◌, ◌%◌, ◌<◌, ◌≤◌, ◌==◌, ◌⊎◌, List, length, map, Bool, true, false, cond, get_or, Option, MatchOption}
 use Rattle.std.specs.Int.{bit_at}
 use Rattle.std.specs.List.{range_with_len}
@@ -16,7 +16,7 @@ unfoldable pub rank : List Bool → ℕ → ℕ
 rank set zero = 0
 rank set (suc n) = rank set n + cond (get_or set n false) 1 0
 
--- for each word of the set's slots, how many of the set stand before it
+-- for each word of the set's slots, how many of the set are before it
 pub record AreCounts (set : List Bool) (before : List ℕ) : Type 0 where
   pub sized : length before ≡ length set / 64 + 1
   pub each : (w : ℕ) → w < length before → get_or before w 0 ≡ rank set (w * 64)

@@ -8,7 +8,7 @@ pub record Words : Type 0 where
   pub slots : List Bool
   pub by_slot : List ℕ
 
--- the number of slot k, where those of the set have numbers in their order
+-- the number of slot k, if those of the set are numbered in order
 abbrev pub word_at : List Bool → List ℕ → ℕ → ℕ
 word_at set words k = cond (get_or set k false) (get_or words (rank set k) 0) 0
 

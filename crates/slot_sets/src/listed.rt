@@ -7,8 +7,8 @@ ghost use Rattle.slot_sets.specs.Listed.{AreCollected};
 use crate::slot_set::SlotSet;
 use std::alloc::{AllocError, Allocator};
 
-/// The places of the slots of a set, rising: 16 times the number of each. `AllocError` comes only
-/// where memory was refused.
+/// The places of the slots of a set, rising: 16 times the number of each. `AllocError` only if
+/// memory was refused.
 pub fn places_of<A: Allocator + Copy>(alloc: A, set: &SlotSet<A>) -> Result<Vec<u32, A>, AllocError>
     requires few { length set.now < 2 ^ 28 }
     ensures { IfOk result (λ places. AreCollected set.now (length set.now) places.items) }

@@ -1,5 +1,5 @@
-//! The numbers of the slots of a set, from 0, upward. For each word of the set it is kept how many
-//! of its slots stand in the words before, so that a number is had by a look at two words:
+//! The numbers of the slots of a set, from 0, upward. For each word of the set the count of its
+//! slots in the words before is kept, so a number is found from two words:
 //!
 //! ```text
 //! set     ..1.1... 1....... .11.....
@@ -19,7 +19,7 @@ use std::marker::Model;
 #[derive(Drop)]
 pub struct SlotNumbers<'s, A: Allocator> {
     set: &'s SlotSet<A>,
-    /// By word of the set, how many of its slots stand before that word.
+    /// By word of the set, how many of its slots are before that word.
     before: Vec<u32, A>,
 }
 
@@ -35,7 +35,7 @@ impl<'s, A: Allocator> Model for SlotNumbers<'s, A> {
 }
 
 impl<'s, A: Allocator + Copy> SlotNumbers<'s, A> {
-    /// Numbers the slots of a set. `AllocError` comes only where memory was refused.
+    /// Numbers the slots of a set. `AllocError` only if memory was refused.
     pub fn of(alloc: A, set: &'s SlotSet<A>) -> Result<SlotNumbers<'s, A>, AllocError>
         requires { length set.now < 2 ^ 32 }
         ensures { IfOk result (λ numbers. numbers ≡ set.now) }
@@ -53,7 +53,7 @@ impl<'s, A: Allocator + Copy> SlotNumbers<'s, A> {
 }
 
 impl<'s, A: Allocator> SlotNumbers<'s, A> {
-    /// How many of the set stand before a slot: its number, where it is in the set.
+    /// How many of the set are before a slot: its number, if it is in the set.
     pub fn number(&self, slot: usize) -> u32
         requires small { length self.now < 2 ^ 32 }
         requires slot { slot ≤ length self.now }

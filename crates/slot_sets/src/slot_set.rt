@@ -1,7 +1,7 @@
 //! Sets of slots.
 //!
-//! A set has a bit for each slot, 64 a word, so that it takes an eighth of a byte for the 16 bytes
-//! of a slot. To go over its slots upward skips a word that has none in one step.
+//! A set has a bit for each slot, 64 a word, an eighth of a byte for the 16 bytes of a slot. A scan
+//! of its slots skips an empty word in one step.
 
 ghost use Rattle.std.specs.Prelude.{◌≡◌, ◌+◌, ◌*◌, ◌/◌, ◌<◌, ◌≤◌, ◌^◌, false, true, length, get_or, set, replicate, IfOk};
 ghost use Rattle.slot_sets.specs.Sets.{IsNextSlot, IsNextOfEither, IsUnion, rank};
@@ -29,7 +29,7 @@ impl<A: Allocator> Model for SlotSet<A> {
 }
 
 impl<A: Allocator> SlotSet<A> {
-    /// The empty set of slots below a number. `AllocError` comes only where memory was refused.
+    /// The empty set of slots below a number. `AllocError` only if memory was refused.
     pub fn new(alloc: A, slots: usize) -> Result<SlotSet<A>, AllocError>
         requires { slots < 2 ^ 32 }
         ensures { IfOk result (λ empty. empty ≡ replicate slots false) }
@@ -55,7 +55,7 @@ impl<A: Allocator> SlotSet<A> {
         self.words[slot / 64] >> (slot % 64) & 1 == 1
     }
 
-    /// How many of the set stand in a whole word of slots.
+    /// How many of the set are in a complete word of slots.
     #[tactic(auto, using(crate::proofs::Bits::bits_length))]
     pub(crate) fn count_in_word(&self, word: usize) -> u32
         requires { word * 64 + 64 ≤ length self.now }
@@ -65,7 +65,7 @@ impl<A: Allocator> SlotSet<A> {
         self.words[word].count_ones()
     }
 
-    /// How many of the set stand before a slot in its word.
+    /// How many of the set are before a slot in its word.
     #[tactic(auto, using(crate::proofs::Bits::bits_length))]
     pub(crate) fn count_before(&self, slot: usize) -> u32
         requires { slot ≤ length self.now }
@@ -96,7 +96,7 @@ impl<A: Allocator> SlotSet<A> {
         }
     }
 
-    /// The first slot from a slot on that is in this set or in another; none where none is.
+    /// The first slot from a slot on that is in this set or in another; none if none is.
     pub fn next_of_either(&self, other: &SlotSet<A>, from: usize) -> Option<usize>
         requires { length other.now ≡ length self.now }
         ensures { IsNextOfEither self.now other.now from result }
@@ -118,7 +118,7 @@ impl<A: Allocator> SlotSet<A> {
         None
     }
 
-    /// The first slot of the set from a slot on; none where there is none.
+    /// The first slot of the set from a slot on; none if there is none.
     #[tactic(auto, using(crate::proofs::Unions::next_of_one))]
     pub fn next_from(&self, from: usize) -> Option<usize>
         ensures next { IsNextSlot self.now from result }

@@ -32,7 +32,7 @@ impl<'s, A: Allocator> Model for SlotWords<'s, A> {
 }
 
 impl<'s, A: Allocator + Copy> SlotWords<'s, A> {
-    /// A 0 for each slot of a set. `AllocError` comes only where memory was refused.
+    /// A 0 for each slot of a set. `AllocError` only if memory was refused.
     pub fn new(alloc: A, slots: &'s SlotSet<A>) -> Result<SlotWords<'s, A>, AllocError>
         requires { length slots.now < 2 ^ 32 }
         ensures { IfOk result (λ kept. (kept.slots ≡ slots.now)

@@ -1,7 +1,7 @@
 //! Sets of slots that are few among many.
 //!
-//! The slots are cut into pages of 512, of which only those are held that have a slot of the set: a
-//! bit for each, in eight words. By page its number among those is kept, from 1 upward:
+//! The slots are cut into pages of 512, of which only those with a slot of the set are held: a bit
+//! for each, in eight words. For each page its number among those is kept, from 1 upward:
 //!
 //! ```text
 //! slots   ........ 1..1.... ........ ........ ......1. ........
@@ -9,9 +9,9 @@
 //! held    ........ 1..1.... ......1.
 //! ```
 //!
-//! Number 0 is a page without a slot, for all that are not held. So a set takes 4 bytes for each
-//! 512 slots, and 64 bytes for each 512 of which it has one; room for all is asked for at once, so
-//! that to add a slot never fails, but what is not used of it is never touched.
+//! Number 0 is a page without a slot, for all that are not held. A set takes 4 bytes for each 512
+//! slots, and 64 bytes for each 512 of which it has one; room for all is reserved at once, so
+//! adding a slot never fails, but unused room is never touched.
 
 ghost use Rattle.std.specs.Prelude.{◌≡◌, ◌+◌, ◌*◌, ◌<◌, ◌≤◌, ◌^◌, false, true, length, get_or, set, replicate, vec_capacity, IfOk};
 ghost use Rattle.slot_sets.specs.Pages.{ArePages, words_of};
@@ -22,9 +22,9 @@ use std::marker::Model;
 /// A set of slots, of those below a number, which are few. A clause sees whether each is in it.
 #[derive(Drop)]
 pub struct SparseSlots<A: Allocator> {
-    /// By page, its number among those that are held; 0 where it has no slot of the set.
+    /// By page, its number among those that are held; 0 if it has no slot of the set.
     pages: Vec<u32, A>,
-    /// The pages that are held, in words, behind one that has no slot.
+    /// The pages that are held, in words, after an empty one.
     held: Vec<u64, A>,
     slots: usize,
 }
@@ -44,7 +44,7 @@ impl<A: Allocator> Model for SparseSlots<A> {
 }
 
 impl<A: Allocator + Copy> SparseSlots<A> {
-    /// The empty set of slots below a number. `AllocError` comes only where memory was refused.
+    /// The empty set of slots below a number. `AllocError` only if memory was refused.
     pub fn new(alloc: A, slots: usize) -> Result<SparseSlots<A>, AllocError>
         requires { slots < 2 ^ 32 }
         ensures { IfOk result (λ empty. empty ≡ replicate slots false) }

@@ -1,12 +1,12 @@
-//! A list of layers stacked: the tree of the whole list.
+//! A list of layers stacked: the tree of the full list.
 //!
 //! [`stack`], or [`stack_views`] of images that are lent, cuts the list in two, makes the trees of
-//! both halves in two calls at the same time, and lays the upper on the lower. So it goes on down
+//! both halves in two calls at the same time, and lays the upper on the lower. This continues down
 //! to single layers, but after four cuts one call does the rest of its part alone: a thread for
-//! each of many layers would cost more time and memory than it gains. Where a worker cannot be
+//! each of many layers would cost more time and memory than it gains. If a worker cannot be
 //! started, the caller does its work. The [`Gate`] is passed before each layer's tree is made.
-//! [`shown`] says where what a path shows stands. The crate stands on `layer_tree` for trees, on
-//! `work_gate` and on `std::thread::join` for workers.
+//! [`shown`] finds the entry that a path shows. The crate uses `layer_tree` for trees, `work_gate`
+//! and `std::thread::join` for workers.
 #![tactic(auto)]
 
 mod stacking;

@@ -33,8 +33,8 @@ pub fn stack<R: Threads + Sync, A: Allocator + Copy + Send + Sync, G: Gate + Syn
 ///
 /// The list is cut in two, and so on, and as many parts are stacked at the same time as there are
 /// processors, 16 at most ([`forks_of`]). The gate is passed with `Work::Tree` and the layer's
-/// number before its tree is made. Images are only read. A path that is in all of n layers is gone
-/// over log n times. `AllocError` comes only where memory was refused, in whichever thread.
+/// number before its tree is made. Images are only read. A path in all of n layers is visited log n
+/// times. `AllocError` only if memory was refused, in any thread.
 pub fn stack_views<R: Threads + Sync, A: Allocator + Copy + Send + Sync, G: Gate + Sync>(
     rt: &R,
     alloc: A,
@@ -49,7 +49,7 @@ pub fn stack_views<R: Threads + Sync, A: Allocator + Copy + Send + Sync, G: Gate
     stack_from(rt, alloc, 0, images, gate, forks)
 }
 
-/// Where the entry stands that a path shows; none where the path is not shown.
+/// The place of the entry that a path shows; none if the path is not visible.
 pub fn shown<A: Allocator>(tree: &Tree<A>, path: &[&[u8]]) -> Option<Place>
     ensures { result
         ≡ option_map (λ entry. entry.place) (entry_at tree.now (map (λ name. name.now) path.now)) }
@@ -57,8 +57,8 @@ pub fn shown<A: Allocator>(tree: &Tree<A>, path: &[&[u8]]) -> Option<Place>
     tree.entry(path).map(|entry| entry.place)
 }
 
-// The tree of a run of layers, of which the lowest has the number `first`: of its halves, made at
-// the same time as long as it may still be cut so.
+// The tree of a run of layers whose lowest has the number `first`: from its halves, made at the
+// same time as long as it may still be cut.
 #[cycle(halves)]
 fn stack_from<R: Threads + Sync, A: Allocator + Copy + Send + Sync, G: Gate + Sync>(
     rt: &R,

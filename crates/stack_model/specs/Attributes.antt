@@ -50,7 +50,7 @@ rdev_of _ s = 0
 abbrev pub blocks_of : ℕ → ℕ
 blocks_of n = (n + 511) / 512
 
--- a mode of which a row says the low 12 bits; the type stays the header's
+-- a mode with the low 12 bits of a row; the type stays the header's
 abbrev pub mode_by : Option AttributeRow → ℕ → ℕ
 mode_by None mode = mode
 mode_by (Some row) mode = mode / 2 ^ 12 * 2 ^ 12 + row.mode % 2 ^ 12
@@ -69,7 +69,7 @@ abbrev pub blocks_all : List (List ℕ) → ℕ
 blocks_all layers = sum_by (λ a. blocks_of (length a)) layers
 
 module _ (layers : List (List ℕ)) where
-  -- the bytes of the layer that a place is in; none where there is no such layer
+  -- the bytes of the layer that a place is in; none if there is no such layer
   abbrev pub layer_of : Place → List ℕ
   layer_of p = slice_index_or layers p.0 []
 
@@ -77,7 +77,7 @@ module _ (layers : List (List ℕ)) where
   abbrev pub kind_at : Place → Kind
   kind_at p = kind (layer_of p) p.1
 
-  -- whether a directory stands at a place
+  -- whether a place is a directory
   abbrev pub is_directory_at : Place → Bool
   is_directory_at p = is_directory (kind_at p)
 
@@ -89,11 +89,11 @@ module _ (layers : List (List ℕ)) where
   abbrev pub size_at : Place → ℕ
   size_at p = size_of (kind_at p) (size (layer_of p) p.1)
 
-  -- the device number of a place; 0 where no device stands there
+  -- the device number of a place; 0 if it is no device
   abbrev pub rdev : Place → ℕ
   rdev p = rdev_of (kind_at p) (spec (layer_of p) p.1)
 
-  -- where the data of a place begin in its layer: behind the padded name
+  -- the start of a place's data in its layer: after the padded name
   abbrev pub data_start : Place → ℕ
   data_start p = option_map_or (data_at p.1) (name (layer_of p) p.1) 0
 

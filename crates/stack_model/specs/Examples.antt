@@ -27,7 +27,7 @@ pub record ModeExamples : Type 0 where
   pub fifo : mode_of Fifo false ≡ 0x11a4
   pub fifo_exec : mode_of Fifo true ≡ 0x11a4
 
--- major and minor of spec.info; the high byte of a minor stands above the 12 bits of the major
+-- major and minor of spec.info; the high byte of a minor is above the 12 bits of the major
 pub record DeviceExamples : Type 0 where
   pub low_minor : device 1 3 ≡ 0x103
   pub high_minor : device 0x123 0xabcd ≡ 0xab123cd
@@ -124,7 +124,7 @@ pub record NestedExamples : Type 0 where
   pub names_of_f : links nested_stack (0, 16) ≡ 1
   pub no_data : data_of (six_headers ∷ []) (0, 0) ≡ []
 
--- a row of a header, with this mode; uid, gid and time are told apart
+-- a row of a header, with this mode; uid, gid and time differ
 abbrev pub row_for : ℕ → ℕ → AttributeRow
 row_for place mode = record {
   place = place;

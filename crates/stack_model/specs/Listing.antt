@@ -18,9 +18,9 @@ pub record Entry : Type 0 where
   pub layer : ℕ
   pub header : ℕ
 
--- layers, the lowest first, and entries that they show; the rows of attributes of each layer, and
--- whom the nodes belong to that have none; and whether the layers are whole, or have zeros where
--- nothing is held of them
+-- layers, lowest first, and entries that they show; the rows of attributes of each layer, and the
+-- owner of nodes without one; and whether the layers are complete, or have zeros where nothing is
+-- held of them
 pub record Stacked : Type 0 where
   pub layers : List (List ℕ)
   pub entries : List Entry
@@ -28,7 +28,7 @@ pub record Stacked : Type 0 where
   pub owner : Owner
   pub whole : Bool
 
--- whole layers that have no rows, where all belongs to the superuser
+-- complete layers that have no rows, with the superuser as owner of everything
 abbrev pub stacked : List (List ℕ) → List Entry → Stacked
 stacked layers entries = record {
   layers = layers;
@@ -47,7 +47,7 @@ abbrev pub Rises : List Entry → Type 0
 Rises [] = Unit {0}
 Rises (e ∷ es) = AllByRecursion (λ f. path_cmp e.path f.path ≡ Less) es × Rises es
 
--- the header is that of the layer i where hard links from h end
+-- the header in the layer i where hard links from h end
 abbrev pub IsFinalIn : List (List ℕ) → ℕ → ℕ → ℕ → Type 0
 IsFinalIn layers i h header = (a : List ℕ) × (slice_get layers i ≡ Some a) × IsFinal a h header
 

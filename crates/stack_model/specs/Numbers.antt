@@ -11,7 +11,7 @@ use Rattle.stack_model.specs.Listing.{Entry}
 abbrev pub Place : Type 0
 Place = ℕ × ℕ
 
--- where the entry stands
+-- the place of the entry
 abbrev pub place : Entry → Place
 place e = (e.layer, e.header)
 

@@ -14,7 +14,7 @@ Path = List (List ℕ)
 abbrev pub marker : List ℕ
 marker = codes ".wh."
 
--- the name of the marker of a whole directory
+-- the name of an opaque marker
 abbrev pub opaque : List ℕ
 opaque = codes ".wh..wh..opq"
 

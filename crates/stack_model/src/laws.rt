@@ -28,7 +28,7 @@ pub fn one_layer_shows_its_own()
 {}
 
 /// A run of layers laid on another one: the joined run shows what the upper run shows, and what the
-/// lower run shows where the upper one neither has nor cuts it; and it cuts what either cuts.
+/// lower run shows if the upper one neither has nor cuts it; and it cuts what either cuts.
 #[tactic(auto, using(crate::proofs::Joined::joins))]
 pub fn laid_is_joined()
     ensures free { (layers : List (List ℕ)) (path : Path) →
@@ -66,9 +66,9 @@ pub fn all_but_directories_cut()
         Has a (q ++ y ∷ []) h → kind a h ≢ Directory → Cuts a (q ++ y ∷ rest) }
 {}
 
-/// Numbers: the root has 1 where it is listed; each number from 1 to the number of nodes is that of
+/// Numbers: the root has 1 if it is listed; each number from 1 to the count of nodes belongs to
 /// exactly one place, that of some entry, and no other number is used; two entries have one number
-/// exactly where they have one place.
+/// exactly if they have one place.
 #[tactic(auto, using(crate::proofs::Numbering::numbering))]
 pub fn numbers_are_places()
     ensures root { (layers : List (List ℕ)) (entries : List Entry) (e : Entry) →
@@ -85,8 +85,8 @@ pub fn numbers_are_places()
         × ((number_of entries (place e) ≡ number_of entries (place f)) ↔ (place e ≡ place f)) }
 {}
 
-/// Modes: the type is always the header's; a row says all of the other bits. Where a place has no
-/// row, and all without one belongs to the superuser, its attributes are those without any rows.
+/// Modes: the type is always the header's; a row gives all other bits. If a place has no row, and
+/// everything without one belongs to the superuser, its attributes are those without any rows.
 #[tactic(auto, using(crate::proofs::Modes::modes))]
 pub fn types_are_the_headers()
     ensures types { (stack : Stacked) (p : Place) →

@@ -1,6 +1,6 @@
 -- Images that are checked, one after another or in two halves. `one_more` and `all_checked` are the
 -- loop; `joined` is the main lemma: what two halves come to is what the run does, of which the
--- lowest broken image is told. The last lemmas say it of all images.
+-- lowest broken image is reported. The last lemmas say it of all images.
 use Rattle.std.proofs.Common.{◌≡◌, ◌∙◌, sym, ap, ℕ, ◌+◌, ◌≤◌, inl, inr, take, drop, List, [], ◌∷◌, ◌++◌, append_assoc, append-nil, subst, refl, arith, length, map, All, Bool, Result, Ok, Err, IfOk, IfErr}
 use Rattle.std.proofs.lemmas.List.{length-map, length-append, map-append, take-append-drop, length-take-le}
 use Rattle.std.proofs.lemmas.List.Elements.{All-push, All-append}

@@ -1,6 +1,5 @@
--- Images are refused for one reason. `one_broken` is the heart: the lowest broken image is one, as
--- all below it keep the rules. So there is one reason but for want of memory, and good images have
--- only that.
+-- Images are refused for one reason. `one_broken` is the heart: the lowest broken image is one, as all below it keep the rules. So there is
+-- one reason but for lack of memory, and good images have only that.
 use Rattle.std.proofs.Common.{◌≡◌, ◌∙◌, sym, ap, subst, ℕ, suc, ◌<◌, ◌⊎◌, inl, inr, List, [], ◌∷◌, ◌++◌, length, All, refl, arith}
 use Rattle.std.proofs.lemmas.List.Elements.{All-head, All-tail}
 use Rattle.stack_model.specs.declared.limits.TheConstants.{MAX_LAYERS}
@@ -56,7 +55,7 @@ module _ (profile : Profile) (images : List (List ℕ)) where
   not_few count (e, inl h) few = (let a = few.0 in omega arith)
   not_few count (e, inr h) few = (let a = few.1 in omega arith)
 
-  -- a reason, but for want of memory
+  -- a reason, but for lack of memory
   reason : (r : Refusal) → AreRefused profile images r
       → (r ≡ Memory) ⊎ (((n : ℕ) × (r ≡ Layers n) × AreRefused profile images (Layers n)) ⊎ ((n : ℕ) × (f : ImageFault) × (r ≡ Layer n f)
       × AreRefused profile images (Layer n f)))
@@ -81,7 +80,7 @@ module _ (profile : Profile) (images : List (List ℕ)) where
         ]
       ]
 
-  -- images that keep the rules are refused for want of memory alone
+  -- images that keep the rules are refused for lack of memory alone
   pub good_are_taken : (layers : List (List ℕ)) (r : Refusal) → AreLayers profile images layers → AreRefused profile images r → r ≡ Memory
   good_are_taken layers r good x =
       elim (reason r x) [

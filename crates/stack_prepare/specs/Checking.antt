@@ -1,4 +1,4 @@
--- What comes of a run of images that are checked.
+-- The result of checking a run of images.
 use Rattle.std.specs.Prelude.{◌≡◌, ℕ, ◌+◌, ◌⊎◌, List, ◌++◌, length, map, All, ⊤, IfOk, IfErr, Ok, Err}
 use Rattle.std.specs.declared.result.Result.{Result}
 use Rattle.romfs_format.specs.Fields.{image}
@@ -61,7 +61,7 @@ IsFirstRefusal (Err low) high refusal = refusal ≡ low
 IsFirstRefusal (Ok low) (Err high) refusal = refusal ≡ high
 IsFirstRefusal (Ok low) (Ok high) refusal = ⊥
 
--- what two halves of a run come to: the images of both; or want of memory, or why the first was
+-- what two halves of a run come to: the images of both; or lack of memory, or why the first was
 -- refused
 abbrev pub Joins : {A : Type 0} → Result (Checked A) Refusal → Result (Checked A) Refusal
     → Result (Checked A) Refusal → Type 0

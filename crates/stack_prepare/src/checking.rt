@@ -1,7 +1,7 @@
 //! Images, some checked at the same time.
 //!
-//! A list is cut in two, and so on; each half is checked in a call of its own, and what both find
-//! is put together: where both have a broken image the lower half's is told.
+//! A list is cut in two, and so on; each half is checked in a call of its own, and the results are
+//! joined: if both have a broken image the lower half's is reported.
 
 ghost use Rattle.std.specs.Prelude.{◌≡◌, ◌+◌, ◌≤◌, length, IfOk, IfErr};
 ghost use Rattle.stack_prepare.specs.Layers.{AreRefused, IsFew, held_contents};
@@ -47,8 +47,8 @@ pub(crate) fn check_all<R: Threads + Sync, A: Allocator + Copy + Send + Sync, G:
     check_from(rt, alloc, 0, images, profile, gate, forks)
 }
 
-/// A run of images, of which the lowest has the number `first`, checked: its halves at the same
-/// time, each of which is cut so once less, or one after another.
+/// A run of images whose lowest has the number `first`, checked: its halves at the same time, each
+/// of which is cut once less, or one after another.
 #[cycle(halves)]
 fn check_from<R: Threads + Sync, A: Allocator + Copy + Send + Sync, G: Gate + Sync>(
     rt: &R,
@@ -87,7 +87,7 @@ fn check_from<R: Threads + Sync, A: Allocator + Copy + Send + Sync, G: Gate + Sy
     together(low, high)
 }
 
-/// What two halves of a run come to: want of memory in either, else the lower one's broken image,
+/// What two halves of a run come to: lack of memory in either, else the lower one's broken image,
 /// else the upper one's.
 fn together<A: Allocator>(
     low: Result<Checked<A>, Refusal>,

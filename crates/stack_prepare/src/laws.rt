@@ -13,7 +13,7 @@ ghost use Rattle.stack_prepare.specs.declared.refusal.Refusal.TheVariants.{Memor
 ghost use Rattle.stack_prepare.specs.Layers.{AreLayers, AreRefused};
 ghost use Rattle.stack_prepare.specs.Preparing.{AreStacked};
 
-/// Beside want of memory, images are refused for one reason, and good ones for none.
+/// Beside lack of memory, images are refused for one reason, and good ones for none.
 #[tactic(auto, using(crate::proofs::Refusals::one_reason))]
 pub fn refusals_are_one()
     ensures once { (profile : Profile) (images : List (List ℕ)) (r s : Refusal) →

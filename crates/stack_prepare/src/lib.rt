@@ -7,7 +7,7 @@
 //! [`prepare`] promises is said of the bytes that are held.
 //!
 //! It gives the table of the images' stack, or a [`Refusal`]: a wrong number of them, the lowest
-//! that breaks a rule, whichever was found first, or want of memory; [`laws`] says that there is
+//! that breaks a rule, whichever was found first, or lack of memory; [`laws`] says that there is
 //! one such reason. What images are taken and why others are refused is said in
 //! `specs/Layers`, and of what stack a table is made in `specs/Preparing`. An image costs what its
 //! check costs ([`check_held`](romfs_check::check_held)), and a part of several images a started

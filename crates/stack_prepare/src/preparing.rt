@@ -24,9 +24,9 @@ use work_gate::Gate;
 /// images that stay in their files the table holds what is kept of their accessible bytes, and no
 /// more: where files have their data it has zeros.
 ///
-/// `Layers` comes exactly where there are none or more than 128, before anything else is done; else
-/// `Layer` names the lowest image that breaks a rule, and its fault. The gate is passed before each
-/// check and each tree.
+/// `Layers` exactly if there are none or more than 128, before anything else is done; else `Layer`
+/// names the lowest image that breaks a rule, and its fault. The gate is passed before each check
+/// and each tree.
 pub fn prepare<R: Threads + Sync, A: SharedAllocator, G: Gate + Sync>(
     rt: &R,
     alloc: A,

@@ -11,7 +11,7 @@ use std::alloc::{AllocError, AllocFailed};
 pub enum Refusal {
     /// The image of this layer, from 0 on, breaks a rule, and is the lowest that does.
     Layer { layer: u16, fault: ImageFault },
-    /// There are so many images: none, or more than 128.
+    /// There are this many images: none, or more than 128.
     Layers { count: u64 },
     /// Memory was refused.
     Memory,

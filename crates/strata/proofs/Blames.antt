@@ -1,6 +1,5 @@
--- Which faults have which status: `each_status`. A fault has one status, so it is what that one
--- asks, and the others ask nothing. `stop_of` says so of the reasons why serving stopped, and the
--- faults follow.
+-- Which faults have which status: `each_status`. A fault has one status, so it meets that one's condition, and the others require nothing.
+-- `stop_of` says so of the reasons why serving stopped, and the faults follow.
 use Rattle.std.proofs.Common.{◌≡◌, ℕ, inl, inr, refl, arith}
 use Rattle.serve_core.specs.declared.stop.Stop.{Stop}
 use Rattle.serve_core.specs.declared.stop.Stop.TheVariants.{Layer, Layers, BadLength, CutOff, Read, Write, Turns, Memory}
@@ -55,7 +54,7 @@ stop_5 stop s is = record {
   memory = λ e. is;
 }
 
--- each reason is one that its status asks for
+-- each reason meets the condition of its status
 pub stop_of : (stop : Stop) → HasStopStatusOf stop
 stop_of Read = stop_1 Read refl (inl refl)
 stop_of Write = stop_1 Write refl (inr refl)
@@ -83,7 +82,7 @@ stopped_so Is stop is = (stop, is, inl refl)
 session_so : (Is : Stop → Type 0) (n : ℕ) (stop : Stop) → Is stop → IsStoppedSo Is (InSession n stop)
 session_so Is n stop is = (stop, is, inr (n, refl))
 
--- each fault is one that its status asks for
+-- each fault meets the condition of its status
 pub each_status : (fault : Fault) → HasStatusOf fault
 each_status (Usage text) = record {
   files = λ e. absurd (omega (arith, e));

@@ -1,6 +1,5 @@
--- How a command ends, by how its last step ended. `whole` and `begun` put what was done over the
--- images beside the words that asked for it; `unread` is the end before that, and no fault has the
--- status 0.
+-- How a command ends, by how its last step ended. `whole` and `begun` join what was done over the images with the arguments that asked for
+-- it; `unread` is the end before that, and no fault has the status 0.
 use Rattle.std.proofs.Common.{◌≡◌, ◌≢◌, ◌<◌, ◌≤◌, ◌∙◌, sym, ap, subst, refl, ℕ, ◌⊎◌, inl, inr, List, None, Result, Ok, Err, IfOk, IfErr, OnOk, MatchResult, IsErrAnd, arith, map, vec_len, Vec}
 use Rattle.std.proofs.lemmas.List.{length-map}
 use Rattle.serve_core.specs.declared.stop.Stop.{Stop}
@@ -49,7 +48,7 @@ module _ (A : Type 0) (words : List (List ℕ)) (line : Line) (images : List (Li
     stopped = subst (λ v. IsStoppedOver A v line images fault old new) (sym verb_is) p;
   })
 
-  -- a command whose work came to this has ended so, with the status 0 where it was done
+  -- a command whose work had this result has ended so, with the status 0 if it was done
   pub ended : {Done : Type 0} {Stopped : Fault → Type 0} (work : Result (Unit {0}) Fault) (r : Result ℕ Fault)
       → MatchResult work (λ _. r ≡ Ok 0) (λ fault. r ≡ Err fault) → OnOk work Done → IfErr work Stopped
       → (Done → IsDoneOver A verb line images old new) → ((fault : Fault) → Stopped fault → IsStoppedOver A verb line images fault old new)
@@ -61,7 +60,7 @@ module _ (A : Type 0) (words : List (List ℕ)) (line : Line) (images : List (Li
       subst (λ r. IfOk r (λ status. IsOverWith A words status old new) × IfErr r (λ fault. EndsInFault A words fault old new)) (sym same)
       (tt, begun fault (s fault stopped))
 
--- what the files of images were not read for is told as it is
+-- the reason why files of images were not read is reported as it is
 pub told_unread : {X : Type 0} (count : ℕ) (fault : FilesFault)
     → (fault ≡ files.Memory) ⊎ ((image : ℕ) × (image < count) × (fault ≡ files.Unread image)) → (r : Result X Fault)
     → IsErrAnd r (λ told. told ≡ files_told_of fault) → IfErr r (AreUnread count)

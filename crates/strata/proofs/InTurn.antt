@@ -1,7 +1,6 @@
--- Sessions that are served one after another. `none_so_far` to `none_accepted` are how the loop
--- begins, goes on and ends, `none_come` to `none_comes` how clients are counted. The main lemma is
--- `tells`: the fault and the status say whether all were served whole, which was the first that
--- stopped, or that fewer were served.
+-- Sessions that are served one after another. `none_so_far` to `none_accepted` are how the loop begins, goes on and ends, `none_come` to
+-- `none_comes` how clients are counted. The main lemma is `tells`: the fault and the status say whether all were served to their end, which
+-- was the first that stopped, or that fewer were served.
 use Rattle.std.proofs.Common.{◌≡◌, ◌≢◌, ◌∙◌, sym, ap, subst, refl, ℕ, ◌+◌, ◌-◌, ◌^◌, ◌<◌, ◌⊎◌, inl, inr, List, [], ◌∷◌, ◌++◌, length, Option, Some, None, Result, Ok, Err, arith}
 use Rattle.std.specs.List.{AllByRecursion}
 use Rattle.std.proofs.lemmas.List.{length-append}
@@ -31,7 +30,7 @@ pub record AreSoFar (A : Type 0) (first : Session) (by : Sourced) (count status 
   pub count_is : length served ≡ count
   pub status_is : status ≡ status_at (first_fault 1 served)
 
--- so many clients were accepted, and no accept failed
+-- this many clients were accepted, and no accept failed
 pub record HaveCome (count : ℕ) (before now : Accepts) : Type 0 where
   pub clients : now.clients ≡ before.clients + count
   pub failures : now.failures ≡ before.failures

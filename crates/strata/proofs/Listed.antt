@@ -1,5 +1,4 @@
--- How a list stopped. `list_stopped` puts the fault that was told together with what the fault left
--- in the output.
+-- How a list stopped. `list_stopped` joins the reported fault with what it left in the output.
 use Rattle.std.proofs.Common.{◌≡◌, inl, inr, ℕ, List, Result, Ok, Err, IfErr, IsErrAnd}
 use Rattle.devices.specs.States.{SinkState}
 use Rattle.romfs_format.specs.declared.rule.Profile.{Profile}

@@ -1,6 +1,5 @@
--- How a run over an open /dev/fuse ends, by how its last step ended: done, or stopped with a fault,
--- which says that the mount was taken away or not. `has_stopped_there` is the main lemma: it has a
--- case for each. `stays` and `goes` say what its status tells.
+-- How a run over an open /dev/fuse ends, by how its last step ended: done, or stopped with a fault, which means an unmount or not.
+-- `has_stopped_there` is the main lemma: it has a case for each. `stays` and `goes` say what its status tells.
 use Rattle.std.proofs.Common.{◌≡◌, ◌≢◌, ◌∙◌, sym, ap, subst, refl, ℕ, Bool, true, false, inl, inr, List, Option, Some, None, if◌then◌else◌, true≢false}
 use Rattle.std.specs.Io.Buffered.{reader_remaining}
 use Rattle.devices.specs.Counting.{no_pulls, no_pushes}
@@ -58,7 +57,7 @@ module _ (A : Type 0) (words : List (List ℕ)) (old new : MountEnds) where
     pub has_stopped_there : IsRunOnDevice A words status old new
     has_stopped_there = by_whether (is_taken_away fault new.input_gone new.output_gone) refl
 
-  -- no fault of sessions says that the mount was taken away
+  -- no fault of sessions means an unmount
   told_there : (fault : Fault) (input output : Bool) → IsOfSessions fault → status_on_device fault input output ≡ status_of fault
   told_there fault input output (inl e) = subst (λ f. status_on_device f input output ≡ status_of f) (sym e) refl
   told_there fault input output (inr s) = subst (λ f. status_on_device f input output ≡ status_of f) (sym s.2) refl
@@ -104,7 +103,7 @@ module _ (A : Type 0) (words : List (List ℕ)) (old new : MountEnds) where
   away_by (Broken image fault) input output e s = absurd (true≢false (sym e))
   away_by (InSession session stop) input output e s = absurd (true≢false (sym e))
 
-  -- where it was taken away the status is 0, and a read or a write had failed
+  -- after an unmount the status is 0, and a read or a write failed
   pub goes : (status : ℕ) → StopsWhere A words true status old new → (status ≡ 0) × IsTakenAway A words old.devices new.devices
   goes status s = (
     s.status_is ∙ ap (λ b. if b then 0 else status_of s.fault) s.whether,

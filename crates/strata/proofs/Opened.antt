@@ -1,5 +1,5 @@
 -- The images of a line. `loaded_sources` says what the data of those that were loaded are read from, `stacked_sources` that
--- their stack has the same; `read_held` and `whole_held` that nothing is where they are read whole, and `held_whole` that a
+-- their stack has the same; `read_held` and `whole_held` that nothing is where they are read in full, and `held_whole` that a
 -- stack without sources is held. `seen_as` lends their files. `loaded_ones` says what is held of images for a line that checks.
 use Rattle.std.proofs.Common.{◌≡◌, ◌≤◌, ◌⊎◌, ◌||◌, ◌∙◌, sym, ap, subst, refl, ℕ, suc, inl, inr, true, false, true≢false, List, [], ◌∷◌, length, map, Bool, Option, Vec, vec_len, arith}
 use Rattle.std.specs.List.{AllByRecursion, list_all}
@@ -64,7 +64,7 @@ is_whole_of : {A : Type 0} (known : Option (List ℕ)) (held : HeldImage A) → 
 is_whole_of known (Kept kept) h = absurd h
 is_whole_of known (Whole bytes) h = refl
 
--- images that are read whole are held whole
+-- images that are read in full are held whole
 all_held : {F A : Type 0} (known : F → Option (List ℕ)) (images : List (LoadedImage F A)) → AreLoaded known how.Whole images
     → list_all is_whole (held_of images) ≡ true
 all_held {F} {A} known images h = list_all-from_AllPass is_whole (held_of images)
@@ -134,7 +134,7 @@ stacked_sources line whole stacked images sources same have =
     by_either (inl all) held = inl (held all)
     by_either (inr are) held = inr are
 
--- the stack of images that are read whole is held
+-- the stack of images that are read in full is held
 pub read_held : (line : Line) (images : List (List ℕ)) (by : Sourced) (p : ArePrepared line images by) → AreReadWhole line p.sources.told
     → by ≡ in_memory by.stack
 read_held line images by p all = ap (λ sources. sourced by.stack sources) (p.sources.read all).1
@@ -144,7 +144,7 @@ pub whole_held : (line : Line) (images : List (List ℕ)) (by : Sourced) → lin
     → by ≡ in_memory by.stack
 whole_held line images by whole p = read_held line images by p (inl whole)
 
--- a stack whose data are read from nothing is held whole
+-- a stack whose data are read from nothing is held in full
 pub held_whole : (line : Line) (images : List (List ℕ)) (by : Sourced) → by.sources ≡ [] → ArePrepared line images by
     → by.stack.whole ≡ true
 held_whole line images by none p = by_either images p.stacked.layers.few.0 p.sources.either
@@ -169,7 +169,7 @@ stays true device said = refl
 stays false device (inl said) = absurd (true≢false (sym said))
 stays false device (inr said) = said
 
--- each image that is not read whole has a source
+-- each image that is not read in full has a source
 pub left_in_files : (line : Line) (images : List (List ℕ)) (by : Sourced) (p : ArePrepared line images by)
     → (AreReadWhole line p.sources.told → ⊥) → length by.sources ≡ length images
 left_in_files line images by p left = as_many (trailers_of line) images by.sources (p.sources.left left)

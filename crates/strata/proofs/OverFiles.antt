@@ -1,6 +1,6 @@
--- What was gathered of images for a line. It was, where the line's sources hold images (of_files). The images can be stacked
--- (good_of_files), and requests are told what is defined over them, where reads give their bytes (told_of_files); whatever reads give,
--- all but READs are (told_others).
+-- What was gathered from images for a line. It was, where the line's sources hold images (of_files). The images can be stacked
+-- (good_of_files), and requests get what is defined over them, if reads give their bytes (told_of_files); whatever reads give, all but
+-- READs do (told_others).
 use Rattle.std.proofs.Common.{◌≡◌, ◌≢◌, ◌∙◌, ◌≤◌, ◌⊎◌, ◌↔◌, sym, ap, subst, ℕ, inl, inr, List, [], ◌∷◌, Bool, true, false, length, map, Some, None, arith, refl, if◌then◌else◌}
 use Rattle.std.specs.Prelude.{slice_index_or}
 use Rattle.image_bytes.specs.Sources.{Source, held, unknown}

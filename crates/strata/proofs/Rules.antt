@@ -1,5 +1,5 @@
--- What a line asks for, and what follows from it: its profile (`asks`, `reads`), how its images are judged (`judged`,
--- `judged_whole`), and with which status its readers end (`ends_alike`).
+-- What a line requests, and what follows from it: its profile (`asks`, `reads`), how its images are judged (`judged`, `judged_whole`), and
+-- with which status its readers end (`ends_alike`).
 use Rattle.std.proofs.Common.{◌≡◌, ◌∙◌, sym, subst, refl, ℕ, ◌↔◌, List, Bool, true, false, true≢false, Some, if◌then◌else◌}
 use Rattle.romfs_format.specs.declared.rule.Profile.{Profile}
 use Rattle.romfs_format.specs.Profiles.{asks_sums, profile_with, reads_attributes}

@@ -1,6 +1,5 @@
--- What serving left, by the devices that it was between. The first lemmas say which device was
--- touched, where a file stands in place of it or not; the others make of that how `serve` ended:
--- stopped, whole, or whole but for its balances.
+-- What serving left, by the devices that it was between. The first lemmas say which device was touched, with a file instead of it or not;
+-- the others derive how `serve` ended: stopped, complete, or complete but for its balances.
 use Rattle.std.proofs.Common.{◌≡◌, ◌∙◌, sym, ap, refl, subst, ℕ, ◌⊎◌, inl, inr, List, Option, None, Some, is_some, true, false, true≢false, Result, Ok, Err, OnOk, IfErr, IsErrAnd}
 use Rattle.command_line.specs.declared.options.Line.{Line}
 use Rattle.stack_prepare.specs.declared.refusal.Refusal.{Refusal}
@@ -91,7 +90,7 @@ module _ (A : Type 0) (line : Line) (images : List (List ℕ)) (old new : Device
       serving = subst (λ v. IsServing line by s.0 v old new) e s.1;
     }
 
-  -- a stream that was served whole but whose balances were not written is not served
+  -- a stream that was served to its end but whose balances were not written is not served
   pub lost : {F : Type 0} (file : Option F) (told : Result (Unit {0}) Fault) → IsServedWhole A line images old new
       → is_some file ≡ is_some line.balances
       → IfErr told (λ fault. (is_some file ≡ true) × ((fault ≡ write_failed) ⊎ (fault ≡ out_of_memory)))
@@ -99,7 +98,7 @@ module _ (A : Type 0) (line : Line) (images : List (List ℕ)) (old new : Device
   lost file (Ok u) w same l = l
   lost file (Err fault) w same l = inr (inr (inr (record { named = sym same ∙ l.0; told = l.1; served = w })))
 
-  -- a stream that was served whole is so where its balances are told well
+  -- a stream that was served to its end is so if its balances are written
   pub in_time : (told : Result (Unit {0}) Fault) → IsServedWhole A line images old new → OnOk told (IsServedWhole A line images old new)
   in_time (Ok u) w = w
   in_time (Err fault) w = tt

@@ -75,7 +75,7 @@ good_put profile images sizes lines old new (Err fault) are is put = tt
 good_put profile images sizes lines old new (Ok y) are is put =
     record { sizes = sizes; sizes_are = are; put = subst (λ xs. ArePut xs old new) is put }
 
--- the fault of the first image that is not good is told, and nothing is put
+-- the fault of the first image that is not good is reported, and nothing is put
 pub not_good : {Y : Type 0} (profile : Profile) (images : List (List ℕ)) (fault : Fault) (state : SinkState) (r : Result Y Fault)
     → IsFirstFault profile images fault → IsErrAnd r (λ told. told ≡ fault) → IfErr r (λ told. AreNotGood profile images told state state)
 not_good profile images fault state (Ok y) first same = absurd same

@@ -98,7 +98,7 @@ work_other A verbs.List line images fault old new s =
       | inr l ↦ told_as fault (Stopped stops.Write) l.told one_is_other
     ]
 
--- of the two faults of words want of memory has another status
+-- of the two faults of words lack of memory has another status
 misread : (words : List (List ℕ)) (line : LineFault) → IsLineFault words line → status_of (line_told_of line) ≡ 2 → IsRefused words
     ⊎ (IsMisnumbered words ⊎ IsCrossed words)
 misread words (lines.Usage text) is e = is

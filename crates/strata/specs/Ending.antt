@@ -34,13 +34,12 @@ use Rattle.strata.specs.Texts.{size_lines, version_line}
 use Rattle.strata.specs.Images.{ArePrepared, NamesAsMany, profile_of}
 use Rattle.strata.specs.Sessions.{Accepting, AreServed, status_at, IsSession}
 
--- the session that its stream begins in: over a device, and where the line says so, the client is
--- told that the tree never changes
+-- the session that its stream begins in: over a device, and if the line says so, the client learns
+-- that the tree never changes
 abbrev pub first_of : Line → Session
 first_of line = if line.lasting || line.device then LastingFresh else Fresh
 
--- of which nodes its lookups are counted: of all where the line names a file for their balances,
--- else of none
+-- the nodes whose lookups are counted: all if the line names a file for their balances, else none
 abbrev pub counted_of : Line → Counted
 counted_of line = if is_some line.balances then AllNodes else NoNodes
 
@@ -59,8 +58,8 @@ pub record ArePut (lines : List ℕ) (old new : SinkState) : Type 0 where
   pub written : Appends old.held new.held lines
   pub flushed : HasFlushed lines old.counts new.counts
 
--- a fault of the output is told: the output failed once more, and gained the first bytes of these
--- lines at most
+-- a fault of the output is reported: the output failed once more, and gained at most a beginning of
+-- these lines
 pub record IsLost (fault : Fault) (lines : List ℕ) (old new : SinkState) : Type 0 where
   pub told : fault ≡ write_failed
   pub failed : new.counts.failures ≡ old.counts.failures + 1
@@ -134,7 +133,7 @@ IsNotListed profile images fault old new =
 
 -- ---- serve
 
--- a call took off a source what the trace got, and all that was left where it ended well
+-- a call took from a source what the trace got, and all that was left if it ended well
 pub record Gave {X E : Type 0} (t : Trace) (result : Result X E)
     (old new : SourceState) : Type 0 where
   pub got : Consumes old.left new.left t.got
@@ -159,7 +158,7 @@ pub record GetsReplies {F : Type 0} (file : Option F) (t : Trace)
   pub kept : is_some file ≡ true → new ≡ old
 
 -- a stream was served over a stack and its sources, as a session of its own: it came from the input
--- and its replies went to the output, but where the line names a file in place of one of them
+-- and its replies went to the output, unless the line names a file instead of one of them
 pub record IsServing {A : Type 0} (line : Line) (by : Sourced) (t : Trace)
     (result : Result (Done A) Stop) (old new : Devices) : Type 0 where
   pub session : IsSessionOf line by t result
@@ -175,7 +174,7 @@ pub record IsServedWhole (A : Type 0) (line : Line) (images : List (List ℕ))
   pub done : Done A
   pub serving : IsServing line by trace (Ok done) old new
 
--- files are open where the line names them: of requests, of replies and of balances
+-- files are open if the line names them: for requests, replies and balances
 abbrev pub AreNamed : {F : Type 0} → Line → Option F → Option F → Option F → Type 0
 AreNamed line requests replies balances =
     (is_some requests ≡ is_some line.requests) × (is_some replies ≡ is_some line.replies)
@@ -258,7 +257,7 @@ IsDoneOver A verbs.Check line images old new =
 IsDoneOver A verbs.List line images old new =
     (new.source ≡ old.source) × IsStackListed (profile_of line) images old.sink new.sink
 
--- and where it stopped with a fault
+-- and if it stopped with a fault
 abbrev pub IsStoppedOver : (A : Type 0) → Verb → Line → List (List ℕ) → Fault → Devices → Devices
     → Type 0
 IsStoppedOver A verbs.Serve line images fault old new = IsNotServed A line images fault old new
@@ -269,7 +268,7 @@ IsStoppedOver A verbs.Check line images fault old new =
 IsStoppedOver A verbs.List line images fault old new =
     (new.source ≡ old.source) × IsNotListed (profile_of line) images fault old.sink new.sink
 
--- the program did what its words say
+-- the program did what its arguments say
 pub record IsDone (A : Type 0) (words : List (List ℕ)) (old new : Devices) : Type 0 where
   pub line : Line
   pub images : List (List ℕ)
@@ -277,7 +276,7 @@ pub record IsDone (A : Type 0) (words : List (List ℕ)) (old new : Devices) : T
   pub named : NamesAsMany line images
   pub done : IsDoneOver A line.verb line images old new
 
--- the program began what its words say, and stopped with a fault
+-- the program began what its arguments say, and stopped with a fault
 pub record IsDoneInPart (A : Type 0) (words : List (List ℕ)) (fault : Fault)
     (old new : Devices) : Type 0 where
   pub line : Line
@@ -286,7 +285,7 @@ pub record IsDoneInPart (A : Type 0) (words : List (List ℕ)) (fault : Fault)
   pub named : NamesAsMany line images
   pub stopped : IsStoppedOver A line.verb line images fault old new
 
--- one of the images that the words name could not be read
+-- one of the images in the arguments could not be read
 pub record HasUnreadImage (words : List (List ℕ)) (fault : Fault) : Type 0 where
   pub line : Line
   pub image : ℕ
@@ -294,14 +293,14 @@ pub record HasUnreadImage (words : List (List ℕ)) (fault : Fault) : Type 0 whe
   pub named : image < vec_len line.images
   pub told : fault ≡ ImageFile image
 
--- the words are no command, or memory ran out while they were read
+-- the arguments are no command, or memory ran out while they were read
 pub record AreNotTaken (words : List (List ℕ)) (fault : Fault) : Type 0 where
   pub line : LineFault
   pub is : IsLineFault words line
   pub told : fault ≡ line_told_of line
 
--- the program stopped before its work: for its words, an image's file or memory; and no device was
--- touched
+-- the program stopped before its work: because of its arguments, an image's file or memory; and no
+-- device was touched
 pub record IsEarly (words : List (List ℕ)) (fault : Fault) (old new : Devices) : Type 0 where
   pub kept : new ≡ old
   pub which : AreNotTaken words fault ⊎ (HasUnreadImage words fault ⊎ (fault ≡ out_of_memory))
@@ -310,12 +309,13 @@ pub record IsEarly (words : List (List ℕ)) (fault : Fault) (old new : Devices)
 abbrev pub EndsInFault : (A : Type 0) → List (List ℕ) → Fault → Devices → Devices → Type 0
 EndsInFault A words fault old new = IsEarly words fault old new ⊎ IsDoneInPart A words fault old new
 
--- the fault is one of sessions, which told it as it came
+-- the fault is one of sessions, which reported it as it occurred
 abbrev pub IsOfSessions : Fault → Type 0
 IsOfSessions fault =
     (fault ≡ Accept) ⊎ ((n : ℕ) × (stop : Stop) × (fault ≡ InSession n stop))
 
--- the program did all its steps: what its words say, or what its sessions stopped for was told
+-- the program did all its steps: what its arguments say, or the faults of its sessions were
+-- reported
 abbrev pub IsOver : (A : Type 0) → List (List ℕ) → Option Fault → Devices → Devices → Type 0
 IsOver A words None old new = IsDone A words old new
 IsOver A words (Some fault) old new = IsOfSessions fault × EndsInFault A words fault old new
@@ -334,8 +334,8 @@ pub record EndsWith (A : Type 0) (words : List (List ℕ)) (status : ℕ)
   pub status_is : status ≡ status_of fault
   pub stopped : EndsInFault A words fault old new
 
--- what a run of the program leaves by its status: with 0 it did what its words say; with another it
--- stopped with a fault; and with 2, for its words, no device was touched
+-- what a run of the program leaves by its status: with 0 it did what its arguments say; with
+-- another it stopped with a fault; and with 2, because of its arguments, no device was touched
 pub record IsRunOf (A : Type 0) (words : List (List ℕ)) (status : ℕ)
     (old new : Devices) : Type 0 where
   pub done : status ≡ 0 → IsDone A words old new

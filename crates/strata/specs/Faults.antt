@@ -15,7 +15,7 @@ use Rattle.path_list.specs.declared.walk.ListFault.TheVariants as list
 use Rattle.strata.specs.declared.faults.Fault.{Fault}
 use Rattle.strata.specs.declared.faults.Fault.TheVariants.{Usage, ImageFile, RequestsFile, RepliesFile, BalancesFile, Bind, Accept, Broken, InSession, Stopped}
 
--- the exit status where serving stopped: 1 for streams, 3 for images, 4 for requests, 5 for memory
+-- the exit status when serving stopped: 1 for streams, 3 for images, 4 for requests, 5 for memory
 abbrev pub stop_status : Stop → ℕ
 stop_status (stops.Layer layer fault) = 3
 stop_status (stops.Layers count) = 3
@@ -47,22 +47,22 @@ out_of_memory = Stopped stops.Memory
 abbrev pub write_failed : Fault
 write_failed = Stopped stops.Write
 
--- what the program says where its line was not read
+-- what the program says if its line was not read
 abbrev pub line_told_of : LineFault → Fault
 line_told_of (line.Usage text) = Usage text
 line_told_of line.Memory = out_of_memory
 
--- what the program says where the files of images were not read
+-- what the program says if the files of images were not read
 abbrev pub files_told_of : FilesFault → Fault
 files_told_of (files.Unread image) = ImageFile image
 files_told_of files.Memory = out_of_memory
 
--- the file of one of so many images was not read, or memory ran out
+-- the file of one of this many images was not read, or memory ran out
 abbrev pub AreUnread : ℕ → Fault → Type 0
 AreUnread count fault =
     ((image : ℕ) × (image < count) × (fault ≡ ImageFile image)) ⊎ (fault ≡ out_of_memory)
 
--- what the program says where a list was not written
+-- what the program says if a list was not written
 abbrev pub list_told_of : ListFault → Fault
 list_told_of list.Write = write_failed
 list_told_of list.Memory = out_of_memory

@@ -1,5 +1,5 @@
--- The images of a line, as they are held: all bytes of each, or what the rules look at, with zeros
--- where nothing is held.
+-- The images of a line, as they are held: all bytes of each, or what the rules check, with zeros
+-- for the rest.
 use Rattle.std.specs.Prelude.{◌≡◌, ◌≤◌, ◌^◌, ◌⊎◌, ◌||◌, ℕ, Bool, true, false, List, [], ◌∷◌, Option, Some, All, ⊤, length, map, sum, vec_len, if◌then◌else◌}
 use Rattle.std.specs.declared.vec.Vec.{Vec}
 use Rattle.romfs_format.specs.declared.rule.Profile.{Profile}
@@ -52,7 +52,7 @@ abbrev pub sources_of : {F A B : Type 0} → Vec (ImageData F A) B → List Sour
 sources_of files = map source_of files.items
 
 -- the data of an image of which this is held are read from its file, of which nothing is known; or
--- from bytes of which just this was gathered
+-- from bytes from which exactly this was gathered
 abbrev pub IsDataOf : Trailers → List ℕ → Source → Type 0
 IsDataOf trailers image source =
     (source ≡ unknown)
@@ -74,14 +74,14 @@ stay_in_files line = line.in_files || line.device
 abbrev pub AreHeldWhole : Bool → List Source → Type 0
 AreHeldWhole whole sources = (whole ≡ true) × (sources ≡ [])
 
--- files have told their sizes: all are regular, and have at most 32 MiB together
+-- files reported their sizes: all are regular, and have at most 32 MiB together
 pub record AreSmall (told : List (Option ℕ)) : Type 0 where
   pub sizes : List ℕ
   pub told_is : told ≡ map Some sizes
   pub few : sum sizes ≤ 2 ^ 25
 
--- images are read whole: where their line says so, and where they are small by what their files
--- told and the line leaves no image in its file
+-- images are read in full: if their line says so, or if their files reported small sizes and the
+-- line leaves no image in its file
 abbrev pub AreReadWhole : Line → List (Option ℕ) → Type 0
 AreReadWhole line told = (line.whole ≡ true) ⊎ ((stay_in_files line ≡ false) × AreSmall told)
 
@@ -94,7 +94,7 @@ pub record IsLoadingOf (line : Line) (otherwise loading : Loading) : Type 0 wher
       ⊎ ((¬ AreReadWhole line told) × (loading ≡ otherwise))
 
 -- what the data of the images of a line are read from, by what the file of each has told of its
--- size: from nothing, where they are read whole; else each from a source of its own
+-- size: from nothing, where they are read in full; else each from a source of its own
 pub record HaveSources (line : Line) (whole : Bool) (images : List (List ℕ))
     (sources : List Source) : Type 0 where
   pub told : List (Option ℕ)

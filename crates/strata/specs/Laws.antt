@@ -23,7 +23,7 @@ use Rattle.strata.specs.Images.{NamesAsMany, profile_of}
 abbrev pub AreBad : Profile → List (List ℕ) → Type 0
 AreBad profile images = (¬ IsFew (length images)) ⊎ (¬ All (IsSound profile) images)
 
--- the words name as many images as these, and they are bad
+-- the arguments name as many images as these, and they are bad
 pub record AreToBlame (words : List (List ℕ)) : Type 0 where
   pub line : Line
   pub images : List (List ℕ)
@@ -54,7 +54,7 @@ IsOfFirstStopped served fault =
     (number : ℕ) × (stop : Stop) × (fault ≡ InSession number stop)
     × IsFirstStopped served number stop
 
--- what the fault and the status of sessions tell: all were served, and to their end; or all were
+-- what the fault and the status of sessions mean: all were served, and to their end; or all were
 -- served, and they are those of the first that stopped; or fewer were
 pub record TellsOfSessions (A : Type 0) (first : Session) (by : Sourced)
     (count : ℕ) (fault : Option Fault) (status : ℕ) : Type 0 where
@@ -80,7 +80,7 @@ IsStoppedSo Is fault =
     (stop : Stop) × Is stop
     × ((fault ≡ Stopped stop) ⊎ ((session : ℕ) × (fault ≡ InSession session stop)))
 
--- the words are no command, or ask for help
+-- the arguments are no command, or ask for help
 abbrev pub IsOfWords : Fault → Type 0
 IsOfWords (Usage text) = ⊤
 IsOfWords _ = ⊥

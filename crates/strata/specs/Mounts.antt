@@ -16,19 +16,19 @@ use Rattle.strata.specs.Ending.{IsDone, IsRunOf, EndsInFault, TellsVersion}
 use Rattle.strata.specs.Ends.{EndStates, Given, device, streams, unused}
 use Rattle.strata.specs.Readers.{IsRunByReaders}
 
--- a fault is that the mount was taken away: a pull failed and the input is gone, or a push failed
--- and one of both is gone
+-- a fault means an unmount: a pull failed and the input is gone, or a push failed and one of both
+-- is gone
 abbrev pub is_taken_away : Fault → Bool → Bool → Bool
 is_taken_away (Stopped Read) input output = input
 is_taken_away (Stopped Write) input output = input || output
 is_taken_away _ input output = false
 
--- the exit status of a fault where each device is gone or not
+-- the exit status of a fault if each device is gone or not
 abbrev pub status_on_device : Fault → Bool → Bool → ℕ
 status_on_device fault input output =
     if is_taken_away fault input output then 0 else status_of fault
 
--- the program stopped, and whether that is since the mount was taken away
+-- the program stopped, and whether that is because of an unmount
 pub record StopsWhere (A : Type 0) (words : List (List ℕ)) (taken_away : Bool)
     (status : ℕ) (old new : MountEnds) : Type 0 where
   pub fault : Fault
@@ -36,9 +36,9 @@ pub record StopsWhere (A : Type 0) (words : List (List ℕ)) (taken_away : Bool)
   pub status_is : status ≡ status_on_device fault new.input_gone new.output_gone
   pub stopped : EndsInFault A words fault old.devices new.devices
 
--- what a run leaves by its status, where each device is gone or not: with 0 it did what its words
--- say, or the mount was taken away; with another it stopped with a fault and the mount is there;
--- and with 2, for its words, no device was touched
+-- what a run leaves by its status, if each device is gone or not: with 0 it did what its arguments
+-- say, or there was an unmount; with another it stopped with a fault and without an unmount; and
+-- with 2, because of its arguments, no device was touched
 pub record IsRunOnDevice (A : Type 0) (words : List (List ℕ)) (status : ℕ)
     (old new : MountEnds) : Type 0 where
   pub done : status ≡ 0 → IsDone A words old.devices new.devices
@@ -46,7 +46,7 @@ pub record IsRunOnDevice (A : Type 0) (words : List (List ℕ)) (status : ℕ)
   pub stopped : status ≢ 0 → StopsWhere A words false status old new
   pub untouched : status ≡ 2 → new.devices ≡ old.devices
 
--- the mount was taken away: a read or a write failed, and nothing else went wrong
+-- an unmount: a read or a write failed, and nothing else went wrong
 pub record IsTakenAway (A : Type 0) (words : List (List ℕ)) (old new : Devices) : Type 0 where
   pub stop : Stop
   pub stream : (stop ≡ Read) ⊎ (stop ≡ Write)
@@ -78,8 +78,8 @@ abbrev pub IsRunStreamed : (A : Type 0) → List (List ℕ) → ℕ → Devices 
 IsRunStreamed A words status old (streams new) = IsRunOf A words status old new
 IsRunStreamed A words status old _ = ⊥
 
--- the program ran by a line over what it was given, and left these ends: an open /dev/fuse where
--- the line says device, by one reader or several, and other streams where it does not
+-- the program ran by a line over what it was given, and left these ends: an open /dev/fuse if the
+-- line says device, by one reader or several, and other streams otherwise
 pub record IsRunBy (A : Type 0) (words : List (List ℕ)) (line : Line) (given : Given) (status : ℕ)
     (ends : EndStates A) : Type 0 where
   pub device : line.device ≡ true → line.readers ≤ 1 → IsRunMounted A words status given.left ends
@@ -88,8 +88,8 @@ pub record IsRunBy (A : Type 0) (words : List (List ℕ)) (line : Line) (given :
   pub streams : line.device ≡ false
       → IsRunStreamed A words status (new_devices given.left given.held) ends
 
--- the words have no line: the program told its version to a new output over the writer, if they ask
--- for it, and did not touch the input; or it ended with their fault
+-- the arguments have no line: the program printed its version to a new output over the writer, if
+-- they ask for it, and did not touch the input; or it ended with their fault
 abbrev pub EndsWithoutLine : {A : Type 0} → NoLine → Given → ℕ → EndStates A → Type 0
 EndsWithoutLine none.Version given status (streams new) =
     (new.source ≡ source_state given.left no_pulls)
@@ -97,7 +97,7 @@ EndsWithoutLine none.Version given status (streams new) =
 EndsWithoutLine (none.Fault fault) given status unused = status ≡ status_of (line_told_of fault)
 EndsWithoutLine _ given status _ = ⊥
 
--- the words were read, as a line by which the program then ran; or they have none
+-- the arguments were read, as a line by which the program then ran; or they have none
 pub record IsRunAsSaid (A : Type 0) (words : List (List ℕ)) (given : Given) (status : ℕ)
     (ends : EndStates A) : Type 0 where
   pub read : Result Line NoLine

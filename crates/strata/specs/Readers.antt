@@ -16,7 +16,7 @@ use Rattle.strata.specs.Ending.{AreNotStacked, first_of}
 use Rattle.strata.specs.Ends.{EndStates, readers, unused}
 use Rattle.strata.specs.Images.{ArePrepared, NamesAsMany, profile_of}
 
--- the exit status of the end that is told of readers
+-- the exit status of the end that is reported for readers
 abbrev pub status_of_end : End → ℕ
 status_of_end (Stopped stop) = stop_status stop
 status_of_end TakenAway = 0
@@ -42,8 +42,8 @@ IsNotShared line fault =
     ⊎ (((images : List (List ℕ)) × NamesAsMany line images
     × AreNotStacked (profile_of line) images fault) ⊎ (fault ≡ out_of_memory))
 
--- readers over a reader that has this left served what the line says, and the end that is told of
--- them has this status; or there are none, and a fault has it that came before
+-- readers over a reader with this left served what the line says, and the end reported for them has
+-- this status; or there are none, and an earlier fault has it
 abbrev pub IsRunByReaders : (A : Type 0) → ℕ → Line → Option (List ℕ) → EndStates A → Type 0
 IsRunByReaders A status line left (readers seats) =
     (status ≡ status_of_end (end_of_all seats)) × AreShared A line left seats

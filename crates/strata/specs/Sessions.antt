@@ -1,4 +1,4 @@
--- What sessions at a socket come to, served one after another.
+-- The results of sessions at a socket, served one after another.
 use Rattle.std.specs.Prelude.{◌≡◌, ◌<◌, ◌+◌, ◌⊎◌, ℕ, List, [], ◌∷◌, length, Option, Some, None, Result, Ok, Err}
 use Rattle.devices.specs.declared.counts.Accepts.{Accepts}
 use Rattle.devices.specs.Counting.{no_pulls, no_pushes}
@@ -14,7 +14,7 @@ use Rattle.strata.specs.declared.faults.Fault.TheVariants.{Accept, InSession}
 use Rattle.strata.specs.Faults.{status_of}
 
 -- a session was served over a stack and the sources of its data, between devices that were new, as
--- a stream of its own, and lookups were counted of so many of the first nodes
+-- a stream of its own, and lookups were counted of this many of the first nodes
 pub record IsSession {A : Type 0} (first : Session) (by : Sourced) (counted : ℕ) (t : Trace)
     (result : Result (Done A) Stop) : Type 0 where
   pub run : IsRunWithin first by (bounds MAX_TURNS counted) t result
@@ -65,15 +65,15 @@ abbrev pub accept_failures : Option Fault → ℕ
 accept_failures (Some Accept) = 1
 accept_failures _ = 0
 
--- as many clients were accepted as sessions were served; and an accept failed where that is the
--- fault, and nowhere else
+-- as many clients were accepted as sessions were served; and an accept failed exactly if that is
+-- the fault
 pub record HaveClients {A : Type 0} {first : Session} {by : Sourced}
     (served : List (ServedSession A first by)) (fault : Option Fault)
     (clients : Accepting) : Type 0 where
   pub accepted : clients.after.clients ≡ clients.before.clients + length served
   pub failures : clients.after.failures ≡ clients.before.failures + accept_failures fault
 
--- so many sessions were asked for, each of a client of its own, and they end with this fault, or
+-- this many sessions were requested, each of a client of its own, and they end with this fault, or
 -- with none
 pub record AreServed (A : Type 0) (first : Session) (by : Sourced) (count : ℕ)
     (fault : Option Fault) (clients : Accepting) : Type 0 where
@@ -86,7 +86,7 @@ abbrev pub status_at : Option Fault → ℕ
 status_at None = 0
 status_at (Some fault) = status_of fault
 
--- so many sessions were asked for, and they end with this status
+-- this many sessions were requested, and they end with this status
 pub record EndWith (A : Type 0) (first : Session) (by : Sourced)
     (count status : ℕ) (clients : Accepting) : Type 0 where
   pub fault : Option Fault

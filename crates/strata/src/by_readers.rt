@@ -20,13 +20,13 @@ use std::io::{Read, Write};
 use std::os::unix::fs::FileExt;
 use std::thread::Threads;
 
-/// Serves an open `/dev/fuse` over the images of a line by as many readers as it says, all of which
-/// use this reader and this writer, and gives the exit status, with the seats of the readers as
-/// they left them; none where a fault came before.
+/// Serves an open `/dev/fuse` over the images of a line with as many readers as it says, all of
+/// which use this reader and this writer, and returns the exit status, with the seats of the
+/// readers as they left them; none if a fault came before.
 ///
-/// The status is 0 where each of them came to its stream's end or found the mount taken away. Else
-/// it is that of the first of their faults in the table of faults, whose line goes to `faults` once
-/// all have ended.
+/// The status is 0 if each of them reached its stream's end or found the file system unmounted.
+/// Otherwise it is that of the first of their faults in the table of faults, whose line goes to
+/// `faults` once all have ended.
 pub fn mount_by_readers<
     R: Files + Threads + Sync,
     A: Allocator + Copy + Send + Sync,
@@ -90,7 +90,7 @@ where
     Ok(seats)
 }
 
-// The exit status of an end, of which a fault has its line.
+// The exit status of an end; a fault has its line.
 fn tell_end<E: Write>(end: End, faults: &mut E) -> u8
     ensures { result ≡ status_of_end end }
 {

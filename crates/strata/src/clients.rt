@@ -1,7 +1,7 @@
 //! Sessions at a Unix socket, one after another.
 //!
-//! A session is the stream of one client: it begins with a new connection, and the connection is
-//! closed where it ends. All sessions are served over one table, each as a stream of its own.
+//! A session is the stream of one client: it begins with a new connection, which is closed at its
+//! end. All sessions are served over one table, each as a stream of its own.
 
 ghost use Rattle.std.specs.Prelude.{◌≡◌, ◌<◌, ◌^◌, true};
 ghost use Rattle.devices.specs.Counting.{no_accepts};
@@ -25,14 +25,14 @@ use std::os::unix::net::{UnixListener, UnixStream};
 use std::thread::Threads;
 use table_reader::Table;
 
-/// Serves `count` sessions over a table of images that are held whole to the clients of a listener,
-/// one after another, and gives the exit status. Each begins in a fresh session, and has at most
-/// 2^40 pulls.
+/// Serves `count` sessions over a table of images held in full to the clients of a listener, one
+/// after another, and returns the exit status. Each begins in a fresh session, and has at most 2^40
+/// pulls.
 ///
-/// Where a session stops before its stream's end, its fault is told in a line of `faults`, with its
-/// number, from 1 on, and the next one follows. The status is that of the first such fault, and 0
-/// where there is none. Where no client can be accepted, a line tells it, no more sessions follow,
-/// and the status is 1. It waits for a client as long as none connects.
+/// If a session stops before its stream's end, its fault is a line of `faults`, with its number,
+/// from 1 on, and the next one follows. The status is that of the first such fault, or 0. If no
+/// client can be accepted, a line reports it, no more sessions follow, and the status is 1. It
+/// waits for a client as long as none connects.
 pub fn sessions<R: Threads + Sync, A: Allocator + Copy + Send + Sync, E: Write>(
     rt: &R,
     alloc: A,

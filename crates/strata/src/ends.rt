@@ -9,7 +9,7 @@ use std::alloc::Allocator;
 /// and the writer `O`, or over those that several readers share, `X` and `Y`.
 #[derive(Drop)]
 pub enum Ends<I, O, X, Y, A: Allocator> {
-    /// There were none: the words have a fault, or a fault came before they were made.
+    /// There were none: the arguments have a fault, or a fault came before they were made.
     Unused,
     /// Streams that are no device.
     Streams(Tap<I>, Spout<O>),

@@ -25,7 +25,7 @@ const LINE: usize = 4096;
 /// Why the program stopped. Its `Display` is the line for standard error.
 #[derive(Drop)]
 pub enum Fault {
-    /// The words say no command of the program, or ask for help.
+    /// The arguments are no command of the program, or ask for help.
     Usage { text: String },
     /// The file of this image, counted from 0, cannot be read to its end.
     ImageFile { image: u64 },
@@ -78,9 +78,9 @@ impl Fault {
         }
     }
 
-    /// Writes its line, and flushes. A line goes out in one write, so that no other program's text
-    /// stands inside it; longer text of the command line in two. An error is the writer's: it has
-    /// the first bytes of the line at most.
+    /// Writes its line, and flushes. A line goes out in one write, so no other program's text gets
+    /// inside it; longer text of the command line in two. An error is the writer's, which then has
+    /// at most a beginning of the line.
     pub fn tell<W: Write>(&self, writer: &mut W) -> io::Result<()>
         ensures whole { OnOk result (Appends (W.contents writer.old) (W.contents writer.new)
             (fault_text self.now ++ 10 ∷ [])) }
@@ -115,7 +115,7 @@ impl Fault {
         }
     }
 
-    // Its line with its end, where there is room for it: only the text of the command line may be
+    // Its line with its end, if there is room for it: only the text of the command line may be
     // longer.
     fn line(&self) -> Option<ArrayString<LINE>>
         ensures { IfSome result (λ line. line.bytes ≡ fault_text self.now ++ 10 ∷ []) }
@@ -139,7 +139,7 @@ fn write_long<W: Write>(writer: &mut W, text: &[u8]) -> io::Result<()>
     write_bytes(writer, b"\n")
 }
 
-// The exit status where serving stopped.
+// The exit status when serving stopped.
 fn stop_status(stop: Stop) -> u8
     ensures { result ≡ stop_status stop }
 {

@@ -21,7 +21,7 @@ pub fn open_requests<R: Files>(rt: &R, path: Option<&str>) -> Result<Option<R::F
     }
 }
 
-/// An empty file at the path, if one is named. Where it cannot be created, `fault` tells it.
+/// An empty file at the path, if one is named. If it cannot be created, the result is `fault`.
 pub fn create_named<R: Files>(
     rt: &R,
     path: Option<&str>,

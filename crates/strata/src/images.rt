@@ -1,4 +1,4 @@
-//! The images of a line, as they are read: whole, or what the rules look at.
+//! The images of a line, as they are read: in full, or what the rules check.
 
 ghost use Rattle.std.specs.Prelude.{◌≡◌, ◌↔◌, ℕ, List, Option, length, vec_len, IfOk, IfErr, IsTrue};
 ghost use Rattle.strata.specs.Faults.{AreUnread};
@@ -14,8 +14,8 @@ use std::fs::Files;
 use std::os::unix::fs::FileExt;
 use std::thread::Threads;
 
-/// The most bytes, in all, of images that are read whole where no mount is served: to read so many
-/// takes less time than to gather what the rules look at.
+/// The most bytes, in all, of images that are read in full if no mount is served: to read this many
+/// takes less time than to gather what the rules check.
 const SMALL_STACK: u64 = 32 << 20;
 
 /// The images of a line, the lowest layer first: what is held of them, and what the data of each are
@@ -26,9 +26,9 @@ pub struct LineImages<F, A: Allocator> {
     pub files: Vec<ImageData<F, A>, A>,
 }
 
-/// The images of a line that serves or lists. They are read whole where it asks for that, or where
-/// they are regular files of at most [`SMALL_STACK`] bytes together and it neither asks for
-/// `--in-files` nor serves a device; else they stay in their files.
+/// The images of a line that serves or lists. They are read in full with `--whole`, or if they are
+/// regular files of at most [`SMALL_STACK`] bytes together and the line neither has `--in-files`
+/// nor serves a device; otherwise they stay in their files.
 pub fn open_all<R: Files + Threads + Sync, A: Allocator + Copy + Send + Sync>(
     rt: &R,
     alloc: A,
@@ -49,8 +49,8 @@ where
     Ok(LineImages { held, files })
 }
 
-/// What is held of the images of a line that checks, none of which stays open. They are read whole
-/// where those of a line that lists are; else it is what the rules look at.
+/// What is held of the images of a line that checks, none of which stays open. They are read in
+/// full if those of a line that lists are; otherwise it is what the rules check.
 pub fn gather_all<R: Files + Threads + Sync, A: Allocator + Copy + Send + Sync>(
     rt: &R,
     alloc: A,
@@ -68,7 +68,7 @@ where
     Ok(load(rt, alloc, line.images.as_slice(), loading)?)
 }
 
-// How the images of a line are loaded: all bytes where they are read whole, else so.
+// How the images of a line are loaded: all bytes where they are read in full, else so.
 fn loading_of<R: Files>(rt: &R, line: &Line<'_>, otherwise: Loading) -> Loading
     ensures { IsLoadingOf line.now otherwise result }
 {
@@ -78,8 +78,8 @@ fn loading_of<R: Files>(rt: &R, line: &Line<'_>, otherwise: Loading) -> Loading
     otherwise
 }
 
-// Whether the images of a line are read whole: where it asks for that; and where they are small
-// together, and need not stay in their files.
+// Whether the images of a line are read in full: with `--whole`; or if they are small together, and
+// need not stay in their files.
 fn are_read_whole<R: Files>(rt: &R, line: &Line<'_>) -> bool
     ensures { (told : List (Option ℕ)) × (length told ≡ vec_len line.now.images)
         × (IsTrue result ↔ AreReadWhole line.now told) }
@@ -122,7 +122,7 @@ fn regular_len<R: Files>(rt: &R, path: &str) -> Option<u64> {
     }
 }
 
-// Whether the trailers of a line's images are read: where it asks for attributes.
+// Whether the trailers of a line's images are read: if it has `--attributes`.
 fn trailers_of(line: &Line<'_>) -> Trailers
     ensures { result ≡ trailers_of line.now }
 {

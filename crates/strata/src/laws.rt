@@ -39,9 +39,9 @@ ghost use Rattle.strata.specs.Mounts.{is_taken_away, status_on_device, IsRunOnDe
 
 use std::alloc::Allocator;
 
-/// A status other than 0 is one of 1 to 5. With 2 the words are no command of the program, or one
-/// with a number that is none or out of its range, or one that names a file beside the device, and
-/// no device was touched. With 3 the images are none or more than 128, or one is broken.
+/// A status other than 0 is one of 1 to 5. With 2 the arguments are no command of the program, or
+/// have a malformed number or one out of range, or name a file beside the device, and no device was
+/// touched. With 3 the images are none or more than 128, or one is broken.
 pub fn statuses_tell<A: Allocator>()
     ensures range { (words : List (List ℕ)) (n : ℕ) (old new : Devices) →
         EndsWith A words n old new → (1 ≤ n) × (n ≤ 5) }
@@ -52,17 +52,17 @@ pub fn statuses_tell<A: Allocator>()
         EndsWith A words 3 old new → AreToBlame words }
 {}
 
-/// The status of a fault says what is to blame: 1 files, sockets and streams; 2 the words; 3 the
-/// images; 4 the requests, also where they do not end; 5 memory.
+/// The status of a fault says what is to blame: 1 files, sockets and streams; 2 the arguments; 3
+/// the images; 4 the requests, also if they do not end; 5 memory.
 #[tactic(auto, using(crate::proofs::Blames::each_status))]
 pub fn each_status_has_its_faults()
     ensures { (fault : Fault) → HasStatusOf fault }
 {}
 
-/// Sessions end with no fault and 0 where all of them were served to their end; else with the fault
-/// of the first that stopped, which has its number, and with its status; or with 1 after fewer
-/// sessions than were asked for, since no client could be accepted. Of any sessions in a row the
-/// fault is that of the first of these that stopped, and there is none where none did.
+/// Sessions end with no fault and 0 if all of them were served to their end; else with the fault of
+/// the first that stopped, with its number, and with its status; or with 1 after fewer sessions
+/// than requested, since no client could be accepted. For any sessions in a row the fault is that
+/// of the first of these that stopped, and there is none if none did.
 pub fn sessions_tell<A: Allocator>()
     ensures faults { (first : Session) (by : Sourced) (count : ℕ) (fault : Option Fault)
         (clients : Accepting) → AreServed A first by count fault clients →
@@ -76,8 +76,8 @@ pub fn sessions_tell<A: Allocator>()
         first_fault 1 served ≡ None → AllByRecursion IsWhole served }
 {}
 
-/// A session counts by itself: one that was served whole met its end once, and nothing failed; one
-/// that a failed read or write stopped has that one failure.
+/// A session counts by itself: one that was served to its end met that once, and nothing failed;
+/// one that a failed read or write stopped has that one failure.
 pub fn sessions_begin_anew<A: Allocator>()
     ensures whole { (first : Session) (by : Sourced) (counted : ℕ) (t : Trace) (done : Done A) →
         IsSession first by counted t (Ok done) → HasMetItsEnd t }
@@ -87,8 +87,8 @@ pub fn sessions_begin_anew<A: Allocator>()
         IsSession {A = A} first by counted t (Err Write) → t.sink.failures ≡ 1 }
 {}
 
-/// Over an open `/dev/fuse` a status other than 0 means what it means over streams; and where the
-/// mount was taken away the status is 0, and a read or a write had failed.
+/// Over an open `/dev/fuse` a status other than 0 means what it means over streams; after an
+/// unmount the status is 0, and a read or a write failed.
 pub fn statuses_tell_of_mounts<A: Allocator>()
     ensures there { (words : List (List ℕ)) (n : ℕ) (old new : MountEnds) →
         IsRunOnDevice A words n old new → n ≢ 0 → EndsWith A words n old.devices new.devices }
@@ -97,7 +97,7 @@ pub fn statuses_tell_of_mounts<A: Allocator>()
         (n ≡ 0) × IsTakenAway A words old.devices new.devices }
 {}
 
-/// Over a device, and where the line asks for it, the client is told that the tree lasts; else not.
+/// Over a device, and with `--lasting`, the client learns that the tree lasts; otherwise not.
 pub fn devices_are_served_lastingly()
     ensures device { (line : Line) → line.device ≡ true → first_of line ≡ LastingFresh }
     ensures lasting { (line : Line) → line.lasting ≡ true → first_of line ≡ LastingFresh }
@@ -105,10 +105,9 @@ pub fn devices_are_served_lastingly()
         first_of line ≡ Fresh }
 {}
 
-/// Of images that are read whole the data are read from nothing, as where a line asks for all bytes:
-/// what is promised over their stack is what is promised over a stack that is held, and a READ is
-/// answered with their bytes. And only of a stack whose bytes are all held are they read from
-/// nothing.
+/// The data of images that are read in full are read from nothing, as with `--whole`: what is
+/// promised over their stack is what is promised over a held stack, and a READ is answered with
+/// their bytes. And only the data of a stack whose bytes are all held are read from nothing.
 #[tactic(auto, using(crate::proofs::Opened::read_held, crate::proofs::Opened::whole_held, crate::proofs::Opened::held_whole))]
 pub fn whole_images_are_held()
     ensures read { (line : Line) (images : List (List ℕ)) (by : Sourced)
@@ -120,8 +119,8 @@ pub fn whole_images_are_held()
         ArePrepared line images by → by.stack.whole ≡ true }
 {}
 
-/// Of images that are not read whole the data of each are read from a source of its own, as over a
-/// device, and where a line says `--in-files`, if it does not ask for all bytes.
+/// The data of images that are not read in full are read from a source for each, as over a device,
+/// and with `--in-files`, if the line does not have `--whole`.
 #[tactic(auto, using(crate::proofs::Opened::left_in_files, crate::proofs::Opened::in_their_files))]
 pub fn images_stay_in_their_files()
     ensures left { (line : Line) (images : List (List ℕ)) (by : Sourced)
@@ -132,9 +131,9 @@ pub fn images_stay_in_their_files()
         length by.sources ≡ length images }
 {}
 
-/// Where this was gathered of images for a line, and its data are read from sources that hold just
-/// these images, they are good, and a request may be told the reply that is defined over them, and
-/// no other. And this was, where the line was prepared over such sources.
+/// If this was gathered from images for a line, and its data are read from sources that hold
+/// exactly these images, they are good, and a request may only get the reply that is defined over
+/// them. And this was gathered so if the line was prepared over such sources.
 pub fn lines_are_served_as_over_their_files()
     ensures good { (line : Line) (kept images : List (List ℕ)) (by : Sourced) →
         ArePrepared line kept by → WereGatheredFor (profile_of line) images kept →
@@ -149,8 +148,8 @@ pub fn lines_are_served_as_over_their_files()
         WereGatheredFor (profile_of line) images kept }
 {}
 
-/// Whatever is read of the files later: a request that is no READ is told the reply that is defined
-/// over the images of which this was gathered.
+/// Whatever is read from the files later: a request that is no READ gets the reply that is defined
+/// over the images from which this was gathered.
 pub fn lines_keep_what_they_show()
     ensures { (line : Line) (kept images : List (List ℕ)) (by : Sourced) →
         ArePrepared line kept by → WereGatheredFor (profile_of line) images kept →
@@ -159,8 +158,8 @@ pub fn lines_keep_what_they_show()
         ((offset size : ℕ) → q.op ≢ at_node (read offset size)) → bytes ≡ reply whole s q }
 {}
 
-/// What is kept of an image beside its data is judged by the rules of a line as these are, whether
-/// it asks for attributes or not.
+/// What is kept of an image besides its data is judged by the rules of a line as these are, with
+/// attributes and without.
 #[tactic(auto, using(crate::proofs::Rules::judged))]
 pub fn opened_images_are_judged_as_their_data()
     ensures { (line : Line) (bytes image : List ℕ) →
@@ -170,8 +169,8 @@ pub fn opened_images_are_judged_as_their_data()
         ↔ IsRefusal (profile_of line) bytes fault) }
 {}
 
-/// An image that is held whole, as one that comes through a pipe, is judged as all bytes of its
-/// file are, where these are known.
+/// An image held in full, such as one from a pipe, is judged as all bytes of its file are, if these
+/// are known.
 #[tactic(auto, using(crate::proofs::Rules::judged_whole))]
 pub fn whole_images_are_judged_as_their_files<F, A: Allocator>()
     ensures { (line : Line) (bytes : List ℕ) (image : LoadedImage F A) →
@@ -181,7 +180,7 @@ pub fn whole_images_are_judged_as_their_files<F, A: Allocator>()
         ↔ IsRefusal (profile_of line) bytes fault) }
 {}
 
-/// A line asks for sums and for attributes by the word for each, and its stack has its owner.
+/// A line has an option each for sums and for attributes, and its stack has its owner.
 #[tactic(auto, using(crate::proofs::Rules::asks, crate::proofs::Rules::reads))]
 pub fn lines_say_their_rules()
     ensures sums { (line : Line) → asks_sums (profile_of line) ≡ line.strict }
@@ -198,8 +197,7 @@ pub fn readers_end_as_one_does()
         ≡ status_on_device (Stopped stop) input output }
 {}
 
-/// A failed write tells that the mount was taken away where either side knows, and a failed read
-/// where its own side does.
+/// A failed write means an unmount if either side knows, and a failed read if its own side does.
 pub fn writes_know_by_either_side()
     ensures write { (input : Bool) → is_taken_away (Stopped Write) input true ≡ true }
     ensures written { is_taken_away (Stopped Write) true false ≡ true }

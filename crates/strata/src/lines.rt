@@ -1,4 +1,4 @@
-//! Lines that are put whole.
+//! Lines that are put in full.
 
 ghost use Rattle.std.specs.Prelude.{◌<◌, ◌^◌, OnOk, IfErr};
 ghost use Rattle.std.specs.Io.KnownBytes.{Appends};
@@ -9,8 +9,8 @@ use crate::faults::Fault;
 use devices::{Sink, hand_on};
 use std::io::{self, Error, ErrorKind, Write};
 
-/// Puts lines to a sink, and flushes it where there are any. Where the sink fails it holds the
-/// first of their bytes, and is not called again.
+/// Puts lines to a sink, and flushes it if there are any. If the sink fails it holds a beginning of
+/// them, and is not called again.
 pub fn put_lines<K: Sink>(sink: &mut K, lines: &[u8]) -> Result<(), Fault>
     requires { (K.state sink.old).counts.failures < 2 ^ 63 }
     ensures ok { OnOk result (ArePut lines.now (K.state sink.old) (K.state sink.new)) }
@@ -20,8 +20,8 @@ pub fn put_lines<K: Sink>(sink: &mut K, lines: &[u8]) -> Result<(), Fault>
     hand_on(sink, lines).map_err(|_| Fault::write_failed())
 }
 
-/// Writes bytes, in one write where the writer takes them all. Where a write fails, or takes none,
-/// the writer holds the first of them, and is not called again.
+/// Writes bytes, in one write if the writer takes them all. If a write fails, or takes none, the
+/// writer holds the first of them, and is not called again.
 pub fn write_bytes<W: Write>(writer: &mut W, bytes: &[u8]) -> io::Result<()>
     ensures whole { OnOk result (Appends (W.contents writer.old) (W.contents writer.new)
         bytes.now) }

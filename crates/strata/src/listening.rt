@@ -24,8 +24,8 @@ use std::os::unix::net::UnixListener;
 use std::thread::Threads;
 
 /// Checks and stacks the images, binds a socket at the line's path, serves its sessions over the
-/// stack and gives their status; at last the socket's file is removed. What sessions stop for is
-/// told as it comes.
+/// stack and returns their status; at last the socket's file is removed. Faults of sessions are
+/// reported as they occur.
 pub fn listen<R: Files + Net + Threads + Sync, A: Allocator + Copy + Send + Sync, E: Write>(
     rt: &R,
     alloc: A,
@@ -92,7 +92,7 @@ fn listen_at<
     Ok(status)
 }
 
-// A socket that listens at this path, where no file stood. An empty path would make a socket that
+// A socket that listens at this path, where no file existed. An empty path would make a socket that
 // no client finds.
 fn bind<R: Files + Net>(rt: &R, path: &str) -> Result<UnixListener, Fault>
     ensures { IfErr result (λ fault. fault ≡ Fault.Bind) }

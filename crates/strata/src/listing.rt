@@ -17,8 +17,8 @@ use stack_prepare::{FreePass, HeldImage, Owner, Table, prepare};
 use std::alloc::Allocator;
 use std::thread::Threads;
 
-/// Checks the images, stacks them, and puts a line for each path that the stack shows. Where an
-/// image is broken nothing is put.
+/// Checks the images, stacks them, and puts a line for each visible path. If an image is broken
+/// nothing is put.
 pub fn list<R: Threads + Sync, A: Allocator + Copy + Send + Sync, K: Sink>(
     rt: &R,
     alloc: A,

@@ -4,7 +4,7 @@
 //! files of the images, opens the file of requests, creates the files of replies and of balances,
 //! and then does its work. `socket` makes its socket once the images are stacked.
 //!
-//! Its functions write the same bounds out: no trait can stand for those on `R::File` and `R::Dir`.
+//! Its functions repeat the same bounds: no trait can replace those on `R::File` and `R::Dir`.
 
 ghost use Rattle.std.specs.Prelude.{◌≡◌, ℕ, List, map, true, false, Ok, Err, IfOk, IfErr, MatchResult};
 ghost use Rattle.command_line.specs.CommandLine.{IsInLimits, IsLineOf, NamesSocket};
@@ -36,12 +36,12 @@ use std::net::Net;
 use std::os::unix::fs::FileExt;
 use std::thread::Threads;
 
-/// Runs the program on the words after its name, over a reader and a writer that were not used
-/// before, and gives its exit status, with the ends that it ran between as it left them. The reader
-/// and the writer are the two ends of an open `/dev/fuse` where the line says `--device`, and
-/// nowhere else; then `shared` are both ends once more, as several readers use them, where the line
-/// says more than one. A fault of the words, or memory that is refused as they are read, ends it
-/// before either is touched. Words that ask for the version are answered by its line.
+/// Runs the program on the arguments after its name, over a reader and a writer that were not used
+/// before, and returns its exit status, with the ends that it ran between as it left them. The
+/// reader and the writer are the two ends of an open `/dev/fuse` if the line has `--device`, and
+/// not otherwise; then `shared` are both ends once more, for several readers if the line asks for
+/// them. A fault of the arguments, or memory refused while they are read, ends it before either is
+/// touched. A request for the version prints its line.
 ///
 /// What it then does is said of [`command_on_device`] and [`command_on_streams`], and of several
 /// readers in `device_readers`. Memory comes from `alloc`, but for the command line: `clap` takes
@@ -170,12 +170,12 @@ where
 
 /// Runs the program by a line that does not say `--device`, over a source and a sink.
 ///
-/// The status is 0 only where the work of the line was done: the whole stream was answered over the
+/// The status is 0 only if the work of the line was done: the whole stream was answered over the
 /// images, and `output` gained all replies, unless a file is named for them; or all sessions at a
-/// socket were served to their end; or `output` gained the sizes of all images, or the paths that
-/// they show. Else the status is that of a [`Fault`], whose line goes to `faults`; `output` then
-/// holds the replies that stand, or the first bytes of the lines where it failed as it took these,
-/// or is as it was. `input` is read by `serve` alone, and only where no file of requests is named.
+/// socket were served to their end; or `output` gained the sizes of all images, or their visible
+/// paths. Otherwise the status is that of a [`Fault`], whose line goes to `faults`; `output` then
+/// holds the replies so far, or a beginning of the lines if it failed on these, or is unchanged.
+/// `input` is read only by `serve`, if no file of requests is named.
 ///
 /// It asks that neither `input` nor `output` was used before.
 pub fn command_on_streams<
@@ -205,9 +205,9 @@ where
 /// Runs the program as [`command_on_streams`] does, by a line that says `--device`, over the two
 /// devices of an open `/dev/fuse`.
 ///
-/// The status is 0 also where the mount was taken away: a pull failed, and `input` says that it is
-/// gone; or a push failed, and one of both says so. No line is written then, and what `output` took
-/// is the beginning of the replies. Any other fault has its line and its status.
+/// The status is 0 also after an unmount: a pull failed, and `input` says that it is gone; or a
+/// push failed, and one of both says so. No line is written then, and `output` took a beginning of
+/// the replies. Any other fault has its line and its status.
 pub fn command_on_device<
     R: Files + Net + Threads + Sync,
     A: Allocator + Copy + Send + Sync,
@@ -239,8 +239,8 @@ where
     }
 }
 
-// Does all the steps after the line was read, and gives the exit status, which sessions at a socket
-// may make another than 0: what they stop for is told as it comes.
+// Does all the steps after the line was read, and returns the exit status. Sessions at a socket may
+// make it nonzero: their faults are reported as they occur.
 fn do_steps<
     R: Files + Net + Threads + Sync,
     A: Allocator + Copy + Send + Sync,
@@ -290,7 +290,7 @@ where
     }
 }
 
-// The status of work that is done, where it was.
+// The status of work that is done, if it was.
 fn as_status(done: Result<(), Fault>) -> Result<u8, Fault>
     ensures { MatchResult done (λ _. result ≡ Ok 0) (λ fault. result ≡ Err fault) }
 {

@@ -25,8 +25,8 @@ use std::io::{Read, Write};
 use std::os::unix::fs::FileExt;
 use std::thread::Threads;
 
-/// Checks the images, stacks them, and answers the requests of a file or else of the input over the
-/// stack, to a file or else to the output, as they come. Where an image is broken neither the input
+/// Checks the images, stacks them, and answers the requests from a file, or else the input, over
+/// the stack, to a file, or else the output, as they come. If an image is broken neither the input
 /// nor the output is touched. At the end of the stream it writes the balances, if a file is named
 /// for them.
 pub fn serve<R: Files + Threads + Sync, A: Allocator + Copy + Send + Sync, S: Source, K: Sink>(

@@ -1,5 +1,5 @@
-//! What a line says of serving: the rules for images, the session that a stream begins in, of which
-//! nodes lookups are counted, and the plan.
+//! What a line says about serving: the rules for images, the session that a stream begins in, the
+//! nodes whose lookups are counted, and the plan.
 
 ghost use Rattle.std.specs.Prelude.{◌≡◌};
 ghost use Rattle.command_line.specs.CommandLine.{IsInLimits};
@@ -27,8 +27,8 @@ pub fn first_of(line: &Line<'_>) -> Session
     }
 }
 
-/// Of which nodes the line has lookups counted: of all, where a file is named for their balances.
-/// Else nobody would see them, and they take time and memory.
+/// The nodes whose lookups are counted: all, if a file is named for their balances. Otherwise
+/// nobody would see them, and they take time and memory.
 pub fn counted_of(line: &Line<'_>) -> Counted
     ensures { result ≡ counted_of line.now }
 {

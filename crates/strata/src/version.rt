@@ -1,4 +1,4 @@
-//! The version, as `--version` tells it.
+//! The version, as `--version` prints it.
 
 ghost use Rattle.std.specs.Prelude.{◌≡◌, ◌<◌, ◌^◌, string_bytes, IfErr, IfOk, OnOk};
 ghost use Rattle.strata.specs.Ending.{AreNotPut, ArePut, TellsVersion};

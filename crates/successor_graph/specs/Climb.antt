@@ -1,5 +1,5 @@
--- Numbered points, each of which leads on to one, and those of which one of the same class comes
--- along the way.
+-- Numbered points, each of which leads on to one, and those with one of the same class along the
+-- way.
 use Rattle.std.specs.Prelude.{◌≡◌, ◌≢◌, ℕ, ◌^◌, ◌<◌, ◌≤◌, ◌⊎◌, List, [], ◌∷◌, length, min, max, get_or, set, reverse, Bool, true, false}
 use Rattle.successor_graph.specs.declared.found.Found.{Found}
 
@@ -65,7 +65,7 @@ pub record IsSpare (class path : List ℕ) (noted : List Bool) : Type 0 where
   pub each : (x y : ℕ) → On path x → On path y → get_or class x 0 ≡ get_or class y 0 → y < x
       → get_or noted x false ≡ true
 
--- with what comes after a point that is entered, it has been compared
+-- it has been compared with what comes after a point that is entered
 pub record IsCompared (next class : List ℕ) (entered noted : List Bool) : Type 0 where
   pub sized : length entered ≡ length next
   pub low : (x y : ℕ) → get_or entered x false ≡ true → After next x y
@@ -77,7 +77,7 @@ pub record IsCompared (next class : List ℕ) (entered noted : List Bool) : Type
 pub record AreLower (next class : List ℕ) (noted : List Bool) : Type 0 where
   pub each : (x : ℕ) → get_or noted x false ≡ true → HasLower next class x
 
--- the higher of two points is noted, where `old` is one at all, and another than `at`
+-- the higher of two points is noted, if `old` is one at all, and another than `at`
 pub record IsNoted (before after : List Bool) (n old at : ℕ) : Type 0 where
   pub sized : length after ≡ length before
   pub kept : (x : ℕ) → get_or before x false ≡ true → get_or after x false ≡ true
@@ -115,8 +115,8 @@ findings found = record {
   low = found.low.items;
 }
 
--- a point is put on the path, where `lowest` was the lowest of its class, and the higher of both is
--- noted
+-- a point is put on the path, `lowest` being the lowest of its class before, and the higher of both
+-- is noted
 pub record Enters (next class : List ℕ) (at lowest : ℕ) (before after : Findings) : Type 0 where
   pub inside : at < length next
   pub room : at < length before.entered
@@ -137,8 +137,8 @@ pub record IsCycle (next cycle : List ℕ) : Type 0 where
   pub round : (x : ℕ) → On cycle x → On cycle (get_or next x 0)
   pub tied : (x y : ℕ) → On cycle x → On cycle y → After next x y
 
--- what has been found where the path holds a cycle, and what leads to the points that wait is still
--- to be entered
+-- what has been found if the path holds a cycle, and what leads to the waiting points is still to
+-- be entered
 pub record IsFound (next class cycle waits : List ℕ) (found : Findings) : Type 0 where
   pub lowest : IsLow class found.low cycle
   pub spare : IsSpare class cycle found.noted

@@ -1,11 +1,11 @@
 //! The climb over a graph, from each of its cycles.
 //!
-//! Ways may merge and go round, so to go along the way of each point would be quadratic. Against
-//! their direction the points are cycles with trees that grow from them; of two points one lies on
-//! the other's way where it is below it in its tree, or in the cycle that it leads to. So a cycle
-//! is put on a path, each tree is climbed from it depth first, and of each class the lowest point
-//! on the path is kept; what is entered is compared with that point alone, and the higher of both
-//! is noted. To leave a point puts back what was lowest before it.
+//! Ways may merge and loop, so following the way of each point would be quadratic. Against their
+//! direction the points are cycles with trees that grow from them; a point lies on another's way if
+//! it is below it in its tree, or in the cycle that it leads to. So a cycle is put on a path, each
+//! tree is climbed from it depth first, and for each class the lowest point on the path is kept; a
+//! new point is compared with that one alone, and the higher of both is noted. Leaving a point
+//! restores what was lowest before it.
 
 ghost use Rattle.std.specs.Prelude.{◌≡◌, ◌+◌, ◌<◌, ◌^◌, ℕ, true, false, IfOk, length, get_or, set, drop, reverse, []};
 ghost use Rattle.successor_graph.specs.Climb.{After, AreBelow, Clears, Enters, findings, IsFound, IsLow, IsCycle, IsMet, IsGathered, IsSkipped, AreMarksKept, AreNoted};
@@ -28,9 +28,8 @@ struct Step {
     low: u32,
 }
 
-/// Notes the points of which a lower one of the same class comes before or after: `next` is the
-/// point that each leads on to, and `class` the class of each. `AllocError` comes only where memory
-/// was refused.
+/// Notes the points with a lower one of the same class before or after them: `next` is the point
+/// that each leads on to, and `class` the class of each. `AllocError` only if memory was refused.
 pub fn note_repeats<A: Allocator + Copy>(
     alloc: A,
     next: Vec<u32, A>,
@@ -91,7 +90,7 @@ fn leave<A: Allocator>(graph: &Graph<A>, found: &mut Found<A>, step: Step) -> u3
     graph.sibling[place]
 }
 
-// Enters all that leads to one point of a cycle, where the whole cycle is on the path.
+// Enters all that leads to one point of a cycle, once the full cycle is on the path.
 fn climb<A: Allocator + Copy>(
     alloc: A,
     graph: &Graph<A>,

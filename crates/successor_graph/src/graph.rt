@@ -25,7 +25,7 @@ pub(crate) struct Graph<A: Allocator> {
 }
 
 impl<A: Allocator + Copy> Graph<A> {
-    /// The points with these classes, each of which leads on to the next that is given.
+    /// The points with these classes, each of which leads on to the given next one.
     pub(crate) fn of(
         alloc: A,
         next: Vec<u32, A>,

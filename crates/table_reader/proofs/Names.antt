@@ -19,7 +19,7 @@ module _ (n : List ℕ) (ls : List Line) where
   abbrev is : Line → Bool
   is l = same_name n l.name
 
-  -- a row is told by its name
+  -- a row is determined by its name
   is_named : (k : ℕ) (d : Line) → k < length ls → same_name n (get_or (names ls) k []) ≡ same_name n (get_or ls k d).name
   is_named k d l = ap (same_name n) (get_or-map (λ (line : Line). line.name) ls k d [] l)
 

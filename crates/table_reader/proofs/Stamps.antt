@@ -1,4 +1,4 @@
--- Lists that are paired, rows whose stamps stand elsewhere, and what is told by both.
+-- Paired lists, rows whose stamps are elsewhere, and what both give.
 use Rattle.std.proofs.Common.{◌≡◌, ◌≢◌, ◌∙◌, sym, ap, subst, ℕ, zero, suc, ◌+◌, ◌<◌, ◌≤◌, ◌⊎◌, inl, inr, List, [], ◌∷◌, ◌++◌, length, map, set, true, false, not, Bool, ◌==◌, Option, Some, None, refl, arith}
 use Rattle.std.specs.Prelude.{slice_get, nat_eq, is_some, Result, IfOk}
 use Rattle.std.specs.List.{slice_index_or}
@@ -164,7 +164,7 @@ row_set stamps rows old new row n at p e h s =
         let same : row ≡ x = some_same row x (sym e ∙ f) in
         record { place_is = was.place_is; mode_is = was.mode_is; stamp_is = λ _. h ∙ ap (λ (r : AttributeRow). Some (stamp_of r)) same }
 
--- a row with its stamp is told
+-- a row with its stamp is given
 row_is : (stamps : List Stamp) (row : AttributeRow) (slim : Slim) → IsSlim stamps row slim → HasStamp slim → row_told stamps slim ≡ row
 row_is stamps row slim i h = rw (i.stamp_is h, i.place_is, i.mode_is) refl
 
@@ -195,7 +195,7 @@ some_row x xs rows e =
     let z : true ≡ false = rw empty at e in
     cc
 
--- where no layer has a row they are told without stamps
+-- if no layer has a row they are given without stamps
 pub none_told : (rows : List (List AttributeRow)) → have_rows rows ≡ false → rows_told [] (map (map slim_of) rows) ≡ rows
 none_told [] e = refl
 none_told ([] ∷ rows) e = ap (λ rest. [] ∷ rest) (none_told rows e)
@@ -280,7 +280,7 @@ pushed rows place owner at row old new x y e f g h i =
     i ∙ ap (λ z. old ++ z ∷ []) (h ∙ g ∙ ap (λ r. stamp_by r owner) (placed_row rows place at row e f))
 
 module _ (rows : List (List AttributeRow)) (layers : List (List Slim)) (place : Place) (i : ℕ) (d : List Slim) where
-  -- the rows of its layer are there, and so many
+  -- the rows of its layer are there, and this many
   layer_there : (stamps : List Stamp) → AreAllSlim stamps rows layers → (f : IsFound rows place i)
       → AreSlim stamps f.of_layer (slice_index_or layers place.layer d)
   layer_there stamps a f =

@@ -1,4 +1,4 @@
--- What a table holds, and what of it agrees with the listing of its layers.
+-- What a table holds, and how it agrees with the listing of its layers.
 use Rattle.std.specs.Prelude.{◌≡◌, ℕ, ◌≤◌, List, [], length, map, slice_get, slice_range, nat_eq, All, Bool, Option, Some, None, unwrap_or, true, false, not, if◌then◌else◌}
 use Rattle.std.specs.List.{list_any, slice_index_or}
 use Rattle.std.specs.Option.{option_map_or, option_and_then}
@@ -56,7 +56,7 @@ stamp_by given owner = record {
 abbrev pub briefs_of : List (List AttributeRow) → List Node → List Brief
 briefs_of rows held = map (λ node. brief_by (row_held rows node) node) held
 
--- where the row of a place stands among those of its layer, counted from 0, if there is one
+-- the position of a place's row among those of its layer, counted from 0, if there is one
 abbrev pub position_held : List (List AttributeRow) → Place → Option ℕ
 position_held rows place = position_at (slice_index_or rows place.layer []) place.header
 
@@ -64,11 +64,11 @@ position_held rows place = position_at (slice_index_or rows place.layer []) plac
 abbrev pub have_rows : List (List AttributeRow) → Bool
 have_rows rows = list_any (λ of_layer. not (nat_eq (length of_layer) 0)) rows
 
--- the stamp of the node with a number; the owner's where none is held
+-- the stamp of the node with a number; the owner's if none is held
 abbrev pub stamp_held : List Stamp → Owner → ℕ → Stamp
 stamp_held stamps owner n = unwrap_or (held_at stamps n) (stamp_by None owner)
 
--- each node's stamp is held of its number, and no stamp where no layer has a row
+-- each node's stamp is held by its number, and no stamp if no layer has a row
 pub record AreStampsOf (rows : List (List AttributeRow)) (owner : Owner) (held : List Node)
     (stamps : List Stamp) : Type 0 where
   pub each : (n : ℕ) (node : Node) → held_at held n ≡ Some node

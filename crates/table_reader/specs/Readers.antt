@@ -1,4 +1,4 @@
--- What a table answers about a number, by the listing of its layers.
+-- What a table answers about a number, from the listing of its layers.
 use Rattle.std.specs.Prelude.{◌≡◌, ◌≢◌, ℕ, List, [], map, slice_get, Option, Some, None, MatchOption, if◌then◌else◌}
 use Rattle.std.specs.Borrow.{Bor}
 use Rattle.std.specs.Option.{option_map, option_map_or, option_and_then}
@@ -16,21 +16,21 @@ abbrev pub placed : Place → ModelPlace
 placed place = (place.layer, place.header)
 
 module _ (stack : Stacked) where
-  -- the number of the directory above; none where the place is no directory
+  -- the number of the parent; none if the place is no directory
   abbrev pub parent_of : ModelPlace → Option ℕ
   parent_of p =
       if is_directory_at stack.layers p
       then Some (number stack.entries (parent stack.entries p))
       else None
 
-  -- the number of the shown child with a name; none where the place is no directory
+  -- the number of the visible child with a name; none if the place is no directory
   abbrev pub child_of : ModelPlace → List ℕ → Option ℕ
   child_of p name =
       if is_directory_at stack.layers p
       then option_map (number stack.entries) (child stack.entries p name)
       else None
 
-  -- the shown children of a place, in the order of their names; empty where it is no directory
+  -- the visible children of a place, in the order of their names; empty if it is no directory
   abbrev pub rows_of : ModelPlace → List Line
   rows_of p =
       if is_directory_at stack.layers p
@@ -47,13 +47,13 @@ pub record HoldsData (layers : List (List ℕ)) (layer : ℕ) (node : Node) (p :
   pub data_is : bytes_at image node.part.start node.part.len ≡ data_of layers p
   pub start_is : node.part.len ≢ 0 → node.part.start ≡ data_start layers p
 
--- the number is the node's, and the node says its place and kind, and where its data are
+-- the number is the node's, and the node has its place, its kind, and the place of its data
 pub record IsNodeOf (stack : Stacked) (number : ℕ) (node : Node) : Type 0 where
   pub place_is : node_of stack.entries number ≡ Some (placed node.place)
   pub kind_is : node.kind ≡ kind_at stack.layers (placed node.place)
   pub holds : HoldsData stack.layers node.place.layer node (placed node.place)
 
--- the node of a number; none where the number is not in use
+-- the node of a number; none if the number is not in use
 abbrev pub TellsNode : Stacked → ℕ → Option (Bor Node) → Type 0
 TellsNode stack n found =
     MatchOption found (node_of stack.entries n ≡ None) (λ node. IsNodeOf stack n node.now)

@@ -1,4 +1,4 @@
--- What a table stands for: a stack of layers, and the paths that it shows.
+-- What a table represents: a stack of layers, and its visible paths.
 use Rattle.std.specs.Prelude.{◌≡◌, ℕ, List, [], refl}
 use Rattle.std.specs.Coded.{Coded, Coded-set, code_by, coded×, coded_ℕ, coded_list}
 use mathlib.Core.HLevel.{Σ_prop_path}
@@ -9,7 +9,7 @@ use Rattle.node_attr.specs.declared.owner.TheConstants.Owner.{ROOT}
 use Rattle.stack_model.specs.Listing.{Entry, Stacked, IsListing}
 use Rattle.stack_model.proofs.Listings.{one_listing}
 
--- the stack of these layers with these rows, where all that has none belongs to this owner
+-- the stack of these layers with these rows, and this owner of everything without one
 pub record IsTableWith (layers : List (List ℕ)) (rows : List (List AttributeRow)) (owner : Owner)
     (stack : Stacked) : Type 0 where
   pub layers_are : stack.layers ≡ layers
@@ -17,7 +17,7 @@ pub record IsTableWith (layers : List (List ℕ)) (rows : List (List AttributeRo
   pub owner_is : stack.owner ≡ owner
   pub listing : IsListing stack.layers stack.entries
 
--- the stack of these layers without rows, where all belongs to the superuser
+-- the stack of these layers without rows, with the superuser as owner of everything
 abbrev pub IsTableOf : List (List ℕ) → Stacked → Type 0
 IsTableOf layers stack = IsTableWith layers [] ROOT stack
 
@@ -25,7 +25,7 @@ IsTableOf layers stack = IsTableWith layers [] ROOT stack
 abbrev pub Listed : List (List ℕ) → Type 0
 Listed layers = (entries : List Entry) × ∥ IsListing layers entries ∥₁
 
--- an entry is told by its path, its layer and its header
+-- an entry is determined by its path, its layer and its header
 abbrev entry_code : Coded Entry
 entry_code =
     code_by (List (List ℕ) × (ℕ × ℕ))

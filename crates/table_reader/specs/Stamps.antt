@@ -1,5 +1,5 @@
 -- Rows of attributes as a table holds them: slim, and each with the number of a stamp in one list,
--- where the nodes' stamps stand first.
+-- where the nodes' stamps come first.
 use Rattle.std.specs.Prelude.{◌≡◌, ◌≢◌, ℕ, zero, suc, ◌<◌, List, map, length, set, slice_get, Option, Some, None, unwrap_or}
 use Rattle.romfs_format.specs.declared.attribute_row.AttributeRow.{AttributeRow}
 use Rattle.table_reader.specs.declared.stamp.Stamp.{Stamp}
@@ -9,7 +9,7 @@ abbrev pub held_at : {A : Type 0} → List A → ℕ → Option A
 held_at held zero = None
 held_at held (suc k) = slice_get held k
 
--- a row whose owner and time stand elsewhere: their number, counted from 1, or 0 without one
+-- a row whose owner and time are elsewhere: their number, counted from 1, or 0 without one
 pub record Slim : Type 0 where
   pub place : ℕ
   pub mode : ℕ
@@ -58,7 +58,7 @@ joined slim stamp = record {
 abbrev nothing : Stamp
 nothing = record { seconds = 0; nanoseconds = 0; uid = 0; gid = 0 }
 
--- the row that is told by a slim one and its stamp
+-- the row that a slim one and its stamp give
 abbrev pub row_told : List Stamp → Slim → AttributeRow
 row_told stamps slim = joined slim (unwrap_or (held_at stamps slim.stamp) nothing)
 
@@ -66,16 +66,16 @@ row_told stamps slim = joined slim (unwrap_or (held_at stamps slim.stamp) nothin
 abbrev pub rows_told : List Stamp → List (List Slim) → List (List AttributeRow)
 rows_told stamps layers = map (map (row_told stamps)) layers
 
--- two lists have the same length, and what stands at the same place is so related
+-- two lists have the same length, and items at the same place are so related
 pub record ArePaired {A B : Type 0} (R : A → B → Type 0) (xs : List A) (ys : List B) : Type 0 where
   pub level : length ys ≡ length xs
   pub each : (k : ℕ) (x : A) (y : B) → slice_get xs k ≡ Some x → slice_get ys k ≡ Some y → R x y
 
--- the first so many of a list are so
+-- the first this many of a list are so
 pub record AreFirst {A : Type 0} (P : A → Type 0) (xs : List A) (count : ℕ) : Type 0 where
   pub each : (k : ℕ) (x : A) → k < count → slice_get xs k ≡ Some x → P x
 
--- the slim row is that of a row, and so is its stamp, where it has one
+-- the slim row is that of a row, and so is its stamp, if it has one
 pub record IsSlim (stamps : List Stamp) (row : AttributeRow) (slim : Slim) : Type 0 where
   pub place_is : slim.place ≡ row.place
   pub mode_is : slim.mode ≡ row.mode
@@ -101,7 +101,7 @@ HasStamp slim = slim.stamp ≢ 0
 abbrev pub HaveStamps : List Slim → Type 0
 HaveStamps slims = AreFirst HasStamp slims (length slims)
 
--- the slim rows are those of a layer's rows, the first so many have stamps, and the stamps from
+-- the slim rows are those of a layer's rows, the first this many have stamps, and the stamps from
 -- before are there
 pub record AreStamped (rows : List AttributeRow) (old new : List Stamp) (slims : List Slim)
     (count : ℕ) : Type 0 where
@@ -109,7 +109,7 @@ pub record AreStamped (rows : List AttributeRow) (old new : List Stamp) (slims :
   pub have : AreFirst HasStamp slims count
   pub keeps : Keeps old new
 
--- the same of all layers, of which the first so many have all stamps
+-- the same for all layers, the first of which have all stamps
 pub record AreAllStamped (rows : List (List AttributeRow)) (old new : List Stamp)
     (layers : List (List Slim)) (count : ℕ) : Type 0 where
   pub slim : AreAllSlim new rows layers

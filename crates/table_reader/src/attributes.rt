@@ -1,4 +1,4 @@
-//! What is known of nodes beside their headers: rows of attributes, and an owner.
+//! What is known of nodes besides their headers: rows of attributes, and an owner.
 
 ghost use Rattle.std.specs.Prelude.{◌≡◌, ◌<◌, ◌^◌, [], slice_get, slice_index_or, IfOk};
 ghost use Rattle.std.specs.Option.{option_and_then};
@@ -18,8 +18,8 @@ use whiteout_tree::Place;
 /// The bits of a mode below its type, and one more.
 const PERMISSIONS: u32 = 0o1_0000;
 
-/// What a table is told beside its images: the rows of attributes of each layer, the lowest first,
-/// and whom the nodes belong to that have no row.
+/// What a table gets besides its images: the rows of attributes of each layer, lowest first, and
+/// the owner of nodes without a row.
 #[derive(Drop)]
 pub struct Attributes<A: Allocator> {
     pub rows: Vec<Rows<A>, A>,
@@ -78,7 +78,7 @@ fn row_of<A: Allocator>(
     row_at(rows, place.layer as usize, next.position(rows, place))
 }
 
-// A mode of which a row says all bits but the type.
+// A mode whose bits, except the type, come from a row.
 fn mode_by(row: Option<AttributeRow>, mode: u32) -> u32
     requires { mode < 2 ^ 16 }
     ensures value { result ≡ mode_by row mode }

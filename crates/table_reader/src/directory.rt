@@ -6,7 +6,7 @@ use crate::row::Row;
 use std::alloc::Allocator;
 use std::marker::Model;
 
-/// What a table holds of a directory: the number of the one above, where its rows stand among all
+/// What a table holds about a directory: the number of its parent, the place of its rows among all
 /// rows, and how many bytes their names share at the front.
 #[derive(Clone, Copy)]
 pub struct Directory {
@@ -37,7 +37,7 @@ impl<A: Allocator> Model for Directories<A> {
 }
 
 impl<A: Allocator> Directories<A> {
-    // The directory that stands at this place among all.
+    // The directory at this place among all.
     pub(crate) fn get(&self, place: usize) -> Option<&Directory>
         ensures { MatchOption result (slice_get self.now.all place ≡ None)
             (λ directory. slice_get self.now.all place ≡ Some directory.now) }

@@ -1,7 +1,7 @@
 //! What is guessed of a row.
 
-/// Where the row of a directory's child may stand among all rows, as whoever reads ahead found it.
-/// No answer follows from a guess: it saves steps where it is right.
+/// Where the row of a directory's child may be among all rows, found by reading ahead. No answer
+/// depends on a guess: a right one saves steps.
 #[derive(Clone, Copy)]
 pub enum Guess {
     /// Nothing is known.

@@ -1,17 +1,16 @@
 //! The nodes of a stack of layers by number, as they are read: kinds and places, attributes, rows
 //! and data.
 //!
-//! A [`Table`] stands for a stack: its layers, and the listing of the paths that they show. Each
-//! reader answers by the definitions of `stack_model`, as `specs/Readers.antt` puts them together,
-//! for every number up to 2^64 - 1, and takes no memory. What the table's parts have to say of the
+//! A [`Table`] represents a stack: its layers, and the listing of their visible paths. Each reader
+//! answers by the definitions of `stack_model`, as `specs/Readers.antt` puts them together, for
+//! every number up to 2^64 - 1, and takes no memory. What the table's parts must say about the
 //! listing is its invariant (`specs/Held.antt`). Rows of attributes are given as `attribute_rows`
-//! reads them, and held otherwise: owners and times by the numbers of nodes, 20 bytes each, and 12
-//! bytes a row that tell the rest (`specs/Stamps.antt`).
+//! reads them, and held in another form: owners and times by the numbers of nodes, 20 bytes each,
+//! and 12 bytes a row for the rest (`specs/Stamps.antt`).
 //!
-//! `node_table` makes tables: the crates are two, so that what answers from a table is proved
-//! beside its making, and not after it. The crate stands on `whiteout_tree` for places, on
-//! `romfs_reader` for images, on `attribute_rows` for rows of attributes and on `name_lookup` for
-//! look-ups.
+//! `node_table` makes tables: the crates are two, so what answers from a table is proved beside its
+//! making, not after it. The crate uses `whiteout_tree` for places, `romfs_reader` for images,
+//! `attribute_rows` for rows of attributes and `name_lookup` for look-ups.
 #![tactic(auto)]
 
 mod attributes;

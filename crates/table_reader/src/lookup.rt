@@ -27,7 +27,7 @@ pub(crate) fn node_at(nodes: &[Node], number: u64) -> Option<&Node>
     numbered(nodes, number)
 }
 
-// What stands at a number, counted from 1.
+// The item with a number, counted from 1.
 pub(crate) fn numbered<T>(all: &[T], number: u64) -> Option<&T>
     ensures { MatchOption result (held_at all.now number ≡ None)
         (λ it. held_at all.now number ≡ Some it.now) }
@@ -73,19 +73,19 @@ pub(crate) fn directory_at<'a, A: Allocator>(
     }
 }
 
-/// What tells of a name before the rows of its directory are searched. Of both parts a clause sees
-/// how large they are.
+/// What knows names before the rows of their directory are searched. A clause sees the sizes of
+/// both parts.
 #[derive(Drop)]
 pub(crate) struct Hints<A: Allocator> {
-    /// Where rows stand.
+    /// The places of rows.
     pub(crate) guesses: Guesses<A>,
     /// Which keys no row has.
     pub(crate) filter: KeyFilter<A>,
 }
 
-// The place of this name among these rows of a directory with this number: by a guess that was made
-// before, where it is right, else by what is guessed, or by their keys. Where nothing can be
-// guessed it goes by their keys at once.
+// The place of this name among these rows of a directory with this number: by an earlier guess if
+// it is right, else by a new guess, or by their keys; by their keys at once if there are no
+// guesses.
 #[inline(always)]
 pub(crate) fn place_of<A: Allocator>(
     rows: &[Row<A>],
@@ -114,7 +114,7 @@ pub(crate) fn place_of<A: Allocator>(
     find(rows, keys, directory.shared, &hints.filter, number, name)
 }
 
-// What tells of the names of all directories' rows, by one pass over the nodes.
+// What knows the names of all directories' rows, from one pass over the nodes.
 pub(crate) fn hints_of<A: Allocator + Copy>(
     alloc: A,
     nodes: &[Node],
@@ -138,7 +138,7 @@ pub(crate) fn hints_of<A: Allocator + Copy>(
     Ok(Hints { guesses, filter })
 }
 
-// The place of this name, where it is the one that was guessed among all rows. None says nothing.
+// The place of this name, if it is the guessed one among all rows. None means nothing.
 #[inline(always)]
 fn confirmed<A: Allocator>(
     rows: &[Row<A>],
@@ -157,7 +157,7 @@ fn confirmed<A: Allocator>(
     }
 }
 
-// Notes where the rows of a directory stand among all rows.
+// Notes the place of a directory's rows among all rows.
 fn note_rows<A: Allocator>(
     guesses: &mut Guesses<A>,
     number: u64,

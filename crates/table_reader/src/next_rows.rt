@@ -1,4 +1,4 @@
-//! Where the rows of attributes of nodes stand, of nodes that mostly come in the order of rows.
+//! The places of nodes' rows of attributes, for nodes that mostly come in the order of rows.
 
 ghost use Rattle.std.specs.Prelude.{◌≡◌};
 ghost use Rattle.table_reader.specs.Held.{position_held};
@@ -7,8 +7,8 @@ use attribute_rows::Rows;
 use std::alloc::{AllocError, Allocator};
 use whiteout_tree::Place;
 
-/// For each layer the position behind the row that was found last: that row is looked at first, and
-/// rows are searched by halves only where it is another's.
+/// For each layer the position after the row that was found last: that row is tried first, and a
+/// binary search follows only if it is another's.
 #[derive(Drop)]
 pub(crate) struct NextRows<A: Allocator> {
     positions: Vec<u32, A>,
@@ -24,7 +24,7 @@ impl<A: Allocator> NextRows<A> {
         Ok(NextRows { positions })
     }
 
-    /// Where the row of a place stands among those of its layer, counted from 0.
+    /// The position of a place's row among those of its layer, counted from 0.
     pub(crate) fn position<B: Allocator>(&mut self, rows: &[Rows<B>], place: Place) -> Option<u32>
         ensures { result ≡ position_held rows.now place }
     {

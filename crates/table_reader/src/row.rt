@@ -8,7 +8,7 @@ use name_tree::Name;
 use std::alloc::Allocator;
 use std::marker::Model;
 
-/// A child of a directory: its number, and its name there. A short name stands in the row itself.
+/// A child of a directory: its number, and its name there. A short name is in the row itself.
 #[derive(Drop)]
 pub struct Row<A: Allocator> {
     pub number: u64,

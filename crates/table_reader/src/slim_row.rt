@@ -1,4 +1,4 @@
-//! A row of attributes whose owner and time stand elsewhere.
+//! A row of attributes whose owner and time are elsewhere.
 
 ghost use Rattle.std.specs.Prelude.{◌≡◌, ◌<◌, ◌^◌, IfOk};
 ghost use Rattle.table_reader.specs.Stamps.{slim_of, stamped};
@@ -49,7 +49,7 @@ impl SlimRow {
         }
     }
 
-    /// The number of its stamp; 0 where it has none.
+    /// The number of its stamp; 0 if it has none.
     pub(crate) fn stamp(&self) -> u64
         ensures { result ≡ self.now.stamp }
     {

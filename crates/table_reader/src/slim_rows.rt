@@ -1,4 +1,4 @@
-//! The rows of attributes of a layer, whose owners and times stand elsewhere.
+//! The rows of attributes of a layer, whose owners and times are elsewhere.
 
 ghost use Rattle.std.specs.Prelude.{◌≡◌, ◌+◌, ◌<◌, length, map, IfOk};
 ghost use Rattle.table_reader.specs.Stamps.{slim_of, AreFirst, AreSlim, AreStamped};

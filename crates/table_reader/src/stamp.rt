@@ -20,11 +20,11 @@ pub(crate) struct Stamp {
     pub(crate) gid: u32,
 }
 
-/// A stamp in 20 bytes: its seconds stand in two halves, since a number of eight bytes would make
-/// it 24. A clause sees the stamp.
+/// A stamp in 20 bytes: its seconds are two halves, since an eight-byte number would make it 24. A
+/// clause sees the stamp.
 #[derive(Drop)]
 pub(crate) struct KeptStamp {
-    // Lower half first, as x86 has them, so that both are read at once.
+    // Lower half first, as on x86, where one load then reads both.
     seconds_low: u32,
     seconds_high: u32,
     nanoseconds: u32,

@@ -18,9 +18,9 @@ use std::marker::Model;
 /// The rows of attributes of each layer, the lowest first, and the stamps of the nodes by number. A
 /// clause sees both.
 ///
-/// A stamp takes 20 bytes, and beside it a row takes 12. The stamps of nodes stand first, so that a
-/// node's is found by its number at once, and a row of a node has the node's. Behind them stand
-/// those of rows that belong to no node. Where no layer has a row there are no stamps.
+/// A stamp takes 20 bytes, and a row 12 more. The stamps of nodes come first, so a node's is found
+/// by its number at once, and a row of a node has the node's. After them come those of rows that
+/// belong to no node. If no layer has a row there are no stamps.
 #[derive(Drop)]
 pub(crate) struct StampedRows<A: Allocator> {
     layers: Vec<SlimRows<A>, A>,
@@ -39,7 +39,7 @@ impl<A: Allocator> Model for StampedRows<A> {
 }
 
 impl<A: Allocator + Copy> StampedRows<A> {
-    /// These rows, and the stamps of these nodes, of which those without a row are this owner's.
+    /// These rows, and the stamps of these nodes; those without a row have this owner.
     pub(crate) fn of(
         alloc: A,
         rows: &[Rows<A>],
@@ -64,7 +64,7 @@ impl<A: Allocator + Copy> StampedRows<A> {
 }
 
 impl<A: Allocator> StampedRows<A> {
-    /// The stamp of the node with this number; this owner's where none is held.
+    /// The stamp of the node with this number; this owner's if none is held.
     pub(crate) fn stamp(&self, number: u64, owner: Owner) -> Stamp
         ensures { result ≡ stamp_held self.now.stamps owner number }
     {

@@ -24,12 +24,12 @@ use std::marker::Model;
 
 /// The nodes of a stack of layers, by number: attributes, rows and data.
 ///
-/// A clause sees the layers, their listing, the layers' rows of attributes, whom nodes without a
-/// row belong to, and whether the images are held whole. Each node and row takes at most 113 bytes
-/// beside a name of more than 22 (16 of them for guesses of where names stand), and a directory 32
-/// more. Where any layer has a row of attributes, each node takes 20 more, and such a row takes 12,
-/// or 32 where it belongs to no node. No reader takes memory, and each answers for every number: 1
-/// is the root, and a number that is not in use has nothing.
+/// A clause sees the layers, their listing, the layers' rows of attributes, the owner of nodes
+/// without a row, and whether the images are held in full. Each node and row takes at most 113
+/// bytes besides a name of more than 22 (16 of them for guesses of places), and a directory 32
+/// more. If any layer has a row of attributes, each node takes 20 more, and such a row 12, or 32 if
+/// it belongs to no node. No reader takes memory, and each answers for every number: 1 is the root,
+/// and a number that is not in use has nothing.
 ///
 /// ```text
 /// if let Some(number) = table.child(1, b"etc") {
@@ -39,12 +39,12 @@ use std::marker::Model;
 /// }
 /// ```
 ///
-/// All nodes lie in one vector by their numbers, and all rows in another, those of a directory
-/// together; beside each row lies the key by which its name is found (`name_lookup`), where a guess
-/// does not tell the row. A node keeps where its data lie, so no answer parses a header, and only a
-/// directory keeps more: where its rows lie, and which directory is above. Attributes lie once more
-/// in a list of their own, since most requests ask for nothing else of a node; owners and times in
-/// another, where any layer has a row of attributes. Rows are sought once, when the table is made.
+/// All nodes are in one vector by their numbers, and all rows in another, those of a directory
+/// together; with each row goes the key by which its name is found (`name_lookup`) if no guess
+/// finds it. A node keeps the place of its data, so no answer parses a header, and only a directory
+/// keeps more: the place of its rows, and its parent. Attributes are also in a list of their own,
+/// since most requests need nothing else of a node; owners and times in another, if any layer has a
+/// row of attributes. Rows are searched once, when the table is made.
 #[derive(Drop)]
 pub struct Table<A: Allocator> {
     // The images of the layers, the lowest first.
@@ -98,9 +98,8 @@ impl<A: Allocator> Model for Table<A> {
 }
 
 impl<A: Allocator + Copy> Table<A> {
-    /// The table of images, the lowest layer first, from what it holds of their nodes and
-    /// directories, and from what is known beside their headers. An error comes only where memory
-    /// was refused.
+    /// The table of images, lowest layer first, from their nodes and directories, and from what is
+    /// known besides their headers. Fails only if memory was refused.
     pub fn of_parts(
         alloc: A,
         layers: Vec<Image<A>, A>,
@@ -155,19 +154,19 @@ impl<A: Allocator> Table<A> {
         view_at(&self.layers, layer)
     }
 
-    /// The node of a number; none where the number is not in use.
+    /// The node of a number; none if the number is not in use.
     pub fn node(&self, number: u64) -> Option<&Node>
         ensures { TellsNode self.now number result }
     {
         node_at(&self.nodes, number)
     }
 
-    /// The number of the child with this name in a directory; none where the number is no directory
+    /// The number of the child with this name in a directory; none if the number is no directory
     /// that shows such a child. Names compare byte by byte, and neither `.` nor `..` is a child.
     ///
-    /// Where the row is guessed it looks at one row, or at few. Else it takes as many steps over
-    /// the keys of the directory's rows as their number has binary digits, and where many names
-    /// have one key at most as many over these names again.
+    /// If the row is guessed it reads one row, or few. Otherwise it takes as many steps over the
+    /// keys of the directory's rows as their number has binary digits, and if many names have one
+    /// key at most as many over these names again.
     #[inline(always)]
     pub fn child(&self, number: u64, name: &[u8]) -> Option<u64>
         ensures { result ≡ child_at self.now number name.now }
@@ -175,8 +174,8 @@ impl<A: Allocator> Table<A> {
         self.child_guessed(number, name, Guess::Unknown)
     }
 
-    /// The same, where a [`guess`](Table::guess) was made before. Any guess gives the same child,
-    /// and of one that is right no other row is looked at.
+    /// The same with an earlier [`guess`](Table::guess). Any guess gives the same child, and with a
+    /// right one no other row is read.
     #[inline(always)]
     pub fn child_guessed(&self, number: u64, name: &[u8], guess: Guess) -> Option<u64>
         ensures { result ≡ child_at self.now number name.now }
@@ -195,20 +194,20 @@ impl<A: Allocator> Table<A> {
         self.hints.guesses.read_ahead(hashes)
     }
 
-    /// Where the row of a directory's child may stand among all rows, by the
-    /// [`hash`](crate::hashed) of the directory's number and the child's name. It is a guess, for
-    /// whoever reads ahead: no answer follows from it.
+    /// Where the row of a directory's child may be among all rows, by the [`hash`](crate::hashed)
+    /// of the directory's number and the child's name. It is a guess for reading ahead: no answer
+    /// depends on it.
     pub fn guess(&self, hash: u64) -> Option<usize> {
         self.hints.guesses.first(hash)
     }
 
-    /// The row that stands at a guessed place among all rows; none beyond the last.
+    /// The row at a guessed place among all rows; none beyond the last.
     pub fn guessed(&self, place: usize) -> Option<&Row<A>> {
         self.directories.rows.get(place)
     }
 
-    /// The children of a directory in the order of their names, without `.` and `..`; empty where
-    /// the number is no directory.
+    /// The children of a directory in the order of their names, without `.` and `..`; empty if the
+    /// number is no directory.
     #[inline(always)]
     pub fn rows(&self, number: u64) -> &[Row<A>]
         ensures { result.now ≡ rows_at self.now number }
@@ -219,8 +218,8 @@ impl<A: Allocator> Table<A> {
         }
     }
 
-    /// The number of the directory above a directory, that of the root being the root's; none where
-    /// the number is no directory.
+    /// The number of a directory's parent, the root being its own; none if the number is no
+    /// directory.
     #[inline(always)]
     pub fn parent(&self, number: u64) -> Option<u64>
         ensures { result ≡ parent_at self.now number }
@@ -229,7 +228,7 @@ impl<A: Allocator> Table<A> {
         Some(directory.parent)
     }
 
-    /// The attributes of a node; none where the number is not in use.
+    /// The attributes of a node; none if the number is not in use.
     #[inline(always)]
     pub fn attr(&self, number: u64) -> Option<Attr>
         ensures { result ≡ attr_at self.now number }
@@ -239,8 +238,8 @@ impl<A: Allocator> Table<A> {
         Some(attr_of(number, brief, stamp))
     }
 
-    /// The data of a regular file, or the target of a symbolic link; empty where the number is
-    /// neither. A reply's header can say how many they are. It asks for images that are held whole.
+    /// The data of a regular file, or the target of a symbolic link; empty if the number is
+    /// neither. A reply's header can hold their length. It requires images held in full.
     pub fn bytes(&self, number: u64) -> &[u8]
         requires { self.now.whole ≡ true }
         ensures value { result.now ≡ data_of_number self.now number }

@@ -9,10 +9,10 @@ use std::sync::atomic::{AtomicU64, Ordering};
 use std::thread::Threads;
 use work_gate::{Gate, Work, forks};
 
-/// Turns of a gate: more than any schedule takes, where another worker is there.
+/// Turns of a gate: more than any schedule takes, if there is another worker.
 pub const MANY: u32 = 1 << 30;
 
-/// Turns of a gate that is to be given up.
+/// Turns of a gate that will be given up.
 pub const FEW: u32 = 1 << 20;
 
 /// Counts how often each piece of work is begun: the piece of number k in the digit k of a
@@ -55,8 +55,8 @@ impl Recording {
     }
 }
 
-/// Holds some pieces of one kind of work until others have come, for so many turns at most. Piece k
-/// has the bit k; those from 64 on pass.
+/// Holds some pieces of one kind of work until others have come, for at most this many turns. Piece
+/// k has the bit k; those from 64 on pass.
 #[derive(Drop)]
 pub struct Holding {
     work: Work,
@@ -92,7 +92,7 @@ impl Holding {
         }
     }
 
-    /// Whether a piece was let go before all that it awaited had come.
+    /// Whether a piece was released before all that it awaited had come.
     pub fn is_given_up(&self) -> bool {
         self.given_up.load(Ordering::SeqCst) == 1
     }
@@ -112,8 +112,8 @@ pub fn parts_of_layers<R: Threads>(rt: &R) -> u64 {
     1 << forks(rt)
 }
 
-/// Counts the pieces of one kind of work that are under way: each is held until so many are, for
-/// 2^30 turns at most, and then until one more is, for 2^18.
+/// Counts the pieces of one kind of work that are under way: each is held until this many are, for
+/// at most 2^30 turns, and then until one more is, for 2^18.
 #[derive(Drop)]
 pub struct Crowd {
     work: Work,
@@ -137,7 +137,7 @@ impl Gate for Crowd {
 }
 
 impl Crowd {
-    /// Nothing of this work is under way yet. So many parts are to be at one time.
+    /// Nothing of this work is under way yet. This many parts are to be at one time.
     pub fn new(work: Work, parts: u64) -> Self {
         Self {
             work,
@@ -187,7 +187,7 @@ impl<'a> Noting<'a> {
         }
     }
 
-    /// How many there were; the largest number, where no work was begun.
+    /// How many there were; the largest number if no work was begun.
     pub fn before(&self) -> u64 {
         self.before.load(Ordering::SeqCst)
     }

@@ -3,7 +3,7 @@
 use romfs_image::sample::{BuildFault, Item, What, build};
 use std::alloc::{AllocError, Allocator, Global};
 
-/// How many bytes the file has: a page, so that each READ of it is answered a whole page.
+/// How many bytes the file has: a page, so each READ of it gets a full page.
 const FILE: usize = 16_384;
 
 /// How many names the directory has.
@@ -15,7 +15,7 @@ const INIT: [u8; 56] = [
     0, 0, 0, 0, 0, 0, 0, 0, 0, 7, 0, 0, 0, 31, 0, 0, 0, 0, 0, 2, 0, 1, 96, 0, 0,
 ];
 
-/// A request of which each stream has many.
+/// A request that each stream has many times.
 #[derive(Clone, Copy, Debug)]
 pub enum Long {
     /// READ of the file, a page from its beginning on.
@@ -64,7 +64,7 @@ pub fn image<A: Allocator + Copy>(alloc: A) -> Result<Vec<u8, A>, BuildFault> {
     build(alloc, b"v", &items)
 }
 
-/// INIT, and so many requests.
+/// INIT, and this many requests.
 pub fn stream(alloc: Global, long: Long, count: u32) -> Result<Vec<u8>, AllocError> {
     let mut stream = INIT.to_vec(alloc)?;
     for unique in 0..count {
@@ -82,7 +82,7 @@ pub fn mebibyte<A: Allocator + Copy>(alloc: A) -> Result<Vec<u8, A>, BuildFault>
     build(alloc, b"v", &items)
 }
 
-/// INIT, and READs of so many bytes each.
+/// INIT, and READs of this many bytes each.
 pub fn reads(alloc: Global, sizes: &[u32]) -> Result<Vec<u8>, AllocError> {
     let mut stream = INIT.to_vec(alloc)?;
     for size in sizes {

@@ -3,12 +3,12 @@
 use crate::refusing::Refusing;
 use std::alloc::Global;
 
-/// The memories of a call of which one request is refused, or none.
+/// The memories of a call, one of whose requests is refused, or none.
 #[derive(Drop)]
 pub struct Memories {
     /// For the test itself.
     pub global: Global,
-    /// For what stands before the call: it refuses nothing.
+    /// For what precedes the call: it refuses nothing.
     pub plain: Refusing<Global>,
     /// For the call.
     pub refusing: Refusing<Global>,
@@ -29,9 +29,8 @@ impl Memories {
 }
 
 /// Makes a call with its first request for memory refused, then with the second, and so on, until
-/// it makes fewer requests than that. The call says whether it came to what it should. Gives how
-/// many requests it makes, or else the number of the first at whose refusal it came to something
-/// else.
+/// it makes fewer requests than that. The call says whether its result was right. Returns how many
+/// requests it makes, or else the number of the first whose refusal gave another result.
 pub fn refuse_in_turn<F: FnMut(&Memories) -> bool>(global: Global, mut call: F) -> Result<u64, u64>
     requires { F.IsAlwaysCallable call }
 {

@@ -1,11 +1,11 @@
 //! An allocator for tests that refuses one request for memory and counts all of them.
 //!
 //! Proved: each block that is handed out is one of the inner allocator's, `new` keeps what it is
-//! given, requests are numbered from 1, and no count wraps. The count lies in a word that threads
-//! share, of which no contract can say what it holds. So that the request with the given number is
-//! refused, and no other, is only tested.
+//! given, requests are numbered from 1, and no count wraps. The count is in a word that threads
+//! share, whose value no contract can give. That only the request with the given number is refused
+//! is therefore tested, not proved.
 //!
-//! It stands on the inner allocator's contract and on std's atomic words. The proofs by hand are
+//! It relies on the inner allocator's contract and on std's atomic words. The proofs by hand are
 //! those of `allocate` and `deallocate`, since they pass on the ownership of memory.
 ghost use Rattle.std.specs.Prelude.{◌≡◌, ◌≤◌, IfSome, IsTrue, IsFalse, ◌↔◌};
 
@@ -15,9 +15,9 @@ use std::sync::atomic::{AtomicU64, Ordering};
 /// An allocator that passes each request for memory on to an inner one, except for one, which it
 /// refuses.
 ///
-/// A block that grows or shrinks is a request for a new block: where it is refused, the old one
-/// stays as it was. A `&Refusing<A>` is an allocator that is copied, and threads share it where
-/// they may share `A`.
+/// A block that grows or shrinks is a request for a new block: if it is refused, the old one is
+/// unchanged. A `&Refusing<A>` is an allocator that is copied, and threads share it if they may
+/// share `A`.
 ///
 /// `memories::refuse_in_turn` makes a call with each of its requests refused in turn.
 #[derive(Drop)]
@@ -91,7 +91,7 @@ impl Tally {
         self.requests.load(Ordering::SeqCst)
     }
 
-    // Counts a request and gives its number. There is none where the count is full.
+    // Counts a request and returns its number; none if the count is full.
     fn number_next(&self) -> Option<u64>
         ensures from_one { IfSome result (λ number. 1 ≤ number) }
     {

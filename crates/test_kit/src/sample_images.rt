@@ -1,4 +1,4 @@
-//! Images that several tests look at, and images told by words.
+//! Images that several tests use, and images given as words.
 
 use crate::bytes::bytes_of;
 use romfs_image::sample::{BuildFault, Item, What, build};
@@ -73,7 +73,7 @@ pub fn alone<A: Allocator + Copy>(
 /// device `null`.
 pub const SAMPLE: &str = "1#big 1*d 2-x 1@l 1$null";
 
-/// So many sample images.
+/// This many sample images.
 pub fn samples<A: Allocator + Copy>(alloc: A, count: usize) -> Option<Vec<Vec<u8, A>, A>> {
     let mut images = Vec::new(alloc);
     for _ in 0..count {
@@ -82,7 +82,7 @@ pub fn samples<A: Allocator + Copy>(alloc: A, count: usize) -> Option<Vec<Vec<u8
     Some(images)
 }
 
-/// So many empty images.
+/// This many empty images.
 pub fn empties(alloc: Global, count: usize) -> Option<Vec<Vec<u8>>> {
     let mut images = Vec::new(alloc);
     for _ in 0..count {
@@ -109,7 +109,7 @@ fn data_of<A: Allocator>(alloc: A, sign: u8) -> Result<Vec<u8, A>, AllocError> {
     }
 }
 
-/// What the sign of a word stands for.
+/// The meaning of a word's sign.
 fn what_of<A: Allocator>(alloc: A, sign: u8) -> Result<What<A>, AllocError> {
     match sign {
         b'-' | b'#' => Ok(What::Regular(data_of(alloc, sign)?)),

@@ -121,7 +121,7 @@ pub fn lookups(alloc: Global) -> Result<Vec<u8>, AllocError> {
     Ok(stream)
 }
 
-/// The script, and a WRITE of 200,000 bytes after it, for which the room for requests has to grow.
+/// The script, and a WRITE of 200,000 bytes after it, for which the room for requests must grow.
 pub fn long_stream(alloc: Global) -> Result<Vec<u8>, AllocError> {
     let mut stream = script(alloc)?;
     stream.extend_from_slice(&200_040u32.to_le_bytes())?;

@@ -2,8 +2,8 @@
 use Rattle.std.specs.Prelude.{◌≡◌, ℕ, List, [], ◌∷◌, ◌++◌, Option, Some, None}
 use Rattle.name_tree.specs.Rows.{Subtree, spread, whole, at_path, IsRising, IsForest}
 
--- what is at a path where one tree lies on another: f of both values where both have one, else that
--- of the one that has
+-- what is at a path if one tree lies on another: f of both values if both have one, else the value
+-- of the one that has it
 abbrev pub laid_at : {T : Type 0} → (T → T → T) → Option T → Option T → Option T
 laid_at f low None = low
 laid_at f None (Some h) = Some h

@@ -10,11 +10,11 @@ use std::alloc::{AllocError, Allocator};
 use std::cmp::Ordering;
 use std::collections::VecDeque;
 
-/// A tree laid on another one. At each path it has the values of both, one laid on the other; where
-/// one alone has a value, that one. The name is that of the upper tree.
+/// A tree laid on another one. At each path it has the values of both, one laid on the other; if
+/// only one has a value, that one. The name is that of the upper tree.
 ///
-/// Directories of both are merged child by child; what one alone has is moved and not looked into.
-/// `AllocError` comes only where memory was refused; both trees are then lost.
+/// Directories of both are merged child by child; what only one has is moved unread. `AllocError`
+/// only if memory was refused; both trees are then lost.
 pub fn cover<T: Lay, A: Allocator + Copy>(
     alloc: A,
     low: Branch<T, A>,
@@ -28,8 +28,8 @@ pub fn cover<T: Lay, A: Allocator + Copy>(
     Ok(Branch::new(name, T::lay(below, above), children))
 }
 
-/// The branches of a directory, laid on those of another one. `AllocError` comes only where memory
-/// was refused; the branches of both are then lost.
+/// The branches of a directory, laid on those of another one. `AllocError` only if memory was
+/// refused; the branches of both are then lost.
 #[cycle(laying)]
 pub fn merge<T: Lay, A: Allocator + Copy>(
     alloc: A,

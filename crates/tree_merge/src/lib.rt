@@ -2,11 +2,11 @@
 //!
 //! [`cover`] lays a tree of paths on another one, and [`merge`] the branches of a directory on
 //! those of another one. Each path then has the values of both, one laid on the other
-//! (`name_tree::Lay`), or that of the one tree that has it (`specs/Laying.antt`). What one alone
-//! has is moved and not looked into, so it takes steps in proportion to what both have. The rest of
-//! the crate moves branches from one list to another, for those who leave some out.
+//! (`name_tree::Lay`), or that of the one tree that has it (`specs/Laying.antt`). What only one has
+//! is moved unread, so the steps are in proportion to what both have. The rest of the crate moves
+//! branches from one list to another, for callers that leave some out.
 //!
-//! It stands on `name_tree`, and is apart from it, so that who reads trees does not wait for it.
+//! It uses `name_tree`, and is apart from it, so readers of trees do not wait for it.
 #![tactic(auto)]
 
 mod laying;

@@ -13,7 +13,7 @@ use std::collections::VecDeque;
 
 /// Moves the first branch of a list to the end of another one.
 ///
-/// `AllocError` comes only where memory was refused; nothing is promised of either list then.
+/// `AllocError` only if memory was refused; both lists are unspecified then.
 #[inline(never)]
 pub fn pass_first<T: Copy + Drop, A: Allocator>(
     from: &mut VecDeque<Branch<T, A>, A>,
@@ -30,7 +30,7 @@ pub fn pass_first<T: Copy + Drop, A: Allocator>(
 /// Moves the first branch of a list to the end of another one, with these children in place of its
 /// own.
 ///
-/// `AllocError` comes only where memory was refused; nothing is promised of either list then.
+/// `AllocError` only if memory was refused; both lists are unspecified then.
 #[inline(never)]
 pub fn pass_with<T: Copy + Drop, A: Allocator>(
     from: &mut VecDeque<Branch<T, A>, A>,
@@ -88,7 +88,7 @@ pub(crate) fn take_first<T: Copy + Drop, A: Allocator>(
 
 /// Adds a branch of its parts to the end of a list.
 ///
-/// `AllocError` comes only where memory was refused; nothing is promised of the list then.
+/// `AllocError` only if memory was refused; the list is unspecified then.
 #[inline(never)]
 fn add_last<T: Copy + Drop, A: Allocator>(
     to: &mut Vec<Branch<T, A>, A>,

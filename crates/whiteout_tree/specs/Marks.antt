@@ -23,7 +23,7 @@ abbrev pub cut_by : (List (List ℕ) → Option Mark) → List (List ℕ) → Bo
 cut_by marks [] = cuts_itself (marks [])
 cut_by marks (n ∷ path) = cuts_below (marks []) || cut_by (λ q. marks (n ∷ q)) path
 
--- the marks of what stands at paths, by what each value removes
+-- the marks of values at paths, by what each value removes
 abbrev pub marked : {T : Type 0} → (T → Mark) → List (List (List ℕ) × T) → List (List ℕ)
     → Option Mark
 marked m rows path = option_map m (at_path rows path)

@@ -1,5 +1,5 @@
--- What a tree says of a run of layers: the entry at each path that the run shows, and which paths
--- the run cuts.
+-- What a tree says about a run of layers: the entry at each path that the run shows, and which
+-- paths the run cuts.
 use Rattle.std.specs.Prelude.{◌≡◌, ℕ, ◌+◌, ◌↔◌, List, ◌∷◌, ◌++◌, map, Bool, ◌&&◌, Option, Some, slice_get, IsTrue, IsSomeAnd}
 use Rattle.romfs_format.specs.declared.head.Head.{Head}
 use Rattle.romfs_format.specs.Heads.{head_of}
@@ -50,8 +50,8 @@ entry_of layer head = record {
 abbrev pub IsReadIn : List ℕ → Entry → Type 0
 IsReadIn a entry = entry ≡ entry_of entry.place.layer (head_of a entry.place.header)
 
--- the entry is that of the header h in layer i of a run whose lowest layer is the first: it has the
--- place of the header where hard links from h end, and says what that says
+-- the entry of the header h in layer i of a run whose lowest layer is the first: it has the place
+-- of the header where hard links from h end, and says what that says
 pub record IsEntryOf (first : ℕ) (layers : List (List ℕ)) (i h : ℕ) (entry : Entry) : Type 0 where
   pub layer : entry.place.layer ≡ first + i
   pub end : (a : List ℕ) × (slice_get layers i ≡ Some a) × IsFinal a h entry.place.header

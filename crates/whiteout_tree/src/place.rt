@@ -1,4 +1,4 @@
-//! What stands at a path: an entry with its place, or a mark.
+//! What a path has: an entry with its place, or a mark.
 
 ghost use Rattle.std.specs.Prelude.{◌≡◌};
 ghost use Rattle.stack_model.specs.Attributes.{is_directory};
@@ -6,7 +6,7 @@ ghost use Rattle.stack_model.specs.Attributes.{is_directory};
 use name_tree::Lay;
 use romfs_format::Kind;
 
-/// Where an entry stands: a layer, counted from 0, the lowest, and the offset of a header in its
+/// The place of an entry: a layer, counted from 0, the lowest, and the offset of a header in its
 /// image, after hard links.
 #[derive(Clone, Copy, PartialEq, Eq, Drop)]
 pub struct Place {
@@ -14,8 +14,8 @@ pub struct Place {
     pub header: u32,
 }
 
-/// What a path shows: where it stands, and what the header there says of its file, so that it is
-/// not read again.
+/// What a path shows: its place, and what the header there says about its file, so it is not read
+/// again.
 #[derive(Clone, Copy, PartialEq, Eq, Drop)]
 pub struct Entry {
     /// The kind of the header; never a hard link.
@@ -23,11 +23,11 @@ pub struct Entry {
     /// Whether the file is executable.
     pub exec: bool,
     pub place: Place,
-    /// spec.info as it stands: the numbers of a device.
+    /// spec.info, unchanged: the numbers of a device.
     pub spec: u32,
     /// The size of its data, in bytes.
     pub size: u32,
-    /// How long the header's own name is; its data stand behind that.
+    /// The length of the header's own name, which its data follow.
     pub name_len: u32,
 }
 

@@ -49,7 +49,7 @@ impl<A: Allocator> Tree<A> {
         &self.entries
     }
 
-    /// The entry at a path; none where the run does not show it. The root's path is empty.
+    /// The entry at a path; none if the run does not show it. The root's path is empty.
     #[tactic(auto, using(name_tree::proofs::Under::under_here))]
     pub fn entry(&self, path: &[&[u8]]) -> Option<Entry>
         ensures { result ≡ entry_at self.now (map (λ name. name.now) path.now) }
@@ -60,8 +60,7 @@ impl<A: Allocator> Tree<A> {
         }
     }
 
-    /// The entries in a directory, in the order of their names; none where the path is no
-    /// directory.
+    /// The entries in a directory, in the order of their names; none if the path is no directory.
     pub fn children(&self, path: &[&[u8]]) -> &[Child<A>]
         ensures { AreChildren self.now (map (λ name. name.now) path.now) result.now }
     {
@@ -99,7 +98,7 @@ fn is_plain(path: &[&[u8]]) -> bool
     true
 }
 
-// Whether what stands along a path cuts it.
+// Whether anything along a path cuts it.
 fn cut_by<T: Cuts, A: Allocator>(tree: &Branch<T, A>, path: &[&[u8]]) -> bool
     ensures { result
         ≡ cut_by (marked T.removed (whole tree.now)) (map (λ name. name.now) path.now) }

@@ -6,9 +6,9 @@ ghost use Rattle.work_gate.specs.declared.limits.TheConstants.{MAX_FORKS};
 use crate::limits::MAX_FORKS;
 use std::thread::{Threads, available_parallelism};
 
-/// How often a list is cut into halves that are worked on at the same time: as often as gives each
-/// processor a part, once at least, and four times at most. To start a thread takes about as long
-/// as a small layer, so more parts than processors only cost time and memory.
+/// How often a list is cut into halves that are worked on at the same time: often enough to give
+/// each processor a part, at least once, and at most four times. To start a thread takes about as
+/// long as a small layer, so more parts than processors only cost time and memory.
 pub fn forks<R: Threads>(rt: &R) -> u32
     ensures { (1 ≤ result) × (result ≤ MAX_FORKS) }
 {
@@ -18,7 +18,7 @@ pub fn forks<R: Threads>(rt: &R) -> u32
     }
 }
 
-/// The same for a list of so many items. Of one or two nobody asks how many processors there are.
+/// The same for a list of this many items. Of one or two nobody asks how many processors there are.
 pub fn forks_of<R: Threads>(rt: &R, items: usize) -> u32
     ensures range { (1 ≤ result) × (result ≤ MAX_FORKS) }
     ensures two { items ≤ 2 → result ≡ 1 }
@@ -26,8 +26,8 @@ pub fn forks_of<R: Threads>(rt: &R, items: usize) -> u32
     if items <= 2 { 1 } else { forks(rt) }
 }
 
-// How often a list is cut for so many processors: so that each has a part, if that is not too
-// often, and once less would not be enough.
+// How often a list is cut for this many processors: each gets a part, unless that is too often, and
+// once less would not be enough.
 fn forks_for(processors: usize) -> u32
     ensures range { (1 ≤ result) × (result ≤ MAX_FORKS) }
     ensures enough { result < MAX_FORKS → processors ≤ 2 ^ result }

@@ -26,7 +26,7 @@ fn client<R: Net>(rt: &R, global: Global, to: &UnixListener, given: usize) -> Op
     ended.is_ok().then_some(client)
 }
 
-/// How many bytes the client reads to the end, where they are the first of the script's replies.
+/// How many bytes the client reads to the end, if they begin the script's replies.
 fn read_of(global: Global, mut client: UnixStream) -> Option<usize> {
     let replies = script_replies(global).ok()?;
     let mut read = Vec::new(global);
@@ -34,8 +34,8 @@ fn read_of(global: Global, mut client: UnixStream) -> Option<usize> {
     (ended.is_ok() && replies.starts_with(&read)).then_some(read.len())
 }
 
-/// Whether so many sessions over the sample image come to this status and these lines. The table
-/// stands in memory of `plain`.
+/// Whether this many sessions over the sample image give this status and these lines. The table is
+/// in memory of `plain`.
 fn are_served<R: Threads + Sync, A: Allocator + Copy + Send + Sync>(
     rt: &R,
     global: Global,
@@ -62,7 +62,7 @@ fn listener<R: Files + Net>(rt: &R) -> io::Result<UnixListener> {
 fn no_session_follows_where_no_client_is_accepted(rt: HostRuntime) -> Result<(), Fail> {
     let global = rt.alloc();
     let listener = listener(&rt)?;
-    // Where no client waits, such a listener fails.
+    // If no client waits, such a listener fails.
     listener.set_nonblocking(true)?;
     let only = client(&rt, global, &listener, 120).ok_or("a client")?;
     let lines = b"session 1: request at 100: cut off\nsocket: cannot accept\n";
@@ -72,8 +72,8 @@ fn no_session_follows_where_no_client_is_accepted(rt: HostRuntime) -> Result<(),
     Ok(())
 }
 
-/// What two sessions tell where the request for memory with this number is refused, of which each
-/// makes two: for its replies and the buffer.
+/// What two sessions report if the request for memory with this number is refused; each makes two:
+/// for its replies and the buffer.
 fn told_at(refuse_at: u64) -> (u8, &'static [u8]) {
     match refuse_at {
         1..=2 => (5, b"session 1: out of memory\n"),
@@ -82,8 +82,8 @@ fn told_at(refuse_at: u64) -> (u8, &'static [u8]) {
     }
 }
 
-/// Whether two sessions come to what they should, of which one request for memory is refused: its
-/// session's line and status, and the other is served.
+/// Whether two sessions end as they should if one request for memory is refused: with its session's
+/// line and status, the other served.
 fn is_refused<R: Files + Net + Threads + Sync>(rt: &R, memories: &Memories) -> Option<bool> {
     let (global, refuse_at) = (memories.global, memories.refuse_at);
     let listener = listener(rt).ok()?;

@@ -28,7 +28,7 @@ impl Read for Broken<'_> {
     }
 }
 
-/// A writer that has room for so many bytes, and may fail to flush them. It fails once, and then
+/// A writer that has room for this many bytes, and may fail to flush them. It fails once, and then
 /// takes all.
 #[derive(Drop)]
 struct Full {

@@ -1,4 +1,4 @@
-//! Each request for memory of the program is refused in turn, and told.
+//! Each request for memory of the program is refused in turn, and reported.
 
 use super::program::{file_path, image_file, status_of};
 use std::alloc::Global;
@@ -10,9 +10,8 @@ use std::thread::Threads;
 use test_kit::memories::{Memories, refuse_in_turn};
 use test_kit::messages::{REPLIES, REQUESTS};
 
-/// Whether the program over two requests tells that memory was refused, with some of the first
-/// bytes of its output written; or else wrote all of it. Where these are not given, it writes
-/// nothing when memory was refused.
+/// Whether the program over two requests reports that memory was refused, after a beginning of its
+/// output; or else wrote all of it. If none is given, it writes nothing when memory was refused.
 fn is_told<R: Files + Net + Threads + Sync>(
     rt: &R,
     memories: &Memories,
@@ -34,7 +33,7 @@ where
     }
 }
 
-/// How many requests for memory a run makes, each of which is refused once and told.
+/// How many requests for memory a run makes, each of which is refused once and reported.
 fn told_refusals<R: Files + Net + Threads + Sync>(
     rt: &R,
     global: Global,
@@ -49,7 +48,7 @@ where
 }
 
 /// How many requests for memory the check and the list of an image over itself make, each of which
-/// is refused once and told.
+/// is refused once and reported.
 fn refusals_of_lines<R: Files + Net + Threads + Sync>(
     rt: &R,
     global: Global,
@@ -89,7 +88,7 @@ fn is_in_file(rt: &HostRuntime, path: &str, bytes: &[u8]) -> bool {
     fs::read(rt, path).is_ok_and(|read| read.as_slice() == bytes)
 }
 
-/// Whether the refused requests for memory of a stream that is served over an image are told.
+/// Whether the refused requests for memory of a stream that is served over an image are reported.
 fn is_told_of_a_stream<R: Files + Net + Threads + Sync>(
     rt: &R,
     global: Global,

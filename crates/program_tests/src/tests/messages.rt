@@ -1,4 +1,4 @@
-//! A source over a reader that gives one whole message a read.
+//! A source over a reader that gives one complete message a read.
 
 use devices::Source;
 use fuse_device::MessageTap;
@@ -11,7 +11,7 @@ use test_kit::refusing::Refusing;
 const LEAST_ROOM: usize = 131_152;
 
 /// A reader that gives messages of these sizes, one a read, each byte its place modulo 251. Before
-/// each of them so many reads are interrupted by an error number. Then it fails with an error
+/// each of them this many reads are interrupted by an error number. Then it fails with an error
 /// number, or ends.
 #[derive(Drop)]
 struct Messages<'a> {
@@ -22,7 +22,7 @@ struct Messages<'a> {
     last: Option<i32>,
     interrupted: u32,
     reads: u64,
-    /// The least room that a read had.
+    /// The least room of any read.
     least: usize,
 }
 
@@ -104,15 +104,15 @@ fn pull_all<S: Source>(alloc: Global, source: &mut S, room: usize) -> Result<Pul
     Err(AllocError)
 }
 
-/// What was seen of pulls until the end or a failure.
+/// What pulls gave until the end or a failure.
 #[derive(Clone, Copy, PartialEq, Eq)]
 struct Seen {
     /// Whether they gave the messages that they should.
     whole: bool,
-    /// Whether they came to the end.
+    /// Whether they reached the end.
     ended: bool,
     pulls: u32,
-    /// Whether the mount was taken away, before the first pull and after the last.
+    /// Whether the device was gone, before the first pull and after the last.
     gone: (bool, bool),
 }
 
@@ -236,7 +236,7 @@ fn mounts_that_are_taken_away(rt: HostRuntime) -> Result<(), Fail> {
     Ok(())
 }
 
-/// How many requests for memory a room makes, where pulls to the end make no more.
+/// How many requests for memory a room makes, if pulls to the end make no more.
 fn requests_of_room(global: Global) -> Option<u64> {
     let counting = Refusing::new(global, 0);
     let mut reader = messages_of(&[40]);
@@ -246,7 +246,7 @@ fn requests_of_room(global: Global) -> Option<u64> {
     (ended && counting.requests() == requests).then_some(requests)
 }
 
-/// Whether a room is refused, and nothing is read, where the request with this number is.
+/// Whether a room is refused, and nothing is read, if the request with this number is.
 fn is_refused(global: Global, refuse_at: u64) -> bool {
     let refusing = Refusing::new(global, refuse_at);
     let mut reader = messages_of(&[40]);

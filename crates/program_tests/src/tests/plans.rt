@@ -14,8 +14,8 @@ use std::thread::{Threads, join};
 use test_kit::long::{Long, image, stream};
 use test_kit::refusing::Refusing;
 
-/// How many requests for memory the program makes to answer a stream over the image at a path, by
-/// so many workers, in batches of so many; none where it fails.
+/// How many requests for memory the program makes to answer a stream over the image at a path, with
+/// this many workers and batches of this size; none if it fails.
 fn requests_by<R: Files + Net + Threads + Sync>(
     rt: &R,
     global: Global,
@@ -94,7 +94,7 @@ where
     )
 }
 
-/// The same number of requests for memory where a client of a socket asks for the replies.
+/// The same number of requests for memory if a client of a socket asks for the replies.
 fn requests_at<R: Files + Net<Listener = TcpListener, Stream = TcpStream> + Threads + Sync>(
     rt: &R,
     global: Global,

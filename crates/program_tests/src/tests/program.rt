@@ -11,8 +11,8 @@ use std::{env, fs, process};
 use strata::command;
 use test_kit::sample_images::empty;
 
-/// The status of the program over these streams, in memory of `alloc`; none where standard error
-/// has anything but this line, or anything at all where the status is 0.
+/// The status of the program over these streams, in memory of `alloc`; none if standard error has
+/// anything but this line, or anything at all when the status is 0.
 pub fn status_of<
     R: Files + Net + Threads + Sync,
     A: Allocator + Copy + Send + Sync,

@@ -1,4 +1,4 @@
-//! A sink over a writer that takes one whole reply a write.
+//! A sink over a writer that takes one complete reply a write.
 
 use devices::{Sink, hand_on};
 use fuse_device::ReplySpout;
@@ -6,8 +6,8 @@ use std::alloc::{AllocError, Global};
 use std::io::{self, Error, Write};
 use std::test::Fail;
 
-/// A writer that takes so many bytes of a write at most, and so many writes, and then fails with an
-/// error number. It keeps the sizes of its writes.
+/// A writer that takes this many bytes of a write at most, and this many writes, and then fails
+/// with an error number. It keeps the sizes of its writes.
 #[derive(Drop)]
 struct Replies {
     taken: Vec<u8>,
@@ -58,21 +58,21 @@ fn bytes_of(alloc: Global, lengths: &[u32]) -> Result<Vec<u8>, AllocError> {
     Ok(bytes)
 }
 
-/// What was seen of pushing bytes to a writer.
+/// What pushing bytes to a writer gave.
 #[derive(Clone, Copy, PartialEq, Eq)]
 struct Seen {
-    /// How many bytes were pushed; none where it failed.
+    /// How many bytes were pushed; none if it failed.
     pushed: Option<usize>,
-    /// How many bytes the writer has, where they are the first of those that were pushed.
+    /// How many bytes the writer has, if they begin those that were pushed.
     taken: Option<usize>,
     /// Whether its writes had the sizes that they should.
     sized: bool,
     flushes: u64,
-    /// Whether the mount was taken away, before the first push and after the last.
+    /// Whether the device was gone, before the first push and after the last.
     gone: (bool, bool),
 }
 
-/// Pushes bytes once, or hands them on whole, to a writer whose writes should have these sizes.
+/// Pushes bytes once, or all of them, to a writer whose writes should have these sizes.
 fn pushes_of(mut writer: Replies, bytes: &[u8], whole: bool, sizes: &[usize]) -> Seen {
     let mut spout = ReplySpout::new(&mut writer);
     let at_first = spout.is_gone();

@@ -11,8 +11,8 @@ use test_kit::script::{script, script_replies};
 /// written.
 type Ended = (Result<(u64, u128), Stop>, usize);
 
-/// How many messages and bytes of replies a stream over the sample image has, in so many pulls, or
-/// why it stops.
+/// How many messages and bytes of replies a stream over the sample image has, in this many pulls,
+/// or why it stops.
 fn served<R: Threads + Sync>(
     rt: &R,
     memories: &Memories,
@@ -36,8 +36,8 @@ fn served<R: Threads + Sync>(
     }
 }
 
-/// How the script over the sample image ends, in so many pulls, where what is written is the first
-/// of the replies.
+/// How the script over the sample image ends in this many pulls, if what is written begins the
+/// replies.
 fn end_of<R: Threads + Sync>(rt: &R, memories: &Memories, turns: u32) -> Option<Ended> {
     let stream = script(memories.global).ok()?;
     let mut output = Vec::new(memories.global);

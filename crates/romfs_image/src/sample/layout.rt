@@ -1,4 +1,4 @@
-//! Where the headers of an image to be built stand, and which headers they name.
+//! The places of the headers of an image to be built, and the headers that they name.
 
 ghost use Rattle.std.specs.Prelude.{◌≡◌, ◌+◌, ◌≤◌, ◌^◌, length, IfOk, IfErr};
 ghost use Rattle.romfs_format.specs.Fields.{data_at, padded};
@@ -8,7 +8,7 @@ use romfs_format::limits::HEAD_SIZE;
 use romfs_format::read::padded;
 use std::alloc::Allocator;
 
-/// Whether items stand in walk order, each below a directory, with names that end, and whether hard
+/// Whether items are in walk order, each below a directory, with names that end, and whether hard
 /// links lead to items.
 pub(super) fn is_listing<A: Allocator>(volume: &[u8], items: &[Item<A>]) -> bool {
     is_walk(items)
@@ -28,8 +28,8 @@ pub(super) fn data_of<A: Allocator>(item: &Item<A>) -> &[u8] {
     }
 }
 
-/// Where the first item from index `from` on stands that has this depth, unless one that is less
-/// deep comes before it; 0 where none has.
+/// The place of the first item from index `from` on with this depth, unless a less deep one comes
+/// before it; 0 if none has it.
 pub(super) fn place_at<A: Allocator>(
     layout: &Layout<A>,
     items: &[Item<A>],
@@ -58,11 +58,11 @@ fn is_walk<A: Allocator>(items: &[Item<A>]) -> bool {
     true
 }
 
-/// The places of a header, of the directory that it stands in and, of a directory, of its dots.
+/// The places of a header, of its directory and, for a directory, of its dots.
 #[derive(Clone, Copy)]
 pub(super) struct Placement {
     pub at: u32,
-    /// The header of the directory that it stands in.
+    /// The header of its directory.
     pub above: u32,
     /// A directory's `.`.
     pub dot: u32,
@@ -70,14 +70,14 @@ pub(super) struct Placement {
     pub dot_dot: u32,
 }
 
-/// Where the headers of an image stand.
+/// The places of the headers of an image.
 #[derive(Drop)]
 pub(super) struct Layout<A: Allocator> {
     /// The root, which is its own `.`.
     pub root: Placement,
     /// The items, in their order.
     pub placements: Vec<Placement, A>,
-    /// Where the image ends.
+    /// The end of the image.
     pub full: u32,
 }
 
@@ -135,7 +135,7 @@ impl<A: Allocator + Copy> Layout<A> {
 }
 
 impl<A: Allocator> Layout<A> {
-    /// Where an item stands.
+    /// The place of an item.
     pub fn place_of(&self, index: usize) -> u32 {
         match self.placements.get(index) {
             Some(placement) => placement.at,
@@ -152,8 +152,8 @@ fn leads_to<A: Allocator>(item: &Item<A>, count: usize) -> bool {
     }
 }
 
-/// Where the next header stands after the one at `at` with this name and data. A volume header is
-/// as long as a header with its name.
+/// The place of the header after the one at `at` with this name and data. A volume header is as
+/// long as a header with its name.
 fn after(at: u32, name: &[u8], body: &[u8]) -> Result<u32, BuildFault>
     ensures ok { IfOk result (λ next. next ≡ data_at at name.now + padded (length body.now)) }
     ensures err { IfErr result (λ fault. (fault ≡ BuildFault.Size)

@@ -13,7 +13,7 @@ use test_kit::script::{script, script_replies};
 /// The plans by which each is tried: workers, and the messages of a batch.
 const PLANS: [(u32, u32); 3] = [(1, 1), (2, 3), (5, 1)];
 
-/// Where the messages of the script end, and how many bytes the replies up to there have.
+/// The ends of the script's messages, and how many bytes the replies up to there have.
 const ENDS: [(usize, usize); 12] = [
     (56, 80),
     (100, 224),
@@ -29,7 +29,7 @@ const ENDS: [(usize, usize); 12] = [
     (652, 1531),
 ];
 
-/// How many bytes the replies to the whole messages have that so many first bytes hold.
+/// How many bytes the replies have to the complete messages in this many first bytes.
 fn replies_to(given: usize) -> usize {
     let mut replies = 0;
     for (end, before) in ENDS {
@@ -40,8 +40,8 @@ fn replies_to(given: usize) -> usize {
     replies
 }
 
-/// How a run ends; how many bytes of replies are put; how many writes and flushes are made, where
-/// that is asked.
+/// How a run ends; how many bytes of replies are put; how many writes and flushes are made, if
+/// requested.
 type Wanted = (End, usize, Option<u64>);
 
 fn is_wanted(seen: Option<Seen>, wanted: Wanted) -> bool {
@@ -140,8 +140,8 @@ fn a_sink_fails_at_each_byte(rt: HostRuntime) -> Result<(), Fail> {
     Ok(())
 }
 
-/// How many bytes of replies are put before each flush, where each message comes by itself; and
-/// that no flush follows.
+/// How many bytes of replies are put before each flush, if each message comes by itself; and that
+/// no flush follows.
 const FLUSHES: [(u64, usize); 11] = [
     (0, 80),
     (1, 224),
@@ -156,7 +156,7 @@ const FLUSHES: [(u64, usize); 11] = [
     (10, 1531),
 ];
 
-/// How the script ends and how many writes and flushes are made, where so many flushes succeed.
+/// How the script ends and how many writes and flushes are made, if this many flushes succeed.
 fn end_behind(flushes: u64) -> (End, u64) {
     if flushes == 10 {
         (Ok((12, 1531)), 20)

@@ -14,7 +14,7 @@ use test_kit::long::{Long, stream};
 use test_kit::sample_images::{alone, empties, sample};
 use test_kit::script::script;
 
-/// So many empty images and, where that is asked, the sample image on them.
+/// This many empty images and, if requested, the sample image on them.
 fn images_of(alloc: Global, count: usize, with_sample: bool) -> Option<Vec<Vec<u8>>> {
     let mut images = empties(alloc, count)?;
     if with_sample {
@@ -74,7 +74,7 @@ fn begun<R: Threads + Sync>(
     (ran.end().is_ok() && checks == 0 && trees == 0).then_some(batches)
 }
 
-/// The first of these plans by which other batches are begun than are said beside it.
+/// The first of these plans that begins other batches than those given beside it.
 fn wrong_plan<R: Threads + Sync>(
     rt: &R,
     global: Global,

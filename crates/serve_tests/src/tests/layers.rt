@@ -68,7 +68,7 @@ fn fault(layer: u16, rule: Rule, place: u32) -> Stop {
 
 const SERVED: Outcome = (Ok((12, 1531)), 1531, 2, 2);
 
-/// What is seen where these layers are served by a profile.
+/// What serving these layers by a profile gives.
 fn served<R: Threads + Sync>(
     rt: &R,
     global: Global,

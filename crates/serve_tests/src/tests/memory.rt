@@ -14,10 +14,10 @@ use test_kit::sample_images::samples;
 #[derive(Clone, Copy)]
 enum Call {
     Prepare,
-    /// Of two images, of which this one is broken.
+    /// Two images, of which this one is broken.
     PrepareBroken(u16),
     Run,
-    /// With so many requests for memory to prepare the image, by a plan.
+    /// With this many requests for memory to prepare the image, by a plan.
     Serve(u64, (u32, u32)),
 }
 
@@ -54,7 +54,7 @@ fn images_with<'a>(plain: &'a Refusing<Global>, broken: u16) -> Option<Images<'a
     Some(images)
 }
 
-/// Which image is told to be broken, or else that memory was refused.
+/// Which image is reported as broken, or else that memory was refused.
 fn told_of<R: Threads + Sync>(
     rt: &R,
     memories: &Memories,
@@ -68,7 +68,7 @@ fn told_of<R: Threads + Sync>(
     }
 }
 
-/// The stream, for which the room for requests has to grow.
+/// A stream for which the room for requests must grow.
 const LONG: Run = Run {
     stream: Stream::Long,
     ..WHOLE
@@ -97,8 +97,8 @@ fn requests_of_preparing<R: Threads + Sync>(rt: &R, global: Global) -> Option<u6
     nodes.is_ok().then_some(memories.refusing.requests())
 }
 
-/// Whether a run tells that memory was refused, with some of the first replies put, and calls no
-/// device after that; or else went through.
+/// Whether a run reports that memory was refused, after some of the first replies, and calls no
+/// device after that; or else completed.
 fn is_run(seen: &Option<Seen>, refused: bool) -> bool {
     let end = if refused {
         Err(Stop::Memory)
@@ -113,7 +113,7 @@ fn is_untouched(seen: &Option<Seen>, refuse_at: u64, preparing: u64) -> bool {
     preparing < refuse_at || seen.is_some_and(|seen| seen.reads == 0 && seen.writes == 0)
 }
 
-/// Whether a call tells that memory was refused, or else comes to what it should.
+/// Whether a call reports that memory was refused, or else gives the right result.
 fn is_told<R: Threads + Sync>(rt: &R, memories: &Memories, call: Call) -> bool {
     let refusing = &memories.refusing;
     match call {
@@ -197,7 +197,7 @@ fn no_turns_take_no_memory(rt: HostRuntime) -> Result<(), Fail> {
     Ok(())
 }
 
-/// How many requests it takes to refuse so many images, before they are looked at.
+/// How many requests it takes to refuse this many images, before they are looked at.
 fn requests_of_refusing<R: Threads + Sync>(rt: &R, global: Global, count: u64) -> Option<u64> {
     let memory = Refusing::new(global, 0);
     let mut images = Vec::new(&memory);

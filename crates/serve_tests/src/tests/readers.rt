@@ -134,12 +134,11 @@ fn bit_of(reply: &[u8]) -> u64 {
     }
 }
 
-/// What readers came to: the end that is told; how many streams came to their end, and how many
-/// messages they had; and the bits of the messages that are answered.
+/// The results of readers: the reported end; how many streams ended, and how many messages they
+/// had; and the bits of the answered messages.
 type Seen = (End, (usize, u64), u64);
 
-/// How many streams came to their end, with the one before the session, and how many messages they
-/// had.
+/// How many streams ended, with the one before the session, and how many messages they had.
 fn counted<A: Allocator>(
     before: &Option<Done<A>>,
     seats: &[Seat<&Device, &Device, A>],
@@ -167,7 +166,7 @@ fn empty_table<R: Threads + Sync, A: Allocator + Copy + Send + Sync>(
     table_of(rt, alloc, alone(alloc, image(alloc, b"v", "").ok()?).ok()?)
 }
 
-/// What so many readers of a device, at least one, come to over a table; none where memory is
+/// The results of this many readers of a device, at least one, over a table; none if memory is
 /// refused for their seats.
 fn served<R: Threads + Sync, A: Allocator + Copy + Send + Sync, G: Gate + Sync>(
     rt: &R,
@@ -270,8 +269,8 @@ fn two_readers_are_in_the_middle_of_a_message(rt: HostRuntime) {
     assert!(rt; seen.is_some() && gate.given_up.load(Ordering::SeqCst) == 0);
 }
 
-/// Whether readers one of which is refused memory tell so, or answer all messages. None serves
-/// where it is refused for a seat.
+/// Whether readers, one of which is refused memory, report that or answer all messages. None serves
+/// if it is refused for a seat.
 fn is_refused<R: Threads + Sync>(rt: &R, memories: &Memories) -> bool {
     let seen = seen_of(rt, memories, 3, NEVER, &FreePass);
     match (memories.refusing.refused(), seen) {
@@ -287,7 +286,7 @@ fn refused_memory_ends_one_reader(rt: HostRuntime) {
     assert!(rt; matches!(requests, Ok(12..)));
 }
 
-/// Whether three readers of a device that fails so come to this end, with so many messages
+/// Whether three readers of a device that fails so come to this end, with this many messages
 /// answered.
 fn ends_so<R: Threads + Sync>(
     rt: &R,
@@ -330,7 +329,7 @@ fn what_fails_ends_one_reader(rt: HostRuntime) {
     }
 }
 
-/// Where INIT cannot be read or answered no other reader begins, and nothing is answered.
+/// If INIT cannot be read or answered, no other reader begins, and nothing is answered.
 #[test]
 fn no_other_reader_begins_before_init(rt: HostRuntime) {
     let memories = Memories::new(rt.alloc(), 0);

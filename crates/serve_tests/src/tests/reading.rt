@@ -1,5 +1,5 @@
-//! Data that stay in a file, which gives little at a time and fails from a place on: a READ is told
-//! its bytes or EIO, and the run goes on.
+//! Data in a file that gives little at a time and fails from a place on: a READ gets its bytes or
+//! EIO, and the run continues.
 
 use image_bytes::{Contents, Unread};
 use serve_core::Served;
@@ -68,7 +68,7 @@ fn is_told<R: Threads + Sync>(
     Some(ran.end().is_ok() && ran.put == wanted)
 }
 
-/// The replies to the script, or those of which that to the READ is EIO's.
+/// The replies to the script, or those in which the READ gets EIO.
 fn wanted(global: Global, is_read: bool) -> Option<Vec<u8>> {
     let replies = script_replies(global).ok()?;
     if is_read {
@@ -80,8 +80,8 @@ fn wanted(global: Global, is_read: bool) -> Option<Vec<u8>> {
     Some(other)
 }
 
-/// The first place at which a file fails and the script is not replied as it is to be. The data of
-/// the file that is asked for begin at 128, and are read from 4,096 to their end at 5,000.
+/// The first place at which a file fails and the script gets wrong replies. The requested data
+/// begin at 128, and are read from 4,096 to their end at 5,000.
 fn wrong_place<R: Threads + Sync>(
     rt: &R,
     global: Global,
@@ -97,7 +97,7 @@ fn wrong_place<R: Threads + Sync>(
     None
 }
 
-/// The same over the sample image, which has these bytes; none where there is no table of it.
+/// The same over the sample image, which has these bytes; none if there is no table of it.
 fn wrong_over<R: Threads + Sync>(rt: &R, global: Global, bytes: &[u8]) -> Option<Option<u32>> {
     let table = sample_table(rt, global)?;
     Some(wrong_place(rt, global, &table, bytes))

@@ -13,8 +13,8 @@ use test_kit::long::{Long, stream};
 use test_kit::memories::{Memories, refuse_in_turn};
 use test_kit::refusing::Refusing;
 
-/// Whether a run of a stream over a table tells that memory was refused, with some of the first
-/// replies put, and no device called after it; or else gives them all.
+/// Whether a run of a stream over a table reports that memory was refused, after some of the first
+/// replies, and calls no device after it; or else gives all replies.
 fn is_told_over<'a, R: Threads + Sync>(
     rt: &R,
     memories: &'a Memories,

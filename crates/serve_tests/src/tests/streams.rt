@@ -8,7 +8,7 @@ use std::test::Fail;
 use std::thread::Threads;
 use test_kit::sample_images::samples;
 
-/// Whether a run of the script comes to all of its replies, in so many reads.
+/// Whether a run of the script comes to all of its replies, in this many reads.
 fn gives_the_replies<R: Threads + Sync>(rt: &R, global: Global, row: Run, reads: u64) -> bool {
     let seen = run_of(rt, global, global, global, row, None);
     seen.is_some_and(|seen| {
@@ -31,7 +31,7 @@ fn every_way_gives_the_same_bytes(rt: HostRuntime) {
     }
 }
 
-/// No reply to the script differs where it is served lastingly.
+/// No reply to the script differs if it is served lastingly.
 #[test]
 fn the_script_is_served_lastingly(rt: HostRuntime) -> Result<(), Fail> {
     let (global, profile) = (rt.alloc(), Profile::Usual);
@@ -41,7 +41,7 @@ fn the_script_is_served_lastingly(rt: HostRuntime) -> Result<(), Fail> {
     Ok(())
 }
 
-/// A stream; how many of its first bytes are given, in pieces of so many; whether the read after
+/// A stream; how many of its first bytes are given, in pieces of this many; whether the read after
 /// them fails; the turns.
 type Source = (Stream, usize, usize, bool, u32);
 
@@ -80,8 +80,8 @@ const SOURCES: [(Source, Outcome); 15] = [
     ((SCRIPT, 652, 999, false, 2), (Ok((12, 1531)), 1531, 2, 2)),
 ];
 
-/// The script in pieces of so many bytes; how many bytes are taken in all and at once; whether the
-/// write after them fails, or takes none; how many flushes succeed before one fails.
+/// The script in pieces of this many bytes; how many bytes are taken in all and at once; whether
+/// the write after them fails, or takes none; how many flushes succeed before one fails.
 type Sink = (usize, usize, usize, bool, u64);
 
 const ALL: usize = usize::MAX;

@@ -15,8 +15,8 @@ use test_kit::long::{Long, stream};
 /// one thread, and one round by workers.
 const COUNT: u32 = 270;
 
-/// Holds the first batch of the second round until its second batch has come, for 2^30 turns at
-/// most. It counts the rounds, and the second batches of all of them.
+/// Holds the first batch of the second round until its second batch has come, for at most 2^30
+/// turns. It counts the rounds, and the second batches of all of them.
 #[derive(Drop)]
 struct Holding {
     rounds: AtomicU64,
@@ -56,19 +56,19 @@ impl Holding {
     }
 }
 
-/// Whether all replies to 270 requests stand.
+/// Whether all replies to 270 requests are there.
 fn is_whole(ran: &Finished<Global>, long: Long) -> bool {
     let all = long.reply().saturating_mul(270).saturating_add(80);
     ran.end() == Ok((271, u128::from(all))) && ran.put.len() as u64 == all
 }
 
-/// Whether two runs came to the same.
+/// Whether two runs gave the same.
 fn is_same(one: &Finished<Global>, other: &Finished<Global>) -> bool {
     one.end() == other.end() && one.put == other.put && one.balances() == other.balances()
 }
 
-/// Whether a stream of 270 requests by one worker and by this plan comes to the same, with so many
-/// writes and flushes by either.
+/// Whether a stream of 270 requests by one worker and by this plan comes to the same, with this
+/// many writes and flushes by either.
 fn is_right<R: Threads + Sync, G: Gate + Sync>(
     rt: &R,
     global: Global,

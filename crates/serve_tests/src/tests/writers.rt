@@ -67,9 +67,9 @@ fn put_one<A: Allocator>(writer: u8, out: &mut Replies<A>) -> Result<(), AllocEr
     }
 }
 
-/// How many bytes stand where a writer is refused its request behind some bytes and is then called
-/// again, and how many requests there were; none where the refusal is not told, or changes what
-/// stood.
+/// How many bytes there are if a writer is refused its request after some bytes and is then called
+/// again, and how many requests there were; none if the refusal is not reported, or changes earlier
+/// bytes.
 fn stands<'a>(memory: &'a Refusing<Global>, writer: u8) -> Option<(usize, u64)> {
     let mut out = Replies::new(memory);
     out.append(b"kept").ok()?;

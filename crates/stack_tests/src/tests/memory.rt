@@ -1,4 +1,4 @@
-//! Each request for memory of a call is refused in turn, in whichever thread.
+//! Each request for memory of a call is refused in turn, in any thread.
 
 use super::stacks::wrong_of;
 use super::tables::table_of;
@@ -68,7 +68,7 @@ fn nodes_of<R: Threads + Sync, A: Allocator + Copy + Send + Sync>(
     Ok(nodes)
 }
 
-/// Whether a call comes to what it should.
+/// Whether a call gives the right result.
 fn is_right<R: Threads + Sync, A: Allocator + Copy + Send + Sync>(
     rt: &R,
     alloc: A,

@@ -33,7 +33,7 @@ fn files<A: Allocator>(alloc: Global, image: &Image<A>) -> Result<Vec<(&[u8], &[
     Ok(files)
 }
 
-/// Whether the image has its three files, in the order in which they stand.
+/// Whether the image has its three files, in their order.
 fn has_three_files<A: Allocator>(alloc: Global, image: &Image<A>) -> Result<bool, AllocError> {
     let wanted = [
         (
@@ -54,7 +54,7 @@ fn three_files<'a>(
     bytes_of(global, &THREE_FILES)?.to_vec(memory)
 }
 
-/// Whether an image tells its three files and its root, without memory.
+/// Whether an image gives its three files and its root, without memory.
 fn tells_files(
     alloc: Global,
     memory: &Refusing<Global>,
@@ -78,7 +78,7 @@ fn reads_three_files(rt: HostRuntime) -> Result<(), Fail> {
     Ok(())
 }
 
-/// The members of a directory, each with where its hard links end.
+/// The members of a directory, each with the end of its hard links.
 fn list<A: Allocator>(
     alloc: Global,
     image: &Image<A>,
@@ -123,7 +123,8 @@ fn reads_members_and_targets(rt: HostRuntime) -> Result<(), Fail> {
 #[test]
 fn reads_a_root_without_a_name(rt: HostRuntime) -> Result<(), Fail> {
     let mut bytes = empty(rt.alloc())?;
-    // The full size is 48, the root's first header none, and its name begins where the image ends.
+    // The full size is 48, the root's first header none, and its name begins at the end of the
+    // image.
     assert!(rt; bytes.len() == 96);
     bytes[11] = 48;
     bytes[0x27] = 0;

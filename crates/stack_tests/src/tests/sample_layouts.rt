@@ -26,7 +26,7 @@ const SAMPLE_TAIL: [u32; 56] = [
     0x00000005, 0x00010003, 0x00000000, 0x9189938c, 0x6e756c6c, 0x00000000, 0x00000000, 0x00000000,
 ];
 
-/// The image with hard links, a device, and a directory in a directory: its headers stand at 0x20,
+/// The image with hard links, a device, and a directory in a directory: its headers are at 0x20,
 /// `.`; 0x40, `..`; 0x60, `a`; 0x80, `b`; 0xa0, `d`; 0xc0 and 0xe0, its own two; 0x100, `e`; 0x120,
 /// `f`; 0x140 and 0x160, its own two; 0x180, `g`; and 0x1a0, `h`.
 const MIXED: [u32; 112] = [
@@ -73,7 +73,7 @@ fn lays_out_three_images(rt: HostRuntime) {
     assert!(rt; is_laid_out(mixed(alloc), bytes_of(alloc, &MIXED)));
 }
 
-/// Names of a volume, each with the words of a listing.
+/// Names of a volume, each with the items of a listing.
 static BAD: [(&str, &str); 9] = [
     ("v\0", "1/d 20/ 2|f"),
     ("v", "0/d 10/ 1|f"),

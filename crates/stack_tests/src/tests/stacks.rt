@@ -11,10 +11,10 @@ use std::thread::Threads;
 use test_kit::refusing::Refusing;
 use test_kit::sample_images::layers;
 
-/// Layers by words of `sample_images`; the order in which they are laid; and words of `told`.
+/// Layers as words of `sample_images`; the order of laying; and words of `told`.
 pub type Stack<'a> = (&'a str, &'a str, &'a str);
 
-/// The first word that is wrong of a stack.
+/// The first wrong word of a stack.
 pub fn wrong_of<'a, R: Threads + Sync, A: Allocator + Copy + Send + Sync, G: Gate + Sync>(
     rt: &R,
     alloc: A,
@@ -54,8 +54,8 @@ fn next_tree<A: Allocator + Copy>(
     }
 }
 
-/// Layers laid in an order: a digit stands for the tree of the layer with this number, and `+` lays
-/// the last tree on the one before it.
+/// Layers laid in an order: a digit is the tree of the layer with this number, and `+` lays the
+/// last tree on the one before it.
 fn laid<A: Allocator + Copy>(
     alloc: A,
     images: &[Image<A>],
@@ -86,7 +86,7 @@ fn tree_of<R: Threads + Sync, A: Allocator + Copy + Send + Sync, G: Gate + Sync>
     Ok(stack(rt, alloc, images, gate)?)
 }
 
-/// Stacks, a paragraph each: what it is, its layers, and lines of an order and of words.
+/// Stacks, a paragraph each: what it is, its layers, and lines of an order and words.
 const STACKS: &str = "\
 # A marker for one name.
 1/a 2-x 2-y 1-b + 1/a 2-.wh.x 2-z
@@ -140,7 +140,7 @@ const STACKS: &str = "\
 : 0f!/k no!/k/f no./k/.wh.f no./none ==/m/k
 ";
 
-/// The first word that is wrong of a paragraph.
+/// The first wrong word of a paragraph.
 fn wrong_in<R: Threads + Sync>(
     rt: &R,
     alloc: Global,
@@ -167,7 +167,7 @@ fn trees_show_and_cut(rt: HostRuntime) -> Result<(), Fail> {
     Ok(())
 }
 
-/// The first word that is wrong of a tree of one layer, and whether asking for it takes no memory.
+/// The first wrong word of a tree of one layer, and whether reading it takes no memory.
 fn asked<'a>(
     memory: &'a Refusing<Global>,
     images: &[Image<&'a Refusing<Global>>],

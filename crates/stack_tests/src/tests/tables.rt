@@ -11,7 +11,7 @@ use std::thread::Threads;
 use test_kit::refusing::Refusing;
 use test_kit::sample_images::{SAMPLE, layers};
 
-/// The table of layers by words.
+/// The table of layers given as words.
 pub fn table_of<R: Threads + Sync, A: Allocator + Copy + Send + Sync>(
     rt: &R,
     alloc: A,
@@ -45,7 +45,7 @@ fn are_children<A: Allocator>(table: &Table<A>) -> bool {
     table.child(1, [b'q'; 256].as_slice()).is_none()
 }
 
-/// Whether nothing is told of a number.
+/// Whether a table gives nothing for a number.
 fn is_unused<A: Allocator>(table: &Table<A>, number: u64) -> bool
     requires { table.now.whole ≡ true }
 {
@@ -70,7 +70,7 @@ fn are_used<A: Allocator>(table: &Table<A>) -> bool
     table.bytes(2).len() == 5000 && table.rows(1).len() == 4
 }
 
-/// Whether a table of the sample image tells what it should.
+/// Whether a table of the sample image gives what it should.
 fn tells_all<A: Allocator>(table: &Table<A>) -> bool
     requires { table.now.whole ≡ true }
 {

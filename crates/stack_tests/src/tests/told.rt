@@ -1,7 +1,7 @@
-//! What a tree says, in words.
+//! The contents of a tree, as words.
 //!
-//! A word has `no`, or the layer and `d` or `f` for a directory or a file; then `!` where the tree
-//! cuts the path, or `.`; then, of some directories, the names in it, a letter each; and then the
+//! A word has `no`, or the layer and `d` or `f` for a directory or a file; then `!` if the tree
+//! cuts the path, or `.`; then, for some directories, the names in it, a letter each; and then the
 //! path, with a `/` before each name. `==/m/k` says that the names `m` and `k` have one entry.
 
 use layer_tree::{Child, Tree};
@@ -9,7 +9,7 @@ use romfs_image::Kind;
 use stack_core::shown;
 use std::alloc::Allocator;
 
-/// The first word that is wrong.
+/// The first wrong word.
 pub fn first_wrong<'a, A: Allocator>(tree: &Tree<A>, words: &'a str) -> Option<&'a str> {
     for word in words.split_whitespace() {
         if !is_right(tree, word) {
@@ -57,7 +57,7 @@ fn is_told<A: Allocator>(tree: &Tree<A>, path: &[&[u8]], told: &str) -> bool {
         && (is_any || are_children(tree.children(path), names))
 }
 
-/// Whether a tree says what a word says.
+/// Whether a tree agrees with a word.
 fn is_right<A: Allocator>(tree: &Tree<A>, word: &str) -> bool {
     let Some((told, path)) = word.split_once('/') else {
         return is_told(tree, &[], word);

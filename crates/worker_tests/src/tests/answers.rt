@@ -14,10 +14,10 @@ use test_kit::memories::Memories;
 use test_kit::refusing::Refusing;
 use test_kit::script::lookups;
 
-/// Bytes that stand before an answer.
+/// Bytes before an answer.
 const FRONT: [u8; 5] = [1, 2, 3, 4, 5];
 
-/// A move that stands before others.
+/// A move before others.
 const FIRST: Move = Move { node: 7, amount: 9 };
 
 /// Whether a call went through, and how much it appended.
@@ -36,7 +36,7 @@ pub fn appended<R: Threads + Sync>(
     left
 }
 
-/// An answer behind the front; none where the front is refused, or isn't as it was.
+/// An answer after the front; none if the front is refused, or changed.
 fn answered<A: Allocator>(alloc: A, table: &Table<A>, job: &Job<'_>) -> Option<Left>
     requires { table.now.whole ≡ true }
 {
@@ -49,7 +49,7 @@ fn answered<A: Allocator>(alloc: A, table: &Table<A>, job: &Job<'_>) -> Option<L
         .then_some((told, appended))
 }
 
-/// What a job moves, behind the first move; none where that is refused, or isn't as it was.
+/// What a job moves, after the first move; none if that is refused, or changed.
 fn moved<A: Allocator>(alloc: A, table: &Table<A>, job: &Job<'_>) -> Option<Left> {
     let mut out = Vec::new(alloc);
     out.push(FIRST).ok()?;

@@ -52,8 +52,8 @@ fn sums() -> [Move; 5] {
     [(1, 1), (2, 1), (3, 2), (5, 1), (6, -4)].map(|(node, amount)| Move { node, amount })
 }
 
-/// Whether a round came to the replies to these jobs, and to the sums of their moves. Of lookups
-/// the length is asked.
+/// Whether a round gave the replies to these jobs, and the sums of their moves. Only the length of
+/// lookups is compared.
 fn is_right<A: Allocator>(rounded: &Rounded<A>, jobs: Jobs, replies: &[u8]) -> bool {
     let bytes = rounded.bytes.as_slice();
     let moves = rounded.moves.as_slice();
@@ -64,7 +64,7 @@ fn is_right<A: Allocator>(rounded: &Rounded<A>, jobs: Jobs, replies: &[u8]) -> b
     }
 }
 
-/// Whether a round of jobs over a table comes to what it should, and the work that passes its gate.
+/// Whether a round of jobs over a table gives the right result, and the work that passes its gate.
 fn round_over<'a, R: Threads + Sync>(
     rt: &R,
     memories: &'a Memories,

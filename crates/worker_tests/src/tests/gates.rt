@@ -16,7 +16,7 @@ use test_kit::gates::{Crowd, FEW, Holding, MANY, Noting};
 use test_kit::memories::Memories;
 use test_kit::script::script;
 
-/// Whether a batch was given up in a round of so many jobs, over a table.
+/// Whether a batch was given up in a round of this many jobs, over a table.
 fn is_given_up_over<R: Threads + Sync>(
     rt: &R,
     alloc: Global,
@@ -92,7 +92,7 @@ fn a_batch_is_answered_behind_its_gate(rt: HostRuntime) {
     assert!(rt; gate.before() == 0 && 0 < memories.refusing.requests());
 }
 
-/// Answers 24 requests of a stream over a table, by a plan; false where memory is refused.
+/// Answers 24 requests of a stream over a table, by a plan; false if memory is refused.
 fn spreads<R: Threads + Sync>(
     rt: &R,
     alloc: Global,

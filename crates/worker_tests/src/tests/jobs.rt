@@ -8,7 +8,7 @@ use std::alloc::{AllocError, Global};
 /// A request, and the session before it.
 pub type Job<'a> = (Session, Request<'a>);
 
-/// The jobs of a stream, up to where no message is whole.
+/// The jobs of a stream, up to the first incomplete message.
 pub fn jobs_of<'a>(alloc: Global, stream: &'a [u8]) -> Result<Vec<Job<'a>>, AllocError> {
     let mut jobs = Vec::new(alloc);
     let mut session = Session::Fresh;

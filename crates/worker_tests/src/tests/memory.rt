@@ -1,4 +1,4 @@
-//! Each request for memory of a call is refused in turn, in whichever thread.
+//! Each request for memory of a call is refused in turn, in any thread.
 
 use super::answers::appended;
 use super::batches::{Jobs, round_of};
@@ -11,7 +11,7 @@ use test_kit::memories::{Memories, refuse_in_turn};
 
 #[derive(Clone, Copy)]
 enum Call {
-    /// A round by so many workers, in batches of so many.
+    /// A round by this many workers, in batches of this many.
     Round((u32, u32)),
     /// One worker that answers all batches.
     Work,
@@ -20,8 +20,8 @@ enum Call {
     Moves(usize),
 }
 
-/// Whether an answer, or what it moves, is appended whole, or nothing where memory was refused. The
-/// first request is for what stands before.
+/// Whether an answer, or what it moves, is appended in full, or nothing if memory was refused. The
+/// first request is for what precedes it.
 fn is_left<R: Threads + Sync>(rt: &R, memories: &Memories, index: usize, moves: bool) -> bool {
     let whole = appended(rt, &Memories::new(memories.global, 0), index, moves);
     let left = appended(rt, memories, index, moves);
@@ -32,7 +32,7 @@ fn is_left<R: Threads + Sync>(rt: &R, memories: &Memories, index: usize, moves: 
     }
 }
 
-/// Whether a call tells that memory was refused, or else comes to what it should.
+/// Whether a call reports that memory was refused, or else gives the right result.
 fn is_told<R: Threads + Sync>(rt: &R, memories: &Memories, call: Call) -> bool {
     let refusing = &memories.refusing;
     match call {

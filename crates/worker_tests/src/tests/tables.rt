@@ -8,7 +8,7 @@ use std::alloc::Allocator;
 use std::thread::Threads;
 use test_kit::sample_images::{SAMPLE, layers};
 
-/// The table of the sample image; none where memory is refused.
+/// The table of the sample image; none if memory is refused.
 pub fn sample_table<R: Threads + Sync, A: Allocator + Copy + Send + Sync>(
     rt: &R,
     alloc: A,

@@ -24,7 +24,7 @@ use test_kit::script::{script, script_replies};
 /// How many jobs a batch has.
 const SIZE: u32 = 3;
 
-/// What a thread gives back.
+/// What a thread returns.
 #[derive(Drop)]
 struct Done {
     pieces: Result<Vec<Piece<Global>>, AllocError>,
@@ -52,7 +52,7 @@ pub fn pieces_of<R: Threads + Sync, G: Gate>(
     pieces
 }
 
-/// How many batches so many jobs have.
+/// How many batches this many jobs have.
 fn batches_in(jobs: usize) -> u32
     requires { jobs ≤ 256 }
     ensures { result ≡ batches 3 jobs }
@@ -61,8 +61,8 @@ fn batches_in(jobs: usize) -> u32
     ((jobs + size - 1) / size) as u32
 }
 
-/// How many pieces one worker answers so many requests of the script with, and how often it draws;
-/// over a table.
+/// How many pieces one worker answers this many requests of the script with, and how often it
+/// draws; over a table.
 fn pieces_over<R: Threads + Sync, G: Gate>(
     rt: &R,
     memories: &Memories,

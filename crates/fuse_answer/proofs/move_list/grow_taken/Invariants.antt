@@ -4,7 +4,7 @@ use Rattle.fuse_answer.specs.Puts.{AreSmall}
 use Rattle.fuse_answer.proofs.Moving.{AreTaken}
 use Rattle.fuse_answer.proofs.move_list.grow_taken.Given as goal
 
--- what is taken back of so many items is appended, in no less room, and the rest is left
+-- what is taken back of this many items is appended, in no less room, and the rest is left
 abbrev pub invariant-loop-taken : goal.invariant-loop-taken
 invariant-loop-taken g l = record {
   count : l._taken + length (items_of l.rest) ≡ length (items_of l.fn.items);

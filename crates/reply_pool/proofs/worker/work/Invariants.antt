@@ -17,6 +17,6 @@ invariant-loop-number g l = record {
   light : AreLight l.pieces.items;
 }
 
--- each turn leaves fewer numbers that the hand has not seen
+-- each turn leaves fewer numbers that are new to the hand
 abbrev pub decreases-loop-number : goal.decreases-loop-number
 decreases-loop-number g l = total_of l.board - seen_below l.hand

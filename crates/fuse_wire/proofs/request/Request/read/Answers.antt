@@ -1,4 +1,4 @@
--- What was read is what the message asks, field by field.
+-- What was read is what the message requests, field by field.
 use Rattle.std.proofs.Common.{◌≡◌, ◌∙◌, ℕ, List}
 use Rattle.std.proofs.lemmas.List.{take_rest}
 use Rattle.fuse_wire.specs.Requests.{Asked, Op, op_of}
