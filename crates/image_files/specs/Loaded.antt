@@ -16,8 +16,8 @@ abbrev pub WasGathered : Trailers → Option (List ℕ) → List ℕ → Type 0
 WasGathered Read known kept = IsGatheredWithTrailer known kept
 WasGathered Left known kept = IsGathered known kept
 
--- what the rules look at is held: it was gathered from these bytes, where they are known, with their
--- trailer, where trailers are read
+-- what the rules look at is held: it was gathered from these bytes, where they are known, with
+-- their trailer, where trailers are read
 abbrev pub IsKeptWith : {A : Type 0} → Option (List ℕ) → Trailers → HeldImage A → Type 0
 IsKeptWith known trailers (held.Kept kept) = WasGathered trailers known kept
 IsKeptWith known trailers (held.Whole bytes) = ⊥

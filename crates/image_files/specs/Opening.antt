@@ -51,7 +51,8 @@ pub record IsOpenedAs {F A : Type 0} (kind : FileKind) (known : Option (List ℕ
 
 -- what is held of the image of a file of this kind, of which these bytes are known: of a stream
 -- all, and of any other what the rules look at, but of its reads nothing is known
-abbrev pub IsHeldAs : {F A : Type 0} → FileKind → Option (List ℕ) → Trailers → LoadedImage F A → Type 0
+abbrev pub IsHeldAs : {F A : Type 0} → FileKind → Option (List ℕ) → Trailers → LoadedImage F A
+    → Type 0
 IsHeldAs (Regular size) known trailers image = IsKeptOf None trailers image
 IsHeldAs BlockDevice known trailers image = IsKeptOf None trailers image
 IsHeldAs Stream known trailers image = IsWholeOf known image.held

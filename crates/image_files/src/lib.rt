@@ -7,8 +7,8 @@
 //!   [`devices::Tap`], 64 KiB a pull; memory is taken once for each file that tells its length.
 //! - open. Of a file that can be read at a place headers, names and targets are read
 //!   (`kept_image`), in memory in proportion to these, and the file stays open; others are read
-//!   in full. Such an image has both: what is kept, and what its data are read from, the file or the
-//!   bytes ([`ImageData`]). [`apart`] makes two lists of a list of images.
+//!   in full. Such an image has both: what is kept, and what its data are read from, the file or
+//!   the bytes ([`ImageData`]). [`apart`] makes two lists of a list of images.
 //! - gathered. As much is read, and no file is kept open.
 //!
 //! Of a long list up to four parts are read at the same time; the lowest image that cannot be read

@@ -80,8 +80,8 @@ pub(crate) fn load_file<F: Read + Seek + OpenFile + FileExt + Drop, A: Allocator
     load_as(alloc, file, kind, loading)
 }
 
-/// What is loaded of a file of a kind, which is at its beginning. `Unread` comes where a read fails,
-/// where a device tells no end, or where the file ends before the size that it told.
+/// What is loaded of a file of a kind, which is at its beginning. `Unread` comes where a read
+/// fails, where a device tells no end, or where the file ends before the size that it told.
 pub fn load_as<F: Read + Seek + OpenFile + FileExt + Drop, A: Allocator + Copy>(
     alloc: A,
     file: F,

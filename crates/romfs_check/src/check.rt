@@ -78,8 +78,8 @@ impl<A: Allocator + Copy> Check for Image<A> {
 /// trailer, or the profile is one without attributes. They take 28 bytes each. Of an image that
 /// stays in its file nothing else is looked at: of a trailer that was not kept nothing is said.
 ///
-/// `Broken` names the fault as [`Check::check_as`] does; of what was gathered from known bytes it is
-/// the fault of these ([`laws`](crate::laws)). `Memory` comes only if memory was refused. It
+/// `Broken` names the fault as [`Check::check_as`] does; of what was gathered from known bytes it
+/// is the fault of these ([`laws`](crate::laws)). `Memory` comes only if memory was refused. It
 /// takes the steps and the memory of that check.
 #[tactic(auto, using(romfs_format::proofs::Faults::profile_sound))]
 pub fn check_held<A: Allocator + Copy>(

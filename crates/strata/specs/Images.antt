@@ -35,7 +35,8 @@ NamesAsMany line images = length images ≡ vec_len line.images
 -- this is held of the images of a line, each of which was read of some file: all its bytes, those
 -- that are known of it; or what the rules look at, with the trailer where the line asks for
 -- attributes
-abbrev pub AreHeldFor : {F A : Type 0} → Line → (F → Option (List ℕ)) → List (LoadedImage F A) → Type 0
+abbrev pub AreHeldFor : {F A : Type 0} → Line → (F → Option (List ℕ)) → List (LoadedImage F A)
+    → Type 0
 AreHeldFor line known images =
     All (IsOfFile (λ file. IsHeldOf (known file) (trailers_of line))) images
 

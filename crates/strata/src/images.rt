@@ -18,8 +18,8 @@ use std::thread::Threads;
 /// takes less time than to gather what the rules check.
 const SMALL_STACK: u64 = 32 << 20;
 
-/// The images of a line, the lowest layer first: what is held of them, and what the data of each are
-/// read from, where they are not held whole.
+/// The images of a line, the lowest layer first: what is held of them, and what the data of each
+/// are read from, where they are not held whole.
 #[derive(Drop)]
 pub struct LineImages<F, A: Allocator> {
     pub held: Vec<HeldImage<A>, A>,
