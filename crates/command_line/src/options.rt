@@ -35,6 +35,9 @@ pub struct Line<'a> {
     pub strict: bool,
     /// The attribute trailers of images are read, checked and shown.
     pub attributes: bool,
+    /// Images are accepted as a mount accepts them: there are at most 128, and their trailers are
+    /// read and checked.
+    pub as_mounted: bool,
     /// Images are read whole into memory, and not left in their files.
     pub whole: bool,
     /// Images that are served stay in their files, however few bytes they have, if they are not
