@@ -2,21 +2,26 @@
 use Rattle.std.proofs.Common.{◌≡◌, ℕ, List, Option, Some, None, IfSome}
 use Rattle.image_files.specs.declared.opening.FileKind.{FileKind}
 use Rattle.image_files.specs.declared.opening.FileKind.TheVariants.{Regular, BlockDevice, Stream}
-use Rattle.image_files.specs.declared.opening.HeldImage.{HeldImage}
-use Rattle.image_files.specs.declared.opening.HeldImage.TheVariants.{Kept, Whole}
+use Rattle.image_files.specs.declared.opening.GatheredImage.{GatheredImage}
+use Rattle.held_image.specs.declared.image.HeldImage.{HeldImage}
+use Rattle.held_image.specs.declared.image.HeldImage.TheVariants.{Kept, Whole}
 use Rattle.image_files.specs.declared.whole.Trailers.{Trailers}
 use Rattle.image_files.specs.Opened.{Opened}
 use Rattle.image_files.specs.Opening.{IsHeldAs, IsKnownAs, IsOpenedAs}
-use Rattle.image_files.specs.Files.{IsHeldOf, IsOpenOf}
+use Rattle.image_files.specs.Files.{IsHeldOf, IsHeldWith, IsOpenOf}
 
-pub held_of : {A : Type 0} (kind : FileKind) (known : Option (List ℕ)) (trailers : Trailers) (image : HeldImage A)
+held_with : {A : Type 0} (kind : FileKind) (known : Option (List ℕ)) (trailers its : Trailers) (held : HeldImage A)
+    → IsHeldAs kind known trailers (record { held = held; trailers = its }) → IsHeldWith known trailers its held
+held_with (Regular size) known trailers its (Kept kept) h = h.0
+held_with BlockDevice known trailers its (Kept kept) h = h.0
+held_with Stream known trailers its (Kept kept) h = absurd h
+held_with (Regular size) known trailers its (Whole bytes) h = absurd (h.1)
+held_with BlockDevice known trailers its (Whole bytes) h = absurd (h.1)
+held_with Stream known trailers its (Whole bytes) h = h
+
+pub held_of : {A : Type 0} (kind : FileKind) (known : Option (List ℕ)) (trailers : Trailers) (image : GatheredImage A)
     → IsHeldAs kind known trailers image → IsHeldOf known trailers image
-held_of (Regular size) known trailers (Kept kept its) h = h.0
-held_of BlockDevice known trailers (Kept kept its) h = h.0
-held_of Stream known trailers (Kept kept its) h = absurd h
-held_of (Regular size) known trailers (Whole bytes) h = absurd h
-held_of BlockDevice known trailers (Whole bytes) h = absurd h
-held_of Stream known trailers (Whole bytes) h = h
+held_of kind known trailers image h = held_with kind known trailers image.trailers image.held h
 
 -- what is known of the data of an image is what is known of its file
 seen_of : (kind : FileKind) (known seen : Option (List ℕ)) → IsKnownAs kind known seen → IfSome seen (λ ys. IfSome known (λ xs. ys ≡ xs))

@@ -2,8 +2,9 @@
 use Rattle.std.specs.Prelude.{◌≡◌, ℕ, List, Option, IfSome}
 use Rattle.std.specs.declared.vec.Vec.{Vec}
 use Rattle.image_files.specs.declared.whole.Trailers.{Trailers}
-use Rattle.image_files.specs.declared.opening.HeldImage.{HeldImage}
-use Rattle.image_files.specs.declared.opening.HeldImage.TheVariants.{Kept, Whole}
+use Rattle.image_files.specs.declared.opening.GatheredImage.{GatheredImage}
+use Rattle.held_image.specs.declared.image.HeldImage.{HeldImage}
+use Rattle.held_image.specs.declared.image.HeldImage.TheVariants.{Kept, Whole}
 use Rattle.image_files.specs.Opened.{Opened}
 
 -- it was read of some file, as this says of a file and of what is read of it
@@ -21,8 +22,16 @@ pub record IsOpenOf (known : Option (List ℕ)) (trailers : Trailers) (image : O
   pub trailers_are : image.trailers ≡ trailers
   pub known_are : IfSome image.known (λ seen. IfSome known (λ xs. seen ≡ xs))
 
--- of the image of a file all bytes are held, those that are known of it; or what the rules look at,
--- with its trailer or without
-abbrev pub IsHeldOf : {A : Type 0} → Option (List ℕ) → Trailers → HeldImage A → Type 0
-IsHeldOf known trailers (Kept kept its) = its ≡ trailers
-IsHeldOf known trailers (Whole bytes) = AreBytesOf known bytes
+-- of the image of a file all bytes are held, those that are known of it
+abbrev pub IsWholeOf : {A : Type 0} → Option (List ℕ) → HeldImage A → Type 0
+IsWholeOf known (Kept kept) = ⊥
+IsWholeOf known (Whole bytes) = AreBytesOf known bytes
+
+-- they are; or what the rules look at is held, with its trailer or without
+abbrev pub IsHeldWith : {A : Type 0} → Option (List ℕ) → Trailers → Trailers → HeldImage A → Type 0
+IsHeldWith known trailers its (Kept kept) = its ≡ trailers
+IsHeldWith known trailers its (Whole bytes) = AreBytesOf known bytes
+
+-- the same of an image whose file was let go
+abbrev pub IsHeldOf : {A : Type 0} → Option (List ℕ) → Trailers → GatheredImage A → Type 0
+IsHeldOf known trailers image = IsHeldWith known trailers image.trailers image.held

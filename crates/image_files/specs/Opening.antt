@@ -8,15 +8,13 @@ use Rattle.image_files.specs.declared.opening.FileKind.TheVariants.{Regular, Blo
 use Rattle.image_files.specs.declared.image_data.ImageData.{ImageData}
 use Rattle.image_files.specs.declared.image_data.ImageData.TheVariants as from
 use Rattle.image_files.specs.declared.whole.Trailers.{Trailers}
-use Rattle.image_files.specs.declared.whole.ReadFault.{ReadFault}
-use Rattle.image_files.specs.declared.whole.ReadFault.TheVariants.{Failed, Memory}
-use Rattle.kept_image.specs.declared.fault.GatherFault.{GatherFault}
-use Rattle.kept_image.specs.declared.fault.GatherFault.TheVariants as gather
 use Rattle.std.specs.declared.vec.Vec.{Vec}
-use Rattle.image_files.specs.Files.{AreBytesOf}
+use Rattle.held_image.specs.declared.image.HeldImage.{HeldImage}
+use Rattle.held_image.specs.declared.image.HeldImage.TheVariants as held
+use Rattle.held_image.specs.Images.{held_bytes}
+use Rattle.image_files.specs.Files.{AreBytesOf, IsWholeOf}
 use Rattle.image_files.specs.Opened.{Opened, WasGathered}
-use Rattle.image_files.specs.declared.opening.HeldImage.{HeldImage}
-use Rattle.image_files.specs.declared.opening.HeldImage.TheVariants as held
+use Rattle.image_files.specs.declared.opening.GatheredImage.{GatheredImage}
 
 -- the mode is that of a block device
 abbrev pub IsBlockDevice : Metadata → Type 0
@@ -52,18 +50,22 @@ IsKnownAs Stream known seen = IsSome seen × IfSome known (λ xs. seen ≡ Some 
 
 -- what the rules look at is held of an image: it was gathered of these bytes, where they are known,
 -- with the trailer where trailers are read
-abbrev pub IsKeptOf : {A : Type 0} → Option (List ℕ) → Trailers → HeldImage A → Type 0
-IsKeptOf known trailers (held.Kept kept its) = (its ≡ trailers) × WasGathered trailers known kept
-IsKeptOf known trailers (held.Whole bytes) = ⊥
+abbrev pub IsKeptWith : {A : Type 0} → Option (List ℕ) → Trailers → HeldImage A → Type 0
+IsKeptWith known trailers (held.Kept kept) = WasGathered trailers known kept
+IsKeptWith known trailers (held.Whole bytes) = ⊥
 
--- all bytes of an image are held, those that are known
-abbrev pub IsHeldWhole : {A : Type 0} → Option (List ℕ) → HeldImage A → Type 0
-IsHeldWhole known (held.Kept kept its) = ⊥
-IsHeldWhole known (held.Whole bytes) = AreBytesOf known bytes
+-- so it is of an image whose file was let go
+abbrev pub IsKeptOf : {A : Type 0} → Option (List ℕ) → Trailers → GatheredImage A → Type 0
+IsKeptOf known trailers image =
+    (image.trailers ≡ trailers) × IsKeptWith known trailers image.held
+
+-- all bytes of it are held, those that are known
+abbrev pub IsHeldWhole : {A : Type 0} → Option (List ℕ) → GatheredImage A → Type 0
+IsHeldWhole known image = IsWholeOf known image.held
 
 -- what is held of the image of a file of this kind, of which these bytes are known: of a stream
 -- all, and of any other what the rules look at, but of its reads nothing is known
-abbrev pub IsHeldAs : {A : Type 0} → FileKind → Option (List ℕ) → Trailers → HeldImage A → Type 0
+abbrev pub IsHeldAs : {A : Type 0} → FileKind → Option (List ℕ) → Trailers → GatheredImage A → Type 0
 IsHeldAs (Regular size) known trailers image = IsKeptOf None trailers image
 IsHeldAs BlockDevice known trailers image = IsKeptOf None trailers image
 IsHeldAs Stream known trailers image = IsHeldWhole known image
@@ -74,16 +76,10 @@ pub record IsOpenedAs (kind : FileKind) (known : Option (List ℕ)) (trailers : 
   pub known_is : IsKnownAs kind known image.known
   pub trailers_are : image.trailers ≡ trailers
 
--- why a file was not read, by why nothing was kept of it
-abbrev pub fault_of : GatherFault → ReadFault
-fault_of gather.Unread = Failed
-fault_of gather.Memory = Memory
-
 -- the bytes that are held of an image, and zeros where nothing is
-abbrev pub held_bytes : {A : Type 0} → HeldImage A → List ℕ
-held_bytes (held.Kept kept its) = kept
-held_bytes (held.Whole bytes) = bytes.items
+abbrev pub gathered_bytes : {A : Type 0} → GatheredImage A → List ℕ
+gathered_bytes image = held_bytes image.held
 
 -- those of a list of images
-abbrev pub held_contents : {A B : Type 0} → Vec (HeldImage A) B → List (List ℕ)
-held_contents images = map held_bytes images.items
+abbrev pub gathered_contents : {A B : Type 0} → Vec (GatheredImage A) B → List (List ℕ)
+gathered_contents images = map gathered_bytes images.items

@@ -6,14 +6,16 @@
 //! read.
 
 ghost use Rattle.std.specs.Prelude.{◌≡◌, ◌⊎◌, ◌+◌, ◌<◌, ◌^◌, ℕ, ◌++◌, length, vec_len, All, IfOk, IfErr, OnOk};
-ghost use Rattle.image_files.specs.Files.{AreBytesOf, IsHeldOf, IsOfFile, IsOpenOf};
+ghost use Rattle.image_files.specs.Files.{IsHeldOf, IsOfFile, IsOpenOf, IsWholeOf};
 ghost use Rattle.image_files.specs.Unread.{IsReadUpTo};
 ghost use Rattle.image_files.specs.declared.images.FilesFault.TheVariants.{Unread, Memory};
 ghost use denote.Param.Send.{IsSync, IsSend, Frees};
 
 use crate::open_image::OpenImage;
-use crate::opening::HeldImage;
-use crate::whole::{OfFile, ReadFault, Trailers};
+use crate::opening::GatheredImage;
+use crate::whole::{OfFile, Trailers};
+use held_image::HeldImage;
+use kept_image::GatherFault;
 use std::alloc::{AllocError, AllocFailed, Allocator};
 use std::fs;
 use std::fs::Files;
@@ -52,7 +54,7 @@ impl<T: Drop> From<AllocFailed<T>> for FilesFault {
     }
 }
 
-/// The bytes of the images at these paths, in the order of the paths, each file as it is from its
+/// The images at these paths, in the order of the paths, held whole: each file as it is from its
 /// beginning to its end.
 ///
 /// Of a long list at most four parts are read at the same time; of several files that cannot be
@@ -61,13 +63,13 @@ pub fn read_images<R: Files + Threads + Sync, A: Allocator + Copy + Send + Sync>
     rt: &R,
     alloc: A,
     paths: &[&str],
-) -> Result<Vec<Vec<u8, A>, A>, FilesFault>
+) -> Result<Vec<HeldImage<A>, A>, FilesFault>
 where
     R::File: Send,
     R::Dir: Send,
     ensures ok { IfOk result (λ images. vec_len images ≡ length paths.now) }
     ensures bytes { IfOk result (λ images.
-        All (IsOfFile (λ file. AreBytesOf (R.File.remaining file))) images.items) }
+        All (IsOfFile (λ file. IsWholeOf (R.File.remaining file))) images.items) }
     ensures err { IfErr result (λ fault. (fault ≡ Memory)
         ⊎ ((image : ℕ) × (image < length paths.now) × (fault ≡ Unread image))) }
 {
@@ -115,7 +117,7 @@ pub fn gather_images<R: Files + Threads + Sync, A: Allocator + Copy + Send + Syn
     alloc: A,
     paths: &[&str],
     trailers: Trailers,
-) -> Result<Vec<HeldImage<A>, A>, FilesFault>
+) -> Result<Vec<GatheredImage<A>, A>, FilesFault>
 where
     R::File: FileExt + Send,
     R::Dir: Send,
@@ -264,7 +266,7 @@ fn read_image<R: Files, A: Allocator, T: OfFile<R::File, A>>(
     let file = fs::open(rt, path).map_err(|_| FilesFault::Unread { image })?;
     match T::of_file(alloc, file, trailers) {
         Ok(read) => Ok(read),
-        Err(ReadFault::Failed) => Err(FilesFault::Unread { image }),
-        Err(ReadFault::Memory) => Err(FilesFault::Memory),
+        Err(GatherFault::Unread) => Err(FilesFault::Unread { image }),
+        Err(GatherFault::Memory) => Err(FilesFault::Memory),
     }
 }

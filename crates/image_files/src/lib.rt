@@ -7,7 +7,7 @@
 //!   are read (`kept_image`), in memory in proportion to these, and the file stays open; others are
 //!   read whole. An [`OpenImage`] has both: what is kept, and what its data are read from, the file
 //!   or the bytes ([`ImageData`]). [`apart`] makes two lists of a list of them.
-//! - [`gather_images`] reads as much, and keeps no file open: [`HeldImage`].
+//! - [`gather_images`] reads as much, and keeps no file open: [`GatheredImage`].
 //!
 //! Of a long list up to four parts are read at the same time; the lowest image that cannot be read
 //! is told.
@@ -26,6 +26,7 @@ mod whole;
 
 pub use image_data::ImageData;
 pub use images::{FilesFault, gather_images, open_images, read_images};
+pub use kept_image::GatherFault;
 pub use open_image::{OpenImage, apart};
-pub use opening::{FileKind, HeldImage, open_as};
-pub use whole::{ReadFault, Trailers};
+pub use opening::{FileKind, GatheredImage, open_as};
+pub use whole::Trailers;

@@ -1,12 +1,14 @@
 //! Images that are open: what is kept of them, and what all else is read from.
 
-ghost use Rattle.std.specs.Prelude.{◌≡◌, IfOk, IfErr};
+ghost use Rattle.std.specs.Prelude.{◌≡◌, map, IfOk, IfErr};
+ghost use Rattle.held_image.specs.Images.{held_bytes};
 ghost use Rattle.kept_image.specs.Reads.{IsCause};
 ghost use Rattle.image_files.specs.Data.{known_bytes};
 ghost use Rattle.image_files.specs.Opened.{AreApart, AreParts, IsOpenOver, WasGathered};
 
 use crate::image_data::ImageData;
 use crate::whole::Trailers;
+use held_image::HeldImage;
 use image_bytes::Contents;
 use kept_image::{GatherFault, Kept, gather, gather_with_trailer};
 use std::alloc::{AllocError, Allocator};
@@ -19,33 +21,34 @@ use std::os::unix::fs::FileExt;
 /// was read. Where bytes are known, what is kept was gathered of these.
 #[derive(Drop)]
 pub struct OpenImage<F, A: Allocator> {
-    kept: Kept<A>,
+    held: HeldImage<A>,
     source: ImageData<F, A>,
     trailers: Trailers,
 }
 
 impl<F, A: Allocator> Model for OpenImage<F, A> {
+    ghost use Rattle.held_image.specs.Images.{held_bytes};
     ghost use Rattle.image_files.specs.Data.{known_bytes};
     ghost use Rattle.image_files.specs.Opened.{Opened, WasGathered};
 
     ghost Value = { Opened };
 
     ghost view = { λ image. record {
-      kept = image.kept;
+      kept = held_bytes image.held;
       known = known_bytes image.source;
       trailers = image.trailers;
     } };
 
     ghost invariant = { λ image.
-        WasGathered image.trailers (known_bytes image.source) image.kept };
+        WasGathered image.trailers (known_bytes image.source) (held_bytes image.held) };
 }
 
 impl<F, A: Allocator> OpenImage<F, A> {
     /// What is kept of the image, with zeros where nothing is; and what its data are read from.
-    pub fn into_parts(self) -> (Kept<A>, ImageData<F, A>)
-        ensures { AreParts self result.0 result.1 }
+    pub fn into_parts(self) -> (HeldImage<A>, ImageData<F, A>)
+        ensures { AreParts self (held_bytes result.0) result.1 }
     {
-        (self.kept, self.source)
+        (self.held, self.source)
     }
 }
 
@@ -61,9 +64,9 @@ impl<F: FileExt + Drop, A: Allocator + Copy> OpenImage<F, A> {
         ensures ok { IfOk result (IsOpenOver (known_bytes source) trailers) }
         ensures err { IfErr result (IsCause (known_bytes source)) }
     {
-        let kept = gather_as(alloc, &source, trailers)?;
+        let held = HeldImage::Kept(gather_as(alloc, &source, trailers)?);
         Ok(OpenImage {
-            kept,
+            held,
             source,
             trailers,
         })
@@ -85,20 +88,21 @@ pub(crate) fn gather_as<S: Contents, A: Allocator + Copy>(
     }
 }
 
-/// Takes images apart: what is kept of each, and what the data of each are read from, in the order
+/// Takes images apart: what is held of each, and what the data of each are read from, in the order
 /// of the images. `AllocError` comes only where memory was refused.
 pub fn apart<F: Drop, A: Allocator + Copy>(
     alloc: A,
     images: Vec<OpenImage<F, A>, A>,
-) -> Result<(Vec<Kept<A>, A>, Vec<ImageData<F, A>, A>), AllocError>
-    ensures { IfOk result (λ both. AreApart images.items both.0.items both.1.items) }
+) -> Result<(Vec<HeldImage<A>, A>, Vec<ImageData<F, A>, A>), AllocError>
+    ensures { IfOk result (λ both.
+        AreApart images.items (map held_bytes both.0.items) both.1.items) }
 {
-    let mut kept = Vec::with_capacity(alloc, images.len())?;
+    let mut held = Vec::with_capacity(alloc, images.len())?;
     let mut sources = Vec::with_capacity(alloc, images.len())?;
     for image in images {
-        let (its_kept, its_source) = image.into_parts();
-        kept.push(its_kept)?;
+        let (its_own, its_source) = image.into_parts();
+        held.push(its_own)?;
         sources.push(its_source)?;
     }
-    Ok((kept, sources))
+    Ok((held, sources))
 }

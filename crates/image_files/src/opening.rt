@@ -5,13 +5,14 @@
 //! bytes once, from the first to the last, and is read whole.
 
 ghost use Rattle.std.specs.Prelude.{◌≡◌, ◌↔◌, IfOk, IsTrue, MatchResult};
-ghost use Rattle.image_files.specs.Opening.{AreOfFile, IsBlockDevice, IsHeldAs, IsKeptOf, IsKindOf, IsOpenedAs, fault_of};
+ghost use Rattle.image_files.specs.Opening.{AreOfFile, IsBlockDevice, IsHeldAs, IsKeptOf, IsKindOf, IsOpenedAs};
 
 use crate::image_data::ImageData;
 use crate::open_image::{OpenImage, gather_as};
-use crate::whole::{OfFile, ReadFault, Trailers, read_file};
+use crate::whole::{OfFile, Trailers, read_file};
+use held_image::HeldImage;
 use image_bytes::{Contents, InFile};
-use kept_image::{GatherFault, Kept};
+use kept_image::GatherFault;
 use std::alloc::Allocator;
 use std::fs::{Metadata, OpenFile};
 use std::io::{self, Read, Seek, SeekFrom};
@@ -23,17 +24,6 @@ const FILE_TYPE: u32 = 0o170000;
 /// What they are of a block device (S_IFBLK).
 const BLOCK_DEVICE: u32 = 0o060000;
 
-impl From<GatherFault> for ReadFault {
-    ghost from_gives = { λ gathering fault. fault ≡ fault_of gathering };
-
-    fn from(fault: GatherFault) -> ReadFault {
-        match fault {
-            GatherFault::Unread => ReadFault::Failed,
-            GatherFault::Memory => ReadFault::Memory,
-        }
-    }
-}
-
 impl<F: Read + Seek + OpenFile + FileExt + Drop, A: Allocator + Copy> OfFile<F, A>
     for OpenImage<F, A> {
     ghost use Rattle.image_files.specs.Files.{IsOpenOf};
@@ -41,29 +31,28 @@ impl<F: Read + Seek + OpenFile + FileExt + Drop, A: Allocator + Copy> OfFile<F, 
     ghost is_read = { λ trailers file. IsOpenOf (F.remaining file) trailers };
 
     #[tactic(auto, using(crate::proofs::Files::open_of))]
-    fn of_file(alloc: A, file: F, trailers: Trailers) -> Result<OpenImage<F, A>, ReadFault> {
+    fn of_file(alloc: A, file: F, trailers: Trailers) -> Result<OpenImage<F, A>, GatherFault> {
         let kind = told_kind(file.metadata());
         open_as(alloc, file, kind, trailers)
     }
 }
 
-/// What is held of an image whose file was let go.
+/// An image whose file was let go: all bytes of one that cannot be read at a place, or what the
+/// rules look at, with the trailer where trailers were read.
 #[derive(Drop)]
-pub enum HeldImage<A: Allocator> {
-    /// What the rules look at, with the trailer where trailers were read.
-    Kept { image: Kept<A>, trailers: Trailers },
-    /// All bytes of a file that cannot be read at a place.
-    Whole(Vec<u8, A>),
+pub struct GatheredImage<A: Allocator> {
+    pub held: HeldImage<A>,
+    pub trailers: Trailers,
 }
 
 impl<F: Read + Seek + OpenFile + FileExt + Drop, A: Allocator + Copy> OfFile<F, A>
-    for HeldImage<A> {
+    for GatheredImage<A> {
     ghost use Rattle.image_files.specs.Files.{IsHeldOf};
 
     ghost is_read = { λ trailers file. IsHeldOf (F.remaining file) trailers };
 
     #[tactic(auto, using(crate::proofs::Files::held_of))]
-    fn of_file(alloc: A, file: F, trailers: Trailers) -> Result<HeldImage<A>, ReadFault> {
+    fn of_file(alloc: A, file: F, trailers: Trailers) -> Result<GatheredImage<A>, GatherFault> {
         let kind = told_kind(file.metadata());
         hold_as(alloc, file, kind, trailers)
     }
@@ -112,33 +101,36 @@ fn is_block_device(metadata: &Metadata) -> bool
     metadata.mode() & FILE_TYPE == BLOCK_DEVICE
 }
 
-/// The image of a file of a kind, which is at its beginning. `Failed` comes where a read fails,
+/// The image of a file of a kind, which is at its beginning. `Unread` comes where a read fails,
 /// where a device tells no end, or where the file ends before the size that it told.
 pub fn open_as<F: Read + Seek + OpenFile + FileExt + Drop, A: Allocator + Copy>(
     alloc: A,
     file: F,
     kind: FileKind,
     trailers: Trailers,
-) -> Result<OpenImage<F, A>, ReadFault>
+) -> Result<OpenImage<F, A>, GatherFault>
     ensures { IfOk result (IsOpenedAs kind (F.remaining file) trailers) }
 {
     let source = data_of(alloc, file, kind)?;
-    Ok(OpenImage::over(alloc, source, trailers)?)
+    OpenImage::over(alloc, source, trailers)
 }
 
-/// What is held of the image of a file of a kind, which is at its beginning and is let go. `Failed`
+/// What is held of the image of a file of a kind, which is at its beginning and is let go. `Unread`
 /// comes as [`open_as`] says.
 fn hold_as<F: Read + Seek + OpenFile + FileExt + Drop, A: Allocator + Copy>(
     alloc: A,
     file: F,
     kind: FileKind,
     trailers: Trailers,
-) -> Result<HeldImage<A>, ReadFault>
+) -> Result<GatheredImage<A>, GatherFault>
     ensures { IfOk result (IsHeldAs kind (F.remaining file) trailers) }
 {
     match data_of(alloc, file, kind)? {
-        ImageData::File(file) => Ok(kept_of(alloc, &file, trailers)?),
-        ImageData::Memory(bytes) => Ok(HeldImage::Whole(bytes)),
+        ImageData::File(file) => kept_of(alloc, &file, trailers),
+        ImageData::Memory(bytes) => Ok(GatheredImage {
+            held: HeldImage::Whole(bytes),
+            trailers,
+        }),
     }
 }
 
@@ -147,11 +139,11 @@ fn kept_of<S: Contents, A: Allocator + Copy>(
     alloc: A,
     source: &S,
     trailers: Trailers,
-) -> Result<HeldImage<A>, GatherFault>
+) -> Result<GatheredImage<A>, GatherFault>
     ensures { IfOk result (IsKeptOf (S.contents source.now) trailers) }
 {
-    let image = gather_as(alloc, source, trailers)?;
-    Ok(HeldImage::Kept { image, trailers })
+    let held = HeldImage::Kept(gather_as(alloc, source, trailers)?);
+    Ok(GatheredImage { held, trailers })
 }
 
 /// What the data of a file of a kind are read from: the file, or of a stream all its bytes.
@@ -159,7 +151,7 @@ fn data_of<F: Read + Seek + OpenFile + FileExt + Drop, A: Allocator>(
     alloc: A,
     mut file: F,
     kind: FileKind,
-) -> Result<ImageData<F, A>, ReadFault>
+) -> Result<ImageData<F, A>, GatherFault>
     ensures { IfOk result (AreOfFile kind (F.remaining file)) }
 {
     match kind {
@@ -173,6 +165,6 @@ fn data_of<F: Read + Seek + OpenFile + FileExt + Drop, A: Allocator>(
 }
 
 /// How many bytes stand before the end of a file.
-fn end_of<F: Seek>(file: &mut F) -> Result<u64, ReadFault> {
-    file.seek(SeekFrom::End(0)).map_err(|_| ReadFault::Failed)
+fn end_of<F: Seek>(file: &mut F) -> Result<u64, GatherFault> {
+    file.seek(SeekFrom::End(0)).map_err(|_| GatherFault::Unread)
 }

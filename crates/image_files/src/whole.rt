@@ -3,32 +3,16 @@
 ghost use Rattle.std.specs.Prelude.{◌≡◌, IfSome, OnOk, IfOk};
 ghost use Rattle.std.specs.Io.KnownBytes.{IsAtEnd};
 ghost use Rattle.devices.specs.Counting.{no_pulls};
-ghost use Rattle.image_files.specs.declared.whole.ReadFault.TheVariants.{Memory};
 ghost use Rattle.image_files.specs.Files.{AreBytesOf};
 ghost use Rattle.image_files.specs.Reading.{IsReadThrough};
 
 use devices::limits::{MAX_TURNS, PULL_SIZE};
 use devices::{Source, Tap};
-use std::alloc::{AllocError, Allocator};
+use held_image::HeldImage;
+use kept_image::GatherFault;
+use std::alloc::Allocator;
 use std::fs::OpenFile;
 use std::io::Read;
-
-/// Why there are no bytes.
-#[derive(Clone, Copy)]
-pub enum ReadFault {
-    /// A read failed, or none was the last.
-    Failed,
-    /// Memory ran out.
-    Memory,
-}
-
-impl From<AllocError> for ReadFault {
-    ghost from_gives = { λ _ fault. fault ≡ Memory };
-
-    fn from(_error: AllocError) -> ReadFault {
-        ReadFault::Memory
-    }
-}
 
 /// Whether attribute trailers are read, which stand behind the images.
 #[derive(Clone, Copy)]
@@ -45,39 +29,40 @@ pub(crate) trait OfFile<F, A: Allocator>: Sized {
     ghost is_read: { Trailers → F → Self → Type 0 };
 
     /// What is read of this file, which is at its beginning.
-    fn of_file(alloc: A, file: F, trailers: Trailers) -> Result<Self, ReadFault>
+    fn of_file(alloc: A, file: F, trailers: Trailers) -> Result<Self, GatherFault>
         ensures { IfOk result (is_read trailers file) };
 }
 
-impl<F: Read + OpenFile + Drop, A: Allocator> OfFile<F, A> for Vec<u8, A> {
-    ghost use Rattle.image_files.specs.Files.{AreBytesOf};
+impl<F: Read + OpenFile + Drop, A: Allocator> OfFile<F, A> for HeldImage<A> {
+    ghost use Rattle.image_files.specs.Files.{IsWholeOf};
 
-    ghost is_read = { λ _ file. AreBytesOf (F.remaining file) };
+    ghost is_read = { λ _ file. IsWholeOf (F.remaining file) };
 
     /// All bytes, with those of the trailer.
-    fn of_file(alloc: A, file: F, _trailers: Trailers) -> Result<Vec<u8, A>, ReadFault> {
-        read_file(alloc, file)
+    fn of_file(alloc: A, file: F, _trailers: Trailers) -> Result<HeldImage<A>, GatherFault> {
+        Ok(HeldImage::Whole(read_file(alloc, file)?))
     }
 }
 
-/// All that a file has. Where it tells its length, memory is taken once.
+/// All that a file has. Where it tells its length, memory is taken once. `Unread` comes where a
+/// read fails, or where 2^40 reads meet no end.
 pub fn read_file<F: Read + OpenFile + Drop, A: Allocator>(
     alloc: A,
     file: F,
-) -> Result<Vec<u8, A>, ReadFault>
+) -> Result<Vec<u8, A>, GatherFault>
     ensures { IfOk result (AreBytesOf (F.remaining file)) }
 {
     let length = told_length(&file);
     read_all(alloc, &mut Tap::new(file), length)
 }
 
-// All that a new source has. `Failed` comes where the last pull failed, or where 2^40 pulls met no
+// All that a new source has. `Unread` comes where the last pull failed, or where 2^40 pulls met no
 // end. Memory is taken once, where the source has no more than `length` bytes.
 fn read_all<S: Source, A: Allocator>(
     alloc: A,
     source: &mut S,
     length: usize,
-) -> Result<Vec<u8, A>, ReadFault>
+) -> Result<Vec<u8, A>, GatherFault>
     requires { (S.state source.old).counts ≡ no_pulls }
     ensures bytes { IfOk result (λ bytes.
         IfSome (S.state source.old).left (λ known. bytes.items ≡ known)) }
@@ -90,10 +75,10 @@ fn read_all<S: Source, A: Allocator>(
         match source.pull(&mut room) {
             Ok(0) => return Ok(bytes),
             Ok(count) => bytes.extend_from_slice(&room[..count])?,
-            Err(_) => return Err(ReadFault::Failed),
+            Err(_) => return Err(GatherFault::Unread),
         }
     }
-    Err(ReadFault::Failed)
+    Err(GatherFault::Unread)
 }
 
 // How long a file says it is; 0 where it does not.

@@ -3,13 +3,12 @@
 //! Each image has a regular file in its root, of 32 bytes of data. Its header stands at 528, its
 //! name at 544, its data at 560; 592 bytes belong to the image.
 
-use held_image::Held;
 use held_image::read::word;
+use held_image::{Held, HeldImage};
 use image_bytes::{Contents, fill};
 use image_files::{
-    FileKind, FilesFault, ImageData, ReadFault, Trailers, apart, open_as, open_images,
+    FileKind, FilesFault, GatherFault, ImageData, Trailers, apart, open_as, open_images,
 };
-use kept_image::Kept;
 use std::alloc::{AllocError, Allocator};
 use std::fs::{self, File, Files};
 use std::os::unix::fs::FileExt;
@@ -56,7 +55,7 @@ fn word_at(image: &Held<'_>, at: usize) -> Option<u32> {
     }
 }
 
-fn look_at<F: FileExt, A: Allocator>(kept: &Kept<A>, source: &ImageData<F, A>) -> Seen {
+fn look_at<F: FileExt, A: Allocator>(kept: &HeldImage<A>, source: &ImageData<F, A>) -> Seen {
     Seen {
         name: word_at(&kept.held(), 544),
         data: word_at(&kept.held(), 560),
@@ -119,7 +118,7 @@ fn gathered(name: u8, data: u8) -> Seen {
 /// The same of several images, in their order.
 fn look_at_all<F: FileExt, A: Allocator + Copy>(
     alloc: A,
-    kept: &[Kept<A>],
+    kept: &[HeldImage<A>],
     sources: &[ImageData<F, A>],
 ) -> Result<Vec<Seen, A>, AllocError> {
     let mut all = Vec::with_capacity(alloc, kept.len())?;
@@ -160,7 +159,7 @@ fn is_unread(rt: &HostRuntime, path: &str, size: u64) -> bool {
     match fs::open(rt, path) {
         Ok(file) => {
             let opened = open_as(rt.alloc(), file, FileKind::Regular { size }, Trailers::Left);
-            matches!(opened, Err(ReadFault::Failed))
+            matches!(opened, Err(GatherFault::Unread))
         }
         Err(_) => false,
     }

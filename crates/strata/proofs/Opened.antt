@@ -1,23 +1,27 @@
 -- The images of a line. `are_sources` says of images that were taken apart what their data are read from, `no_sources` of
--- those that are read whole, `stacked_sources` that their stack has the same; `read_held` and `whole_held` that nothing is
--- where they are read whole, and `held_whole` that a stack without sources is held. `seen_as` lends their files. `one_held`
--- is the step of the loop that holds images whole; `whole_ones` and `gathered_ones` say what is held of images for a line.
+-- those that are read whole, which `all_read_whole` says are held so, `stacked_sources` that their stack has the same;
+-- `read_held` and `whole_held` that nothing is where they are read whole, and `held_whole` that a stack without sources is
+-- held. `seen_as` lends their files. `one_held` is the step of the loop that holds images whole; `whole_ones` and
+-- `gathered_ones` say what is held of images for a line.
 use Rattle.std.proofs.Common.{◌≡◌, ◌≤◌, ◌⊎◌, ◌||◌, ◌∙◌, sym, ap, subst, refl, ℕ, suc, inl, inr, true, false, true≢false, List, [], ◌∷◌, ◌++◌, append_assoc, length, map, All, Bool, Option, Some, Vec, vec_len, arith}
-use Rattle.std.specs.List.{AllByRecursion}
+use Rattle.std.specs.List.{AllByRecursion, list_all}
+use Rattle.std.proofs.lemmas.List.Sums.{list_all-from_AllPass}
 use Rattle.std.proofs.lemmas.List.Elements.{All-map, All-same, All-weaker, recursion_from_All}
 use Rattle.image_bytes.specs.Sources.{Source}
 use Rattle.image_files.specs.declared.image_data.ImageData.{ImageData}
 use Rattle.image_files.specs.declared.image_data.ImageData.TheVariants.{File, Memory}
 use Rattle.image_files.specs.declared.whole.Trailers.{Trailers}
-use Rattle.image_files.specs.declared.opening.HeldImage.{HeldImage}
-use Rattle.image_files.specs.declared.opening.HeldImage.TheVariants.{Whole}
+use Rattle.image_files.specs.declared.opening.GatheredImage.{GatheredImage}
 use Rattle.image_files.specs.Data.{known_bytes, source_of}
-use Rattle.image_files.specs.Files.{AreBytesOf, IsHeldOf, IsOfFile}
+use Rattle.held_image.specs.declared.image.HeldImage.{HeldImage}
+use Rattle.held_image.specs.declared.image.HeldImage.TheVariants.{Kept, Whole}
+use Rattle.held_image.specs.Images.{is_whole}
+use Rattle.image_files.specs.Files.{IsHeldOf, IsHeldWith, IsOfFile, IsWholeOf}
 use Rattle.image_files.specs.Opened.{Opened, AreApart, IsFaithful, WasGathered}
 use Rattle.command_line.specs.declared.options.Line.{Line}
 use Rattle.stack_model.specs.Listing.{Stacked}
 use Rattle.reply_model.specs.Readings.{Sourced, in_memory, sourced}
-use Rattle.strata.specs.Images.{AreDataOf, AreHeldFor, AreHeldWhole, ArePrepared, AreReadWhole, HaveSources, IsDataOf, sources_of, stay_in_files, trailers_of}
+use Rattle.strata.specs.Images.{AreDataOf, AreHeldFor, AreHeldWhole, ArePrepared, AreReadWhole, HaveSources, IsDataOf, gathered_as, sources_of, stay_in_files, trailers_of}
 
 -- the data of an image that is open, of which these bytes are known
 is_data : {F A : Type 0} (trailers : Trailers) (image : Opened) (file : ImageData F A) → known_bytes file ≡ image.known
@@ -43,11 +47,11 @@ are_data trailers (image ∷ images) (d ∷ files) known read faithful =
     (is_data trailers image d first read.0 faithful.0, are_data trailers images files rest read.1 faithful.1)
 
 -- the sources of images that were taken apart, of a line whose images are not read whole
-pub are_sources : {F A B C : Type 0} (line : Line) (images : List Opened) (kept : Vec (List ℕ) B) (files : Vec (ImageData F A) C)
-    (told : List (Option ℕ)) → length told ≡ vec_len line.images → (AreReadWhole line told → ⊥)
-    → All (λ (image : Opened). image.trailers ≡ trailers_of line) images → AreApart images kept.items files.items
-    → HaveSources line false kept.items (sources_of files)
-are_sources line images kept files told each left read apart =
+pub are_sources : {F A C : Type 0} (line : Line) (images : List Opened) (kept : List (List ℕ)) (files : Vec (ImageData F A) C)
+    (whole : Bool) (told : List (Option ℕ)) → length told ≡ vec_len line.images → (AreReadWhole line told → ⊥)
+    → All (λ (image : Opened). image.trailers ≡ trailers_of line) images → AreApart images kept files.items
+    → HaveSources line whole kept (sources_of files)
+are_sources line images kept files whole told each left read apart =
     let are = subst (λ held. AreDataOf (trailers_of line) held (sources_of files)) (sym apart.kept_are)
     (are_data (trailers_of line) images files.items apart.known_are
     (recursion_from_All (λ (image : Opened). image.trailers ≡ trailers_of line) images read)
@@ -60,11 +64,22 @@ are_sources line images kept files told each left read apart =
       either = inr are;
     }
 
+is_whole_of : {A : Type 0} (known : Option (List ℕ)) (held : HeldImage A) → IsWholeOf known held → is_whole held ≡ true
+is_whole_of known (Kept kept) h = absurd h
+is_whole_of known (Whole bytes) h = refl
+
+-- images that are read whole are held whole
+pub all_read_whole : {F A : Type 0} (known : F → Option (List ℕ)) (images : List (HeldImage A))
+    → All (IsOfFile (λ file. IsWholeOf (known file))) images → list_all is_whole images ≡ true
+all_read_whole known images h = list_all-from_AllPass is_whole images (All-weaker (IsOfFile (λ file. IsWholeOf (known file)))
+    (λ held. is_whole held ≡ true) (λ held of. is_whole_of (known of.file) held of.read) images h)
+
 -- the data of images that are read whole are read from nothing
-pub no_sources : {F A B : Type 0} (line : Line) (images : List (List ℕ)) (files : Vec (ImageData F A) B) (told : List (Option ℕ))
-    → length told ≡ vec_len line.images → AreReadWhole line told → files.items ≡ [] → HaveSources line true images (sources_of files)
-no_sources line images files told each all none =
-    let held : AreHeldWhole true (sources_of files) = (refl, ap (map source_of) none) in
+pub no_sources : {F A B : Type 0} (line : Line) (whole : Bool) (images : List (List ℕ)) (files : Vec (ImageData F A) B)
+    (told : List (Option ℕ)) → length told ≡ vec_len line.images → AreReadWhole line told → whole ≡ true → files.items ≡ []
+    → HaveSources line whole images (sources_of files)
+no_sources line whole images files told each all is none =
+    let held : AreHeldWhole whole (sources_of files) = (is, ap (map source_of) none) in
     record {
       told = told;
       each = each;
@@ -148,16 +163,23 @@ pub one_held : {X Y : Type 0} (w : Y → X) (all done : List X) (left rest : Lis
 one_held w all done left rest y e l =
     e ∙ ap (λ ys. done ++ map w ys) l ∙ sym (append_assoc done (w y ∷ []) (map w rest))
 
+held_with : {A : Type 0} (known : Option (List ℕ)) (trailers its : Trailers) (held : HeldImage A) → IsWholeOf known held
+    → IsHeldWith known trailers its held
+held_with known trailers its (Kept kept) h = absurd h
+held_with known trailers its (Whole bytes) h = h
+
 -- images that are held whole are held so for any line
-pub whole_ones : {F A : Type 0} (line : Line) (known : F → Option (List ℕ)) (images : List (Vec ℕ A)) (held : List (HeldImage A))
-    → held ≡ map Whole images → All (IsOfFile (λ file. AreBytesOf (known file))) images → AreHeldFor line known held
-whole_ones line known images held e h =
+pub whole_ones : {F A : Type 0} (line : Line) (known : F → Option (List ℕ)) (its : Trailers) (images : List (HeldImage A))
+    (gathered : List (GatheredImage A)) → gathered ≡ map (gathered_as its) images
+    → All (IsOfFile (λ file. IsWholeOf (known file))) images → AreHeldFor line known gathered
+whole_ones line known its images gathered e h =
     let is = IsOfFile (λ file. IsHeldOf (known file) (trailers_of line)) in
-    All-same is held (map Whole images) e (All-map is Whole images (All-weaker (IsOfFile (λ file. AreBytesOf (known file)))
-    (λ bytes. is (Whole bytes)) (λ bytes of. record { file = of.file; read = of.read }) images h))
+    All-same is gathered (map (gathered_as its) images) e (All-map is (gathered_as its) images
+    (All-weaker (IsOfFile (λ file. IsWholeOf (known file))) (λ held. is (gathered_as its held))
+    (λ held of. record { file = of.file; read = held_with (known of.file) (trailers_of line) its held of.read }) images h))
 
 -- images that are gathered with the trailers that a line asks for are held for it
-pub gathered_ones : {F A : Type 0} (line : Line) (known : F → Option (List ℕ)) (images : List (HeldImage A)) (trailers : Trailers)
+pub gathered_ones : {F A : Type 0} (line : Line) (known : F → Option (List ℕ)) (images : List (GatheredImage A)) (trailers : Trailers)
     → trailers ≡ trailers_of line → All (IsOfFile (λ file. IsHeldOf (known file) trailers)) images → AreHeldFor line known images
 gathered_ones line known images trailers e h = subst (λ these. All (IsOfFile (λ file. IsHeldOf (known file) these)) images) e h
 

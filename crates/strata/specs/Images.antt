@@ -8,16 +8,15 @@ use Rattle.image_bytes.specs.Sources.{Source, held, unknown}
 use Rattle.image_files.specs.declared.image_data.ImageData.{ImageData}
 use Rattle.image_files.specs.declared.whole.Trailers.{Trailers}
 use Rattle.image_files.specs.declared.whole.Trailers.TheVariants.{Read, Left}
-use Rattle.image_files.specs.declared.opening.HeldImage.{HeldImage}
+use Rattle.image_files.specs.declared.opening.GatheredImage.{GatheredImage}
 use Rattle.image_files.specs.Data.{source_of}
 use Rattle.image_files.specs.Files.{IsHeldOf, IsOfFile}
 use Rattle.image_files.specs.Opened.{WasGathered}
-use Rattle.stack_prepare.specs.Layers.{contents_of}
+use Rattle.held_image.specs.declared.image.HeldImage.{HeldImage}
+use Rattle.stack_prepare.specs.Layers.{held_contents, are_whole as all_held_whole}
 use Rattle.stack_prepare.specs.Preparing.{AreStacked}
 use Rattle.reply_model.specs.Readings.{Sourced}
 use Rattle.command_line.specs.declared.options.Line.{Line}
-use Rattle.strata.specs.declared.images.HeldImages.{HeldImages}
-use Rattle.strata.specs.declared.images.HeldImages.TheVariants.{Whole, Kept}
 
 -- the rules that a line holds images to, and whether their attributes are read
 abbrev pub profile_of : Line → Profile
@@ -34,19 +33,21 @@ NamesAsMany line images = length images ≡ vec_len line.images
 -- this is held of the images of a line, each of which was read of some file: all its bytes, those
 -- that are known of it; or what the rules look at, with the trailer where the line asks for
 -- attributes
-abbrev pub AreHeldFor : {F A : Type 0} → Line → (F → Option (List ℕ)) → List (HeldImage A) → Type 0
+abbrev pub AreHeldFor : {F A : Type 0} → Line → (F → Option (List ℕ)) → List (GatheredImage A) → Type 0
 AreHeldFor line known images =
     All (IsOfFile (λ file. IsHeldOf (known file) (trailers_of line))) images
 
 -- the bytes that are held of images
-abbrev pub bytes_of : {A : Type 0} → HeldImages A → List (List ℕ)
-bytes_of (Whole images) = contents_of images
-bytes_of (Kept images) = images.items
+abbrev pub bytes_of : {A B : Type 0} → Vec (HeldImage A) B → List (List ℕ)
+bytes_of images = held_contents images
 
 -- whether all bytes of images are held
-abbrev pub are_whole : {A : Type 0} → HeldImages A → Bool
-are_whole (Whole images) = true
-are_whole (Kept images) = false
+abbrev pub are_whole : {A B : Type 0} → Vec (HeldImage A) B → Bool
+are_whole images = all_held_whole images.items
+
+-- what is held of an image whose file was let go, with its trailer or without
+abbrev pub gathered_as : {A : Type 0} → Trailers → HeldImage A → GatheredImage A
+gathered_as trailers held = record { held = held; trailers = trailers }
 
 -- what reads of the data of images may give
 abbrev pub sources_of : {F A B : Type 0} → Vec (ImageData F A) B → List Source

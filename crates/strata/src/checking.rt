@@ -4,7 +4,8 @@ ghost use Rattle.std.specs.Prelude.{◌≡◌, ◌<◌, ◌^◌, length, string_
 ghost use Rattle.romfs_format.specs.Fields.{image};
 ghost use Rattle.romfs_format.specs.Rules.{IsSound};
 ghost use Rattle.romfs_check.specs.Refusals.{IsRefusal};
-ghost use Rattle.image_files.specs.Opening.{held_bytes, held_contents};
+ghost use Rattle.held_image.specs.Images.{held_bytes};
+ghost use Rattle.image_files.specs.Opening.{gathered_bytes, gathered_contents};
 ghost use Rattle.strata.specs.Faults.{AreSizes, IsFirstFault, IsImageFault};
 ghost use Rattle.strata.specs.Texts.{size_lines};
 ghost use Rattle.strata.specs.Ending.{AreGood, AreNotGood};
@@ -12,8 +13,8 @@ ghost use Rattle.strata.specs.Ending.{AreGood, AreNotGood};
 use crate::faults::Fault;
 use crate::lines::put_lines;
 use devices::Sink;
-use image_files::HeldImage;
-use romfs_check::{Check, CheckFault, Image, Profile, check_kept};
+use image_files::GatheredImage;
+use romfs_check::{Check, CheckFault, HeldImage, Image, Profile, check_held};
 use std::alloc::{AllocError, Allocator};
 use std::io::Write;
 
@@ -21,14 +22,14 @@ use std::io::Write;
 /// Else nothing is put.
 pub fn check<A: Allocator + Copy, K: Sink>(
     alloc: A,
-    images: Vec<HeldImage<A>, A>,
+    images: Vec<GatheredImage<A>, A>,
     profile: Profile,
     output: &mut K,
 ) -> Result<(), Fault>
     requires { (K.state output.old).counts.failures < 2 ^ 63 }
-    ensures done { OnOk result (AreGood profile (held_contents images)
+    ensures done { OnOk result (AreGood profile (gathered_contents images)
         (K.state output.old) (K.state output.new)) }
-    ensures stopped { IfErr result (λ fault. AreNotGood profile (held_contents images) fault
+    ensures stopped { IfErr result (λ fault. AreNotGood profile (gathered_contents images) fault
         (K.state output.old) (K.state output.new)) }
 {
     let sizes = checked_sizes(alloc, images, profile)?;
@@ -51,11 +52,11 @@ fn lines_of<A: Allocator>(alloc: A, sizes: &[u32]) -> Result<String<A>, AllocErr
 // first that is not.
 fn checked_sizes<A: Allocator + Copy>(
     alloc: A,
-    images: Vec<HeldImage<A>, A>,
+    images: Vec<GatheredImage<A>, A>,
     profile: Profile,
 ) -> Result<Vec<u32, A>, Fault>
-    ensures ok { IfOk result (λ sizes. AreSizes profile (held_contents images) sizes.items) }
-    ensures err { IfErr result (λ fault. IsFirstFault profile (held_contents images) fault) }
+    ensures ok { IfOk result (λ sizes. AreSizes profile (gathered_contents images) sizes.items) }
+    ensures err { IfErr result (λ fault. IsFirstFault profile (gathered_contents images) fault) }
 {
     let mut sizes = Vec::with_capacity(alloc, images.len())?;
     for held in images {
@@ -69,14 +70,14 @@ fn checked_sizes<A: Allocator + Copy>(
 fn checked_size<A: Allocator + Copy>(
     alloc: A,
     number: u64,
-    held: HeldImage<A>,
+    held: GatheredImage<A>,
     profile: Profile,
 ) -> Result<u32, Fault>
-    ensures ok { IfOk result (λ full. (full ≡ length (image (held_bytes held)))
-        × IsSound profile (held_bytes held)) }
-    ensures err { IfErr result (λ fault. IsImageFault profile number (held_bytes held) fault) }
+    ensures ok { IfOk result (λ full. (full ≡ length (image (gathered_bytes held)))
+        × IsSound profile (gathered_bytes held)) }
+    ensures err { IfErr result (λ fault. IsImageFault profile number (gathered_bytes held) fault) }
 {
-    match full_size(alloc, held, profile) {
+    match full_size(alloc, held.held, profile) {
         Ok(full) => Ok(full),
         Err(CheckFault::Broken(fault)) => Err(Fault::Broken {
             image: number,
@@ -97,8 +98,8 @@ fn full_size<A: Allocator + Copy>(
     ensures err { IfErr result (IsRefusal profile (held_bytes held)) }
 {
     match held {
-        HeldImage::Kept { image: kept, .. } => {
-            let (image, _rows) = check_kept(alloc, kept, profile)?;
+        HeldImage::Kept(kept) => {
+            let (image, _rows) = check_held(alloc, HeldImage::Kept(kept), profile)?;
             Ok(image.full())
         }
         HeldImage::Whole(bytes) => Ok(Image::check_as(alloc, bytes, profile)?.full()),

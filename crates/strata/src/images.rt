@@ -1,14 +1,15 @@
 //! The images of a line, as they are read: whole, or what the rules look at.
 
 ghost use Rattle.std.specs.Prelude.{◌≡◌, ◌↔◌, ℕ, List, Option, length, map, vec_len, IfOk, IfErr, IsTrue};
-ghost use Rattle.image_files.specs.declared.opening.HeldImage.TheVariants.{Whole};
 ghost use Rattle.strata.specs.Faults.{AreUnread};
-ghost use Rattle.strata.specs.Images.{AreHeldFor, AreReadWhole, AreSmall, NamesAsMany, HaveSources, are_whole, bytes_of, sources_of, trailers_of};
+ghost use Rattle.strata.specs.Images.{AreHeldFor, AreReadWhole, AreSmall, NamesAsMany, HaveSources, are_whole, bytes_of, gathered_as, sources_of, trailers_of};
 
 use crate::faults::Fault;
 use command_line::Line;
-use held_image::Kept;
-use image_files::{HeldImage, ImageData, Trailers, apart, gather_images, open_images, read_images};
+use held_image::HeldImage;
+use image_files::{
+    GatheredImage, ImageData, Trailers, apart, gather_images, open_images, read_images,
+};
 use std::alloc::{AllocError, Allocator};
 use std::fs;
 use std::fs::Files;
@@ -19,20 +20,11 @@ use std::thread::Threads;
 /// takes less time than to gather what the rules look at.
 const SMALL_STACK: u64 = 32 << 20;
 
-/// What is held of images, the lowest layer first.
-#[derive(Drop)]
-pub enum HeldImages<A: Allocator> {
-    /// All bytes of each.
-    Whole(Vec<Vec<u8, A>, A>),
-    /// Of each what the rules look at.
-    Kept(Vec<Kept<A>, A>),
-}
-
-/// The images of a line: what is held of them, and what the data of each are read from, where they
-/// are not held whole.
+/// The images of a line, the lowest layer first: what is held of them, and what the data of each are
+/// read from, where they are not held whole.
 #[derive(Drop)]
 pub struct LineImages<F, A: Allocator> {
-    pub held: HeldImages<A>,
+    pub held: Vec<HeldImage<A>, A>,
     pub files: Vec<ImageData<F, A>, A>,
 }
 
@@ -55,18 +47,14 @@ where
 {
     let paths = line.images.as_slice();
     if are_read_whole(rt, line) {
-        let images = read_images(rt, alloc, paths)?;
         return Ok(LineImages {
-            held: HeldImages::Whole(images),
+            held: read_images(rt, alloc, paths)?,
             files: Vec::new(alloc),
         });
     }
     let images = open_images(rt, alloc, paths, trailers_of(line))?;
-    let (kept, files) = apart(alloc, images)?;
-    Ok(LineImages {
-        held: HeldImages::Kept(kept),
-        files,
-    })
+    let (held, files) = apart(alloc, images)?;
+    Ok(LineImages { held, files })
 }
 
 /// What is held of the images of a line that checks, none of which stays open. They are read whole
@@ -75,7 +63,7 @@ pub fn gather_all<R: Files + Threads + Sync, A: Allocator + Copy + Send + Sync>(
     rt: &R,
     alloc: A,
     line: &Line<'_>,
-) -> Result<Vec<HeldImage<A>, A>, Fault>
+) -> Result<Vec<GatheredImage<A>, A>, Fault>
 where
     R::File: FileExt + Send,
     R::Dir: Send,
@@ -85,25 +73,27 @@ where
     ensures err { IfErr result (AreUnread (vec_len line.now.images)) }
 {
     let paths = line.images.as_slice();
+    let trailers = trailers_of(line);
     if are_read_whole(rt, line) {
         let images = read_images(rt, alloc, paths)?;
-        return Ok(all_whole(alloc, images)?);
+        return Ok(let_go(alloc, images, trailers)?);
     }
-    Ok(gather_images(rt, alloc, paths, trailers_of(line))?)
+    Ok(gather_images(rt, alloc, paths, trailers)?)
 }
 
-// Images that are held whole.
-fn all_whole<A: Allocator + Copy>(
+// Images without their files.
+fn let_go<A: Allocator + Copy>(
     alloc: A,
-    images: Vec<Vec<u8, A>, A>,
-) -> Result<Vec<HeldImage<A>, A>, AllocError>
-    ensures { IfOk result (λ held. held.items ≡ map Whole images.items) }
+    images: Vec<HeldImage<A>, A>,
+    trailers: Trailers,
+) -> Result<Vec<GatheredImage<A>, A>, AllocError>
+    ensures { IfOk result (λ gathered. gathered.items ≡ map (gathered_as trailers) images.items) }
 {
-    let mut held = Vec::with_capacity(alloc, images.len())?;
-    for bytes in images {
-        held.push(HeldImage::Whole(bytes))?;
+    let mut gathered = Vec::with_capacity(alloc, images.len())?;
+    for held in images {
+        gathered.push(GatheredImage { held, trailers })?;
     }
-    Ok(held)
+    Ok(gathered)
 }
 
 // Whether the images of a line are read whole: where it asks for that; and where they are small

@@ -25,8 +25,8 @@ ghost use Rattle.strata.specs.Readers.{status_of_end};
 ghost use Rattle.serve_core.specs.declared.stop.Stop.{Stop};
 ghost use Rattle.device_readers.specs.Ends.{end_of_stop};
 ghost use Rattle.image_files.specs.Opened.{WasGathered};
-ghost use Rattle.image_files.specs.Opening.{IsHeldWhole, held_bytes};
-ghost use Rattle.image_files.specs.declared.opening.HeldImage.{HeldImage};
+ghost use Rattle.image_files.specs.Opening.{IsHeldWhole, gathered_bytes};
+ghost use Rattle.image_files.specs.declared.opening.GatheredImage.{GatheredImage};
 ghost use Rattle.romfs_check.specs.declared.refusal.CheckFault.{CheckFault};
 ghost use Rattle.romfs_check.specs.Refusals.{IsRefusal};
 ghost use Rattle.romfs_format.specs.Profiles.{asks_sums, reads_attributes};
@@ -174,10 +174,10 @@ pub fn opened_images_are_judged_as_their_data()
 /// file are, where these are known.
 #[tactic(auto, using(crate::proofs::Rules::judged_whole))]
 pub fn whole_images_are_judged_as_their_files<A: Allocator>()
-    ensures { (line : Line) (bytes : List ℕ) (image : HeldImage A) →
+    ensures { (line : Line) (bytes : List ℕ) (image : GatheredImage A) →
         IsHeldWhole (Some bytes) image →
-        (IsSound (profile_of line) (held_bytes image) ↔ IsSound (profile_of line) bytes)
-        × ((fault : CheckFault) → IsRefusal (profile_of line) (held_bytes image) fault
+        (IsSound (profile_of line) (gathered_bytes image) ↔ IsSound (profile_of line) bytes)
+        × ((fault : CheckFault) → IsRefusal (profile_of line) (gathered_bytes image) fault
         ↔ IsRefusal (profile_of line) bytes fault) }
 {}
 

@@ -1,6 +1,6 @@
 use Rattle.std.proofs.Common.{◌∙◌}
 use Rattle.std.proofs.lemmas.Result.{IfOk-from_err}
-use Rattle.image_files.specs.Opening.{held_bytes}
+use Rattle.image_files.specs.Opening.{gathered_bytes}
 use Rattle.strata.proofs.Sizes.{first_refused, none_sized, one_more}
 use Rattle.strata.proofs.checking.checked_sizes.Goals as goal
 
@@ -9,7 +9,7 @@ loop-held-init g c = record {
   can_next = tt;
   is_finite = tt;
   done = rw (c.in_ok-sizes.ensures.items, c.into_iter-held-iterator.ensures.into_iter_gives.0)
-      (none_sized held_bytes c.args.profile c.args.images.items);
+      (none_sized gathered_bytes c.args.profile c.args.images.items);
 }
 
 pub loop-held-preserved : goal.loop-held-preserved

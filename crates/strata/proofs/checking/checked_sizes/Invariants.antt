@@ -1,6 +1,6 @@
 use Rattle.std.proofs.Common.{map}
 use Rattle.std.specs.Vec.Iter.{into_iter_items}
-use Rattle.image_files.specs.Opening.{held_bytes}
+use Rattle.image_files.specs.Opening.{gathered_bytes}
 use Rattle.strata.proofs.Sizes.{AreSized}
 use Rattle.strata.proofs.checking.checked_sizes.Given as goal
 
@@ -9,6 +9,6 @@ abbrev pub invariant-loop-held : goal.invariant-loop-held
 invariant-loop-held g l = record {
   can_next : (goal.iterator-loop-held g).can_next l.held-iterator;
   is_finite : (goal.iterator-loop-held g).is_finite l.held-iterator;
-  done : AreSized held_bytes l.fn.profile (map held_bytes l.fn.images.items)
+  done : AreSized gathered_bytes l.fn.profile (map gathered_bytes l.fn.images.items)
       (into_iter_items l.held-iterator) l.sizes.items;
 }
