@@ -1,6 +1,6 @@
 -- What a line asks for, and what follows from it: its profile (`asks`, `reads`), how its images are judged (`judged`,
 -- `judged_whole`), and with which status its readers end (`ends_alike`).
-use Rattle.std.proofs.Common.{◌≡◌, ◌∙◌, sym, subst, refl, ℕ, ◌↔◌, List, Bool, true, false, true≢false, Some, if◌then◌else◌}
+use Rattle.std.proofs.Common.{◌≡◌, ◌∙◌, sym, subst, refl, ℕ, ◌↔◌, ◌||◌, List, Bool, true, false, true≢false, Some, if◌then◌else◌}
 use Rattle.romfs_format.specs.declared.rule.Profile.{Profile}
 use Rattle.romfs_format.specs.Profiles.{asks_sums, profile_with, reads_attributes}
 use Rattle.romfs_format.specs.Rules.{IsSound}
@@ -20,7 +20,7 @@ use Rattle.serve_core.specs.declared.stop.Stop.{Stop}
 use Rattle.serve_core.specs.declared.stop.Stop.TheVariants as stops
 use Rattle.device_readers.specs.Ends.{end_of_stop}
 use Rattle.strata.specs.declared.faults.Fault.TheVariants.{Stopped}
-use Rattle.strata.specs.Images.{profile_of, trailers_of}
+use Rattle.strata.specs.Images.{asks_attributes, profile_of, tells_trailers, trailers_of}
 use Rattle.strata.specs.Mounts.{status_on_device}
 use Rattle.strata.specs.Readers.{status_of_end}
 
@@ -37,26 +37,27 @@ attributes_of false true = refl
 attributes_of false false = refl
 
 pub asks : (line : Line) → asks_sums (profile_of line) ≡ line.strict
-asks line = sums_of line.strict line.attributes
+asks line = sums_of line.strict (asks_attributes line)
 
-pub reads : (line : Line) → reads_attributes (profile_of line) ≡ line.attributes
-reads line = attributes_of line.strict line.attributes
+pub reads : (line : Line) → reads_attributes (profile_of line) ≡ asks_attributes line
+reads line = attributes_of line.strict (asks_attributes line)
 
 abbrev IsJudged : Profile → List ℕ → List ℕ → Type 0
 IsJudged profile bytes image =
     (IsSound profile image ↔ IsSound profile bytes)
     × ((fault : CheckFault) → IsRefusal profile image fault ↔ IsRefusal profile bytes fault)
 
-judged_by : (sums attributes : Bool) (bytes image : List ℕ) → WasGathered (if attributes then Read else Left) (Some bytes) image
-    → IsJudged (profile_with sums attributes) bytes image
-judged_by sums true bytes image g = (let j = judged_with_trailer (profile_with sums true) bytes image g in (j.0, j.1))
-judged_by sums false bytes image g =
+judged_by : (sums attributes tells : Bool) (bytes image : List ℕ)
+    → WasGathered (if attributes || tells then Read else Left) (Some bytes) image → IsJudged (profile_with sums attributes) bytes image
+judged_by sums true tells bytes image g = (let j = judged_with_trailer (profile_with sums true) bytes image g in (j.0, j.1))
+judged_by sums false true bytes image g = (let j = judged_with_trailer (profile_with sums false) bytes image g in (j.0, j.1))
+judged_by sums false false bytes image g =
     judged_alike (profile_with sums false) (λ yes. true≢false (sym (yes) ∙ attributes_of sums false)) bytes image g
 
 -- what is kept of an image is judged as its data are
 pub judged : (line : Line) (bytes image : List ℕ) → WasGathered (trailers_of line) (Some bytes) image
     → IsJudged (profile_of line) bytes image
-judged line bytes image g = judged_by line.strict line.attributes bytes image g
+judged line bytes image g = judged_by line.strict (asks_attributes line) (tells_trailers line.verb) bytes image g
 
 -- an image that is held whole is judged as its file is
 judged_held : {A : Type 0} (line : Line) (bytes : List ℕ) (held : HeldImage A) → IsWholeOf (Some bytes) held

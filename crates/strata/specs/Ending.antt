@@ -1,5 +1,5 @@
 -- What a command leaves behind: its status, and what its output gained.
-use Rattle.std.specs.Prelude.{◌≡◌, ◌≢◌, ◌<◌, ◌+◌, ◌⊎◌, ◌||◌, ℕ, List, true, Option, Some, None, is_some, vec_len, Result, Ok, Err, OnOk, if◌then◌else◌}
+use Rattle.std.specs.Prelude.{◌≡◌, ◌≢◌, ◌<◌, ◌≤◌, ◌+◌, ◌⊎◌, ◌||◌, ℕ, List, length, true, Option, Some, None, is_some, vec_len, Result, Ok, Err, OnOk, if◌then◌else◌}
 use Rattle.std.specs.Io.KnownBytes.{Appends, Consumes, IsAtEnd}
 use Rattle.romfs_format.specs.declared.rule.Profile.{Profile}
 use Rattle.node_attr.specs.declared.owner.TheConstants.Owner.{ROOT}
@@ -8,6 +8,8 @@ use Rattle.devices.specs.Pushing.{HasFlushed, GainsFront}
 use Rattle.devices.specs.States.{SourceState, SinkState, Devices}
 use Rattle.stack_model.specs.Listing.{Stacked}
 use Rattle.serve_core.specs.declared.stop.Stop.{Stop}
+use Rattle.serve_core.specs.declared.stop.Stop.TheVariants.{Layers}
+use Rattle.stack_model.specs.declared.limits.TheConstants.{MAX_LAYERS}
 use Rattle.serve_loop.specs.declared.done.Done.{Done}
 use Rattle.stack_prepare.specs.declared.refusal.Refusal.{Refusal}
 use Rattle.stack_prepare.specs.Layers.{AreRefused}
@@ -82,24 +84,40 @@ pub record TellsVersion (status : ℕ) (old new : SinkState) : Type 0 where
 
 -- ---- check
 
+-- images keep the rules of a line, and these are their sizes; where it asks for what a mount
+-- accepts, there are at most 128
+pub record AreAccepted (line : Line) (images : List (List ℕ)) (sizes : List ℕ) : Type 0 where
+  pub sizes_are : AreSizes (profile_of line) images sizes
+  pub few : line.as_mounted ≡ true → length images ≤ MAX_LAYERS
+
+-- a line asks for what a mount accepts, and has more images
+pub record AreTooMany (line : Line) (images : List (List ℕ)) (fault : Fault) : Type 0 where
+  pub asked : line.as_mounted ≡ true
+  pub many : MAX_LAYERS < length images
+  pub told : fault ≡ Stopped (Layers (length images))
+
 -- these images are good, and the output gained a line with the size of each, and was flushed
-pub record AreGood (profile : Profile) (images : List (List ℕ)) (old new : SinkState) : Type 0 where
+pub record AreGood (line : Line) (images : List (List ℕ)) (old new : SinkState) : Type 0 where
   pub sizes : List ℕ
-  pub sizes_are : AreSizes profile images sizes
+  pub accepted : AreAccepted line images sizes
   pub put : ArePut (size_lines 0 sizes) old new
 
 -- these images are good, but the output failed as it took the lines of their sizes
-pub record AreUntold (profile : Profile) (images : List (List ℕ)) (fault : Fault)
+pub record AreUntold (line : Line) (images : List (List ℕ)) (fault : Fault)
     (old new : SinkState) : Type 0 where
   pub sizes : List ℕ
-  pub sizes_are : AreSizes profile images sizes
+  pub accepted : AreAccepted line images sizes
   pub lost : IsLost fault (size_lines 0 sizes) old new
 
--- a check stopped: one of the images is to blame or memory ran out, and the output is as it was; or
--- the output failed
-abbrev pub AreNotGood : Profile → List (List ℕ) → Fault → SinkState → SinkState → Type 0
-AreNotGood profile images fault old new =
-    (IsFirstFault profile images fault × (new ≡ old)) ⊎ AreUntold profile images fault old new
+-- one of the images is to blame, or their number, or memory ran out
+abbrev pub AreNotAccepted : Line → List (List ℕ) → Fault → Type 0
+AreNotAccepted line images fault =
+    IsFirstFault (profile_of line) images fault ⊎ AreTooMany line images fault
+
+-- a check stopped: for the images or memory, and the output is as it was; or the output failed
+abbrev pub AreNotGood : Line → List (List ℕ) → Fault → SinkState → SinkState → Type 0
+AreNotGood line images fault old new =
+    (AreNotAccepted line images fault × (new ≡ old)) ⊎ AreUntold line images fault old new
 
 -- ---- list
 
@@ -254,7 +272,7 @@ IsDoneOver A verbs.Serve line images old new = IsServedWhole A line images old n
 IsDoneOver A verbs.Socket line images old new =
     (new ≡ old) × IsServedAtSocket A line images None
 IsDoneOver A verbs.Check line images old new =
-    (new.source ≡ old.source) × AreGood (profile_of line) images old.sink new.sink
+    (new.source ≡ old.source) × AreGood line images old.sink new.sink
 IsDoneOver A verbs.List line images old new =
     (new.source ≡ old.source) × IsStackListed (profile_of line) images old.sink new.sink
 
@@ -265,7 +283,7 @@ IsStoppedOver A verbs.Serve line images fault old new = IsNotServed A line image
 IsStoppedOver A verbs.Socket line images fault old new =
     (new ≡ old) × IsNotServedAtSocket A line images fault
 IsStoppedOver A verbs.Check line images fault old new =
-    (new.source ≡ old.source) × AreNotGood (profile_of line) images fault old.sink new.sink
+    (new.source ≡ old.source) × AreNotGood line images fault old.sink new.sink
 IsStoppedOver A verbs.List line images fault old new =
     (new.source ≡ old.source) × IsNotListed (profile_of line) images fault old.sink new.sink
 

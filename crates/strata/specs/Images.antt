@@ -17,14 +17,27 @@ use Rattle.stack_prepare.specs.Layers.{held_contents, are_whole as all_held_whol
 use Rattle.stack_prepare.specs.Preparing.{AreStacked}
 use Rattle.reply_model.specs.Readings.{Sourced}
 use Rattle.command_line.specs.declared.options.Line.{Line}
+use Rattle.command_line.specs.declared.options.Verb.{Verb}
+use Rattle.command_line.specs.declared.options.Verb.TheVariants as verbs
+
+-- whether a line asks for attributes, by themselves or as a mount does
+abbrev pub asks_attributes : Line → Bool
+asks_attributes line = line.attributes || line.as_mounted
 
 -- the rules that a line holds images to, and whether their attributes are read
 abbrev pub profile_of : Line → Profile
-profile_of line = profile_with line.strict line.attributes
+profile_of line = profile_with line.strict (asks_attributes line)
 
--- whether the trailers of its images are read
+-- whether a command says which images have a trailer
+abbrev pub tells_trailers : Verb → Bool
+tells_trailers verbs.Serve = false
+tells_trailers verbs.Socket = false
+tells_trailers verbs.Check = true
+tells_trailers verbs.List = true
+
+-- whether the trailers of its images are read: where it asks for attributes, or says of them
 abbrev pub trailers_of : Line → Trailers
-trailers_of line = if line.attributes then Read else Left
+trailers_of line = if asks_attributes line || tells_trailers line.verb then Read else Left
 
 -- as many images as the line names
 abbrev pub NamesAsMany : Line → List (List ℕ) → Type 0

@@ -1,11 +1,15 @@
 -- What the program prints.
-use Rattle.std.specs.Prelude.{ℕ, ◌+◌, ◌-◌, ℤ, List, [], ◌∷◌, ◌++◌, length, replicate, codes, string_bytes, false}
+use Rattle.std.specs.Prelude.{ℕ, ◌+◌, ◌-◌, ◌&&◌, ℤ, Bool, List, [], ◌∷◌, ◌++◌, length, nat_le, replicate, codes, string_bytes, false, if◌then◌else◌}
 use Rattle.std.specs.Fmt.{decimal, digits, signed_decimal}
 use Rattle.command_line.specs.declared.version.TheConstants.{LOGIC, VERSION}
 use Rattle.romfs_format.specs.declared.rule.ImageFault.{ImageFault}
 use Rattle.romfs_format.specs.Texts.{text_of}
+use Rattle.romfs_format.specs.Trailer.{has_trailer}
+use Rattle.romfs_format.specs.declared.limits.TheConstants.{HEAD_SIZE}
+use Rattle.command_line.specs.declared.options.Line.{Line}
 use Rattle.serve_core.specs.declared.stop.Stop.{Stop}
 use Rattle.serve_core.specs.declared.stop.Stop.TheVariants.{Layer, Layers, BadLength, CutOff, Read, Write, Turns, Memory}
+use Rattle.strata.specs.Images.{asks_attributes}
 use Rattle.strata.specs.declared.faults.Fault.{Fault}
 use Rattle.strata.specs.declared.faults.Fault.TheVariants.{Usage, ImageFile, RequestsFile, RepliesFile, BalancesFile, Bind, Accept, Broken, InSession, Stopped}
 
@@ -63,6 +67,23 @@ size_line layer size =
 -- the lines of images that were checked, numbered from this one on
 abbrev pub size_lines : ℕ → List ℕ → List ℕ
 size_lines = numbered_lines size_line
+
+-- an image has room for a volume header, and has a trailer
+abbrev pub shows_trailer : List ℕ → Bool
+shows_trailer b = nat_le HEAD_SIZE (length b) && has_trailer b
+
+-- the line of an image whose trailer was not asked for; none of an image without one
+abbrev pub trailer_line : ℕ → List ℕ → List ℕ
+trailer_line layer b = if shows_trailer b
+    then codes "layer " ++ (decimal layer ++ codes ": attributes not read\n") else []
+
+-- those of images
+abbrev pub trailer_lines : List (List ℕ) → List ℕ
+trailer_lines = numbered_lines trailer_line 0
+
+-- those of the images of a line: none where it asks for attributes
+abbrev pub unread_lines : Line → List (List ℕ) → List ℕ
+unread_lines line images = if asks_attributes line then [] else trailer_lines images
 
 -- the line of a node's balance: its number, and how many lookups it was given and did not lose
 abbrev pub balance_line : ℕ → ℤ → List ℕ

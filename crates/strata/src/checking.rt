@@ -7,34 +7,48 @@ ghost use Rattle.romfs_check.specs.Refusals.{IsRefusal};
 ghost use Rattle.held_image.specs.Images.{held_bytes};
 ghost use Rattle.image_files.specs.Opening.{gathered_bytes, gathered_contents};
 ghost use Rattle.strata.specs.Faults.{AreSizes, IsFirstFault, IsImageFault};
-ghost use Rattle.strata.specs.Texts.{size_lines};
-ghost use Rattle.strata.specs.Ending.{AreGood, AreNotGood};
+ghost use Rattle.devices.specs.Pushing.{GainsFront};
+ghost use Rattle.strata.specs.Texts.{size_lines, unread_lines};
+ghost use Rattle.strata.specs.Ending.{AreAccepted, AreGood, AreNotAccepted, AreNotGood};
 
 use crate::faults::Fault;
-use crate::lines::put_lines;
+use crate::lines::{put_lines, write_bytes};
+use crate::settings::profile_of;
+use crate::trailers::unread_lines;
+use command_line::Line;
 use devices::Sink;
 use image_files::GatheredImage;
 use romfs_check::{Check, CheckFault, HeldImage, Image, Profile, check_held};
+use serve_core::Stop;
+use stack_model::limits::MAX_LAYERS;
 use std::alloc::{AllocError, Allocator};
-use std::io::Write;
+use std::fmt::Write;
+use std::io;
 
-/// Checks the images in order, by what is held of them, and puts a line for each if all are good.
-/// Else nothing is put.
-pub fn check<A: Allocator + Copy, K: Sink>(
+/// Checks the images in order, by what is held of them, and puts a line for each if all are good,
+/// and then notes those with a trailer that the line does not ask for. Else nothing is put.
+pub fn check<A: Allocator + Copy, K: Sink, E: io::Write>(
     alloc: A,
+    line: &Line<'_>,
     images: Vec<GatheredImage<A>, A>,
-    profile: Profile,
     output: &mut K,
+    notes: &mut E,
 ) -> Result<(), Fault>
     requires { (K.state output.old).counts.failures < 2 ^ 63 }
-    ensures done { OnOk result (AreGood profile (gathered_contents images)
+    ensures done { OnOk result (AreGood line.now (gathered_contents images)
         (K.state output.old) (K.state output.new)) }
-    ensures stopped { IfErr result (λ fault. AreNotGood profile (gathered_contents images) fault
+    ensures stopped { IfErr result (λ fault. AreNotGood line.now (gathered_contents images) fault
         (K.state output.old) (K.state output.new)) }
+    ensures noted { OnOk result (GainsFront (unread_lines line.now (gathered_contents images))
+        (E.contents notes.old) (E.contents notes.new)) }
+    ensures unnoted { IfErr result (λ _. E.contents notes.new ≡ E.contents notes.old) }
 {
-    let sizes = checked_sizes(alloc, images, profile)?;
+    let unread = unread_lines(alloc, line, images.as_slice())?;
+    let sizes = accepted_sizes(alloc, line, images)?;
     let lines = lines_of(alloc, sizes.as_slice())?;
-    put_lines(output, lines.as_bytes())
+    put_lines(output, lines.as_bytes())?;
+    let _ = write_bytes(notes, unread.as_bytes());
+    Ok(())
 }
 
 // A line for each of these sizes in bytes, by the number of its image.
@@ -46,6 +60,25 @@ fn lines_of<A: Allocator>(alloc: A, sizes: &[u32]) -> Result<String<A>, AllocErr
         writeln!(lines, "layer {layer}: {size} bytes")?;
     }
     Ok(lines)
+}
+
+// The same of the images of a line, of which there are at most 128 where it asks for what a mount
+// accepts.
+fn accepted_sizes<A: Allocator + Copy>(
+    alloc: A,
+    line: &Line<'_>,
+    images: Vec<GatheredImage<A>, A>,
+) -> Result<Vec<u32, A>, Fault>
+    ensures ok { IfOk result (λ sizes.
+        AreAccepted line.now (gathered_contents images) sizes.items) }
+    ensures err { IfErr result (AreNotAccepted line.now (gathered_contents images)) }
+{
+    let count = images.len();
+    if line.as_mounted && MAX_LAYERS < count {
+        let count = count as u64;
+        return Err(Fault::Stopped(Stop::Layers { count }));
+    }
+    checked_sizes(alloc, images, profile_of(line))
 }
 
 // How many bytes of each image are accessible, if all are good. Else it names the fault of the

@@ -5,7 +5,8 @@ ghost use Rattle.strata.specs.Faults.{AreUnread};
 ghost use Rattle.strata.specs.Images.{AreHeldFor, AreReadWhole, AreSmall, NamesAsMany, HaveSources, are_whole, bytes_of, gathered_as, sources_of, trailers_of};
 
 use crate::faults::Fault;
-use command_line::Line;
+use crate::settings::asks_attributes;
+use command_line::{Line, Verb};
 use held_image::HeldImage;
 use image_files::{
     GatheredImage, ImageData, Trailers, apart, gather_images, open_images, read_images,
@@ -140,11 +141,13 @@ fn regular_len<R: Files>(rt: &R, path: &str) -> Option<u64> {
     }
 }
 
-// Whether the trailers of a line's images are read: where it asks for attributes.
+// Whether the trailers of a line's images are read: where it asks for attributes, or says which
+// images have one.
 fn trailers_of(line: &Line<'_>) -> Trailers
     ensures { result ≡ trailers_of line.now }
 {
-    if line.attributes {
+    let tells = matches!(line.verb, Verb::Check | Verb::List);
+    if asks_attributes(line) || tells {
         Trailers::Read
     } else {
         Trailers::Left

@@ -20,7 +20,7 @@ ghost use Rattle.stack_prepare.specs.Preparing.{AreStacked};
 ghost use Rattle.serve_loop.specs.declared.done.Done.{Done};
 ghost use Rattle.serve_loop.specs.Serving.{Trace};
 ghost use Rattle.fuse_device.specs.Ends.{MountEnds};
-ghost use Rattle.strata.specs.Images.{ArePrepared, AreReadWhole, profile_of, trailers_of};
+ghost use Rattle.strata.specs.Images.{ArePrepared, AreReadWhole, asks_attributes, profile_of, trailers_of};
 ghost use Rattle.strata.specs.Readers.{status_of_end};
 ghost use Rattle.serve_core.specs.declared.stop.Stop.{Stop};
 ghost use Rattle.device_readers.specs.Ends.{end_of_stop};
@@ -181,11 +181,13 @@ pub fn whole_images_are_judged_as_their_files<A: Allocator>()
         ↔ IsRefusal (profile_of line) bytes fault) }
 {}
 
-/// A line asks for sums and for attributes by the word for each, and its stack has its owner.
+/// A line asks for sums by its option, and for attributes by theirs or as a mount does; and its
+/// stack has its owner.
 #[tactic(auto, using(crate::proofs::Rules::asks, crate::proofs::Rules::reads))]
 pub fn lines_say_their_rules()
     ensures sums { (line : Line) → asks_sums (profile_of line) ≡ line.strict }
-    ensures attributes { (line : Line) → reads_attributes (profile_of line) ≡ line.attributes }
+    ensures attributes { (line : Line) → reads_attributes (profile_of line) ≡
+        asks_attributes line }
     ensures owner { (line : Line) (images : List (List ℕ)) (by : Sourced) →
         ArePrepared line images by → by.stack.owner ≡ line.owner }
 {}

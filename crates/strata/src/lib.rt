@@ -17,7 +17,7 @@
 //! that, `path_list` writes the paths that it shows, and `fuse_device` knows where a mount was
 //! taken away; `device_readers` serves one by several readers (`by_readers`). `checking`,
 //! `listing`, `serving` and `listening` are the four commands; the two first know nothing that
-//! serves.
+//! serves, and name images whose trailer nobody asked for (`trailers`).
 #![tactic(auto)]
 
 mod balances;
@@ -36,6 +36,7 @@ mod preparing;
 mod program;
 mod serving;
 mod settings;
+mod trailers;
 mod version;
 
 pub use clients::{sessions, sessions_from};

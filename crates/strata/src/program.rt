@@ -22,7 +22,6 @@ use crate::images::{gather_all, open_all};
 use crate::listening::listen;
 use crate::listing::list;
 use crate::serving::serve;
-use crate::settings::profile_of;
 use crate::version::tell_version;
 use command_line::{Line, NoLine, Verb, line};
 use devices::{Sink, Source, Spout, Tap};
@@ -281,11 +280,11 @@ where
         }
         Verb::Check => {
             let images = gather_all(rt, alloc, line)?;
-            as_status(check(alloc, images, profile_of(line), output))
+            as_status(check(alloc, line, images, output, faults))
         }
         Verb::List => {
-            let images = open_all(rt, alloc, line)?;
-            as_status(list(rt, alloc, line, images.held, output))
+            let images = gather_all(rt, alloc, line)?;
+            as_status(list(rt, alloc, line, images, output, faults))
         }
     }
 }

@@ -4,16 +4,23 @@
 ghost use Rattle.std.specs.Prelude.{◌≡◌};
 ghost use Rattle.command_line.specs.CommandLine.{IsInLimits};
 ghost use Rattle.strata.specs.Ending.{counted_of, first_of};
-ghost use Rattle.strata.specs.Images.{profile_of};
+ghost use Rattle.strata.specs.Images.{asks_attributes, profile_of};
 
 use command_line::Line;
 use serve_core::{Counted, Plan, Profile, Session};
+
+/// Whether the line asks for attributes, by themselves or as a mount does.
+pub fn asks_attributes(line: &Line<'_>) -> bool
+    ensures { result ≡ asks_attributes line.now }
+{
+    line.attributes || line.as_mounted
+}
 
 /// The rules that the line holds images to, and whether their attributes are read.
 pub fn profile_of(line: &Line<'_>) -> Profile
     ensures { result ≡ profile_of line.now }
 {
-    Profile::with(line.strict, line.attributes)
+    Profile::with(line.strict, asks_attributes(line))
 }
 
 /// The session that the line has its streams begin in.
