@@ -5,13 +5,13 @@
 //! bytes once, from the first to the last, and is read whole.
 
 ghost use Rattle.std.specs.Prelude.{◌≡◌, ◌↔◌, IfOk, IsTrue, MatchResult};
-ghost use Rattle.image_files.specs.Opening.{AreOfFile, IsBlockDevice, IsHeldAs, IsKeptOf, IsKindOf, IsOpenedAs};
+ghost use Rattle.image_files.specs.Opening.{AreOfFile, IsBlockDevice, IsKindOf, IsLoadedAs};
+ghost use Rattle.image_files.specs.Files.{IsLoadedOf};
 
 use crate::image_data::ImageData;
-use crate::open_image::{OpenImage, gather_as};
-use crate::whole::{OfFile, Trailers, read_file};
-use held_image::HeldImage;
-use image_bytes::{Contents, InFile};
+use crate::loaded::{LoadedImage, Loading, let_go, open, whole};
+use crate::whole::read_file;
+use image_bytes::InFile;
 use kept_image::GatherFault;
 use std::alloc::Allocator;
 use std::fs::{Metadata, OpenFile};
@@ -23,40 +23,6 @@ const FILE_TYPE: u32 = 0o170000;
 
 /// What they are of a block device (S_IFBLK).
 const BLOCK_DEVICE: u32 = 0o060000;
-
-impl<F: Read + Seek + OpenFile + FileExt + Drop, A: Allocator + Copy> OfFile<F, A>
-    for OpenImage<F, A> {
-    ghost use Rattle.image_files.specs.Files.{IsOpenOf};
-
-    ghost is_read = { λ trailers file. IsOpenOf (F.remaining file) trailers };
-
-    #[tactic(auto, using(crate::proofs::Files::open_of))]
-    fn of_file(alloc: A, file: F, trailers: Trailers) -> Result<OpenImage<F, A>, GatherFault> {
-        let kind = told_kind(file.metadata());
-        open_as(alloc, file, kind, trailers)
-    }
-}
-
-/// An image whose file was let go: all bytes of one that cannot be read at a place, or what the
-/// rules look at, with the trailer where trailers were read.
-#[derive(Drop)]
-pub struct GatheredImage<A: Allocator> {
-    pub held: HeldImage<A>,
-    pub trailers: Trailers,
-}
-
-impl<F: Read + Seek + OpenFile + FileExt + Drop, A: Allocator + Copy> OfFile<F, A>
-    for GatheredImage<A> {
-    ghost use Rattle.image_files.specs.Files.{IsHeldOf};
-
-    ghost is_read = { λ trailers file. IsHeldOf (F.remaining file) trailers };
-
-    #[tactic(auto, using(crate::proofs::Files::held_of))]
-    fn of_file(alloc: A, file: F, trailers: Trailers) -> Result<GatheredImage<A>, GatherFault> {
-        let kind = told_kind(file.metadata());
-        hold_as(alloc, file, kind, trailers)
-    }
-}
 
 /// What a file is, as far as it matters for how it is read.
 #[derive(Clone, Copy)]
@@ -101,49 +67,34 @@ fn is_block_device(metadata: &Metadata) -> bool
     metadata.mode() & FILE_TYPE == BLOCK_DEVICE
 }
 
-/// The image of a file of a kind, which is at its beginning. `Unread` comes where a read fails,
+/// What is loaded of a file, which is at its beginning.
+#[tactic(auto, using(crate::proofs::Files::loaded_of))]
+pub(crate) fn load_file<F: Read + Seek + OpenFile + FileExt + Drop, A: Allocator + Copy>(
+    alloc: A,
+    file: F,
+    loading: Loading,
+) -> Result<LoadedImage<F, A>, GatherFault>
+    ensures { IfOk result (IsLoadedOf (F.remaining file) loading) }
+{
+    let kind = told_kind(file.metadata());
+    load_as(alloc, file, kind, loading)
+}
+
+/// What is loaded of a file of a kind, which is at its beginning. `Unread` comes where a read fails,
 /// where a device tells no end, or where the file ends before the size that it told.
-pub fn open_as<F: Read + Seek + OpenFile + FileExt + Drop, A: Allocator + Copy>(
+pub fn load_as<F: Read + Seek + OpenFile + FileExt + Drop, A: Allocator + Copy>(
     alloc: A,
     file: F,
     kind: FileKind,
-    trailers: Trailers,
-) -> Result<OpenImage<F, A>, GatherFault>
-    ensures { IfOk result (IsOpenedAs kind (F.remaining file) trailers) }
+    loading: Loading,
+) -> Result<LoadedImage<F, A>, GatherFault>
+    ensures { IfOk result (IsLoadedAs kind (F.remaining file) loading) }
 {
-    let source = data_of(alloc, file, kind)?;
-    OpenImage::over(alloc, source, trailers)
-}
-
-/// What is held of the image of a file of a kind, which is at its beginning and is let go. `Unread`
-/// comes as [`open_as`] says.
-fn hold_as<F: Read + Seek + OpenFile + FileExt + Drop, A: Allocator + Copy>(
-    alloc: A,
-    file: F,
-    kind: FileKind,
-    trailers: Trailers,
-) -> Result<GatheredImage<A>, GatherFault>
-    ensures { IfOk result (IsHeldAs kind (F.remaining file) trailers) }
-{
-    match data_of(alloc, file, kind)? {
-        ImageData::File(file) => kept_of(alloc, &file, trailers),
-        ImageData::Memory(bytes) => Ok(GatheredImage {
-            held: HeldImage::Whole(bytes),
-            trailers,
-        }),
+    match loading {
+        Loading::Whole => Ok(whole(read_file(alloc, file)?)),
+        Loading::Open(trailers) => open(alloc, data_of(alloc, file, kind)?, trailers),
+        Loading::Gather(trailers) => let_go(alloc, data_of(alloc, file, kind)?, trailers),
     }
-}
-
-/// What the rules look at, and whether the trailer is there.
-fn kept_of<S: Contents, A: Allocator + Copy>(
-    alloc: A,
-    source: &S,
-    trailers: Trailers,
-) -> Result<GatheredImage<A>, GatherFault>
-    ensures { IfOk result (IsKeptOf (S.contents source.now) trailers) }
-{
-    let held = HeldImage::Kept(gather_as(alloc, source, trailers)?);
-    Ok(GatheredImage { held, trailers })
 }
 
 /// What the data of a file of a kind are read from: the file, or of a stream all its bytes.

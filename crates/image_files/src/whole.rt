@@ -8,41 +8,10 @@ ghost use Rattle.image_files.specs.Reading.{IsReadThrough};
 
 use devices::limits::{MAX_TURNS, PULL_SIZE};
 use devices::{Source, Tap};
-use held_image::HeldImage;
 use kept_image::GatherFault;
 use std::alloc::Allocator;
 use std::fs::OpenFile;
 use std::io::Read;
-
-/// Whether attribute trailers are read, which stand behind the images.
-#[derive(Clone, Copy)]
-pub enum Trailers {
-    Read,
-    Left,
-}
-
-/// What is read of the file of an image.
-pub(crate) trait OfFile<F, A: Allocator>: Sized {
-    ghost use Rattle.image_files.specs.declared.whole.Trailers.{Trailers};
-
-    // Holds of what is read of a file, where trailers are read or left.
-    ghost is_read: { Trailers → F → Self → Type 0 };
-
-    /// What is read of this file, which is at its beginning.
-    fn of_file(alloc: A, file: F, trailers: Trailers) -> Result<Self, GatherFault>
-        ensures { IfOk result (is_read trailers file) };
-}
-
-impl<F: Read + OpenFile + Drop, A: Allocator> OfFile<F, A> for HeldImage<A> {
-    ghost use Rattle.image_files.specs.Files.{IsWholeOf};
-
-    ghost is_read = { λ _ file. IsWholeOf (F.remaining file) };
-
-    /// All bytes, with those of the trailer.
-    fn of_file(alloc: A, file: F, _trailers: Trailers) -> Result<HeldImage<A>, GatherFault> {
-        Ok(HeldImage::Whole(read_file(alloc, file)?))
-    }
-}
 
 /// All that a file has. Where it tells its length, memory is taken once. `Unread` comes where a
 /// read fails, or where 2^40 reads meet no end.

@@ -7,7 +7,7 @@ use held_image::read::word;
 use held_image::{Held, HeldImage};
 use image_bytes::{Contents, fill};
 use image_files::{
-    FileKind, FilesFault, GatherFault, ImageData, Trailers, apart, open_as, open_images,
+    FileKind, FilesFault, GatherFault, ImageData, Loading, Trailers, apart, load, load_as,
 };
 use std::alloc::{AllocError, Allocator};
 use std::fs::{self, File, Files};
@@ -95,11 +95,11 @@ where
     let Ok(file) = fs::open(rt, path) else {
         return (None, None);
     };
-    match open_as(alloc, file, kind, Trailers::Left) {
-        Ok(image) => {
-            let (_kept, source) = image.into_parts();
-            data_in_two(rt, &source)
-        }
+    match load_as(alloc, file, kind, Loading::Open(Trailers::Left)) {
+        Ok(image) => match &image.source {
+            Some(source) => data_in_two(rt, source),
+            None => (None, None),
+        },
         Err(_) => (None, None),
     }
 }
@@ -141,7 +141,7 @@ where
     R::Dir: Send,
 {
     let paths = [low, high, high, other, low, high, other, low, high];
-    let images = open_images(rt, alloc, &paths, Trailers::Left)?;
+    let images = load(rt, alloc, &paths, Loading::Open(Trailers::Left))?;
     let (kept, sources) = apart(alloc, images)?;
     Ok(look_at_all(alloc, &kept, &sources)?)
 }
@@ -149,16 +149,16 @@ where
 /// What is seen of a file that is opened as one of this kind; none where it cannot be.
 fn seen_as(rt: &HostRuntime, path: &str, kind: FileKind) -> Option<Seen> {
     let file = fs::open(rt, path).ok()?;
-    let image = open_as(rt.alloc(), file, kind, Trailers::Read).ok()?;
-    let (kept, source) = image.into_parts();
-    Some(look_at(&kept, &source))
+    let image = load_as(rt.alloc(), file, kind, Loading::Open(Trailers::Read)).ok()?;
+    Some(look_at(&image.held, image.source.as_ref()?))
 }
 
 /// Whether reading fails where a file is opened as a regular one of so many bytes.
 fn is_unread(rt: &HostRuntime, path: &str, size: u64) -> bool {
     match fs::open(rt, path) {
         Ok(file) => {
-            let opened = open_as(rt.alloc(), file, FileKind::Regular { size }, Trailers::Left);
+            let loading = Loading::Open(Trailers::Left);
+            let opened = load_as(rt.alloc(), file, FileKind::Regular { size }, loading);
             matches!(opened, Err(GatherFault::Unread))
         }
         Err(_) => false,

@@ -7,14 +7,14 @@ use Rattle.romfs_format.specs.Rules.{IsSound}
 use Rattle.romfs_check.specs.declared.refusal.CheckFault.{CheckFault}
 use Rattle.romfs_check.specs.Refusals.{IsRefusal}
 use Rattle.romfs_check.proofs.Gathered.{judged_alike, judged_with_trailer}
-use Rattle.image_files.specs.declared.whole.Trailers.TheVariants.{Read, Left}
-use Rattle.image_files.specs.declared.opening.GatheredImage.{GatheredImage}
+use Rattle.image_files.specs.declared.loaded.Trailers.TheVariants.{Read, Left}
+use Rattle.image_files.specs.declared.loaded.LoadedImage.{LoadedImage}
 use Rattle.held_image.specs.declared.image.HeldImage.{HeldImage}
 use Rattle.held_image.specs.declared.image.HeldImage.TheVariants.{Kept, Whole}
 use Rattle.held_image.specs.Images.{held_bytes}
 use Rattle.image_files.specs.Files.{IsWholeOf}
-use Rattle.image_files.specs.Opened.{WasGathered}
-use Rattle.image_files.specs.Opening.{IsHeldWhole, gathered_bytes}
+use Rattle.image_files.specs.Loaded.{WasGathered}
+use Rattle.image_files.specs.Opening.{IsHeldWhole, loaded_bytes}
 use Rattle.command_line.specs.declared.options.Line.{Line}
 use Rattle.serve_core.specs.declared.stop.Stop.{Stop}
 use Rattle.serve_core.specs.declared.stop.Stop.TheVariants as stops
@@ -66,8 +66,8 @@ judged_held line bytes (Kept kept) h = absurd h
 judged_held line bytes (Whole all) h =
     subst (IsJudged (profile_of line) bytes) (sym h) ((λ x. x, λ x. x), λ fault. (λ x. x, λ x. x))
 
-pub judged_whole : {A : Type 0} (line : Line) (bytes : List ℕ) (image : GatheredImage A) → IsHeldWhole (Some bytes) image
-    → IsJudged (profile_of line) bytes (gathered_bytes image)
+pub judged_whole : {F A : Type 0} (line : Line) (bytes : List ℕ) (image : LoadedImage F A) → IsHeldWhole (Some bytes) image
+    → IsJudged (profile_of line) bytes (loaded_bytes image)
 judged_whole line bytes image h = judged_held line bytes image.held h
 
 -- readers end with the status of one alone

@@ -6,12 +6,14 @@ use Rattle.romfs_format.specs.declared.rule.Profile.{Profile}
 use Rattle.romfs_format.specs.Profiles.{profile_with}
 use Rattle.image_bytes.specs.Sources.{Source, held, unknown}
 use Rattle.image_files.specs.declared.image_data.ImageData.{ImageData}
-use Rattle.image_files.specs.declared.whole.Trailers.{Trailers}
-use Rattle.image_files.specs.declared.whole.Trailers.TheVariants.{Read, Left}
-use Rattle.image_files.specs.declared.opening.GatheredImage.{GatheredImage}
+use Rattle.image_files.specs.declared.loaded.LoadedImage.{LoadedImage}
+use Rattle.image_files.specs.declared.loaded.Loading.{Loading}
+use Rattle.image_files.specs.declared.loaded.Loading.TheVariants.{Whole}
+use Rattle.image_files.specs.declared.loaded.Trailers.{Trailers}
+use Rattle.image_files.specs.declared.loaded.Trailers.TheVariants.{Read, Left}
 use Rattle.image_files.specs.Data.{source_of}
 use Rattle.image_files.specs.Files.{IsHeldOf, IsOfFile}
-use Rattle.image_files.specs.Opened.{WasGathered}
+use Rattle.image_files.specs.Loaded.{WasGathered}
 use Rattle.held_image.specs.declared.image.HeldImage.{HeldImage}
 use Rattle.stack_prepare.specs.Layers.{held_contents, are_whole as all_held_whole}
 use Rattle.stack_prepare.specs.Preparing.{AreStacked}
@@ -46,7 +48,7 @@ NamesAsMany line images = length images ≡ vec_len line.images
 -- this is held of the images of a line, each of which was read of some file: all its bytes, those
 -- that are known of it; or what the rules look at, with the trailer where the line asks for
 -- attributes
-abbrev pub AreHeldFor : {F A : Type 0} → Line → (F → Option (List ℕ)) → List (GatheredImage A) → Type 0
+abbrev pub AreHeldFor : {F A : Type 0} → Line → (F → Option (List ℕ)) → List (LoadedImage F A) → Type 0
 AreHeldFor line known images =
     All (IsOfFile (λ file. IsHeldOf (known file) (trailers_of line))) images
 
@@ -57,10 +59,6 @@ bytes_of images = held_contents images
 -- whether all bytes of images are held
 abbrev pub are_whole : {A B : Type 0} → Vec (HeldImage A) B → Bool
 are_whole images = all_held_whole images.items
-
--- what is held of an image whose file was let go, with its trailer or without
-abbrev pub gathered_as : {A : Type 0} → Trailers → HeldImage A → GatheredImage A
-gathered_as trailers held = record { held = held; trailers = trailers }
 
 -- what reads of the data of images may give
 abbrev pub sources_of : {F A B : Type 0} → Vec (ImageData F A) B → List Source
@@ -99,6 +97,14 @@ pub record AreSmall (told : List (Option ℕ)) : Type 0 where
 -- told and the line leaves no image in its file
 abbrev pub AreReadWhole : Line → List (Option ℕ) → Type 0
 AreReadWhole line told = (line.whole ≡ true) ⊎ ((stay_in_files line ≡ false) × AreSmall told)
+
+-- how the images of a line are loaded, by what the file of each has told of its size: whole, or
+-- else so
+pub record IsLoadingOf (line : Line) (otherwise loading : Loading) : Type 0 where
+  pub told : List (Option ℕ)
+  pub each : length told ≡ vec_len line.images
+  pub is : (AreReadWhole line told × (loading ≡ Whole))
+      ⊎ ((¬ AreReadWhole line told) × (loading ≡ otherwise))
 
 -- what the data of the images of a line are read from, by what the file of each has told of its
 -- size: from nothing, where they are read whole; else each from a source of its own

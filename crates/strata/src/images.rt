@@ -1,17 +1,15 @@
 //! The images of a line, as they are read: whole, or what the rules look at.
 
-ghost use Rattle.std.specs.Prelude.{◌≡◌, ◌↔◌, ℕ, List, Option, length, map, vec_len, IfOk, IfErr, IsTrue};
+ghost use Rattle.std.specs.Prelude.{◌≡◌, ◌↔◌, ℕ, List, Option, length, vec_len, IfOk, IfErr, IsTrue};
 ghost use Rattle.strata.specs.Faults.{AreUnread};
-ghost use Rattle.strata.specs.Images.{AreHeldFor, AreReadWhole, AreSmall, NamesAsMany, HaveSources, are_whole, bytes_of, gathered_as, sources_of, trailers_of};
+ghost use Rattle.strata.specs.Images.{AreHeldFor, AreReadWhole, AreSmall, IsLoadingOf, NamesAsMany, HaveSources, are_whole, bytes_of, sources_of, trailers_of};
 
 use crate::faults::Fault;
 use crate::settings::asks_attributes;
 use command_line::{Line, Verb};
 use held_image::HeldImage;
-use image_files::{
-    GatheredImage, ImageData, Trailers, apart, gather_images, open_images, read_images,
-};
-use std::alloc::{AllocError, Allocator};
+use image_files::{ImageData, LoadedImage, Loading, Trailers, apart, load};
+use std::alloc::Allocator;
 use std::fs;
 use std::fs::Files;
 use std::os::unix::fs::FileExt;
@@ -46,14 +44,8 @@ where
         (sources_of images.files)) }
     ensures err { IfErr result (AreUnread (vec_len line.now.images)) }
 {
-    let paths = line.images.as_slice();
-    if are_read_whole(rt, line) {
-        return Ok(LineImages {
-            held: read_images(rt, alloc, paths)?,
-            files: Vec::new(alloc),
-        });
-    }
-    let images = open_images(rt, alloc, paths, trailers_of(line))?;
+    let loading = loading_of(rt, line, Loading::Open(trailers_of(line)));
+    let images = load(rt, alloc, line.images.as_slice(), loading)?;
     let (held, files) = apart(alloc, images)?;
     Ok(LineImages { held, files })
 }
@@ -64,7 +56,7 @@ pub fn gather_all<R: Files + Threads + Sync, A: Allocator + Copy + Send + Sync>(
     rt: &R,
     alloc: A,
     line: &Line<'_>,
-) -> Result<Vec<GatheredImage<A>, A>, Fault>
+) -> Result<Vec<LoadedImage<R::File, A>, A>, Fault>
 where
     R::File: FileExt + Send,
     R::Dir: Send,
@@ -73,28 +65,18 @@ where
         AreHeldFor line.now R.File.remaining images.items) }
     ensures err { IfErr result (AreUnread (vec_len line.now.images)) }
 {
-    let paths = line.images.as_slice();
-    let trailers = trailers_of(line);
-    if are_read_whole(rt, line) {
-        let images = read_images(rt, alloc, paths)?;
-        return Ok(let_go(alloc, images, trailers)?);
-    }
-    Ok(gather_images(rt, alloc, paths, trailers)?)
+    let loading = loading_of(rt, line, Loading::Gather(trailers_of(line)));
+    Ok(load(rt, alloc, line.images.as_slice(), loading)?)
 }
 
-// Images without their files.
-fn let_go<A: Allocator + Copy>(
-    alloc: A,
-    images: Vec<HeldImage<A>, A>,
-    trailers: Trailers,
-) -> Result<Vec<GatheredImage<A>, A>, AllocError>
-    ensures { IfOk result (λ gathered. gathered.items ≡ map (gathered_as trailers) images.items) }
+// How the images of a line are loaded: all bytes where they are read whole, else so.
+fn loading_of<R: Files>(rt: &R, line: &Line<'_>, otherwise: Loading) -> Loading
+    ensures { IsLoadingOf line.now otherwise result }
 {
-    let mut gathered = Vec::with_capacity(alloc, images.len())?;
-    for held in images {
-        gathered.push(GatheredImage { held, trailers })?;
+    if are_read_whole(rt, line) {
+        return Loading::Whole;
     }
-    Ok(gathered)
+    otherwise
 }
 
 // Whether the images of a line are read whole: where it asks for that; and where they are small

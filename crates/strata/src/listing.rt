@@ -1,12 +1,11 @@
 //! The command `list`.
 
-ghost use Rattle.std.specs.Prelude.{◌≡◌, ◌<◌, ◌^◌, ℕ, List, OnOk, IfOk, IfErr};
+ghost use Rattle.std.specs.Prelude.{◌≡◌, ◌<◌, ◌^◌, ℕ, List, OnOk, IfErr};
 ghost use Rattle.devices.specs.Pushing.{GainsFront};
-ghost use Rattle.image_files.specs.Opening.{gathered_contents};
+ghost use Rattle.image_files.specs.Opening.{loaded_contents};
 ghost use Rattle.node_attr.specs.declared.owner.TheConstants.Owner.{ROOT};
 ghost use Rattle.romfs_format.specs.declared.rule.Profile.{Profile};
 ghost use Rattle.path_list.specs.Faults.{Lists};
-ghost use Rattle.stack_prepare.specs.Layers.{held_contents};
 ghost use Rattle.stack_prepare.specs.Preparing.{AreStacked};
 ghost use Rattle.strata.specs.Ending.{IsStackListed, IsNotListed};
 ghost use Rattle.strata.specs.Images.{profile_of};
@@ -18,54 +17,46 @@ use crate::settings::profile_of;
 use crate::trailers::unread_lines;
 use command_line::Line;
 use devices::Sink;
-use image_files::GatheredImage;
+use image_files::{LoadedImage, apart};
 use path_list::write_list;
-use stack_prepare::{FreePass, HeldImage, Owner, Table, prepare};
-use std::alloc::{AllocError, Allocator};
+use stack_prepare::{FreePass, Owner, Table, prepare};
+use std::alloc::Allocator;
 use std::io::Write;
 use std::thread::Threads;
 
 /// Checks the images, stacks them, and puts a line for each path that the stack shows, and then
 /// notes the images with a trailer that the line does not ask for. Where an image is broken nothing
 /// is put.
-pub fn list<R: Threads + Sync, A: Allocator + Copy + Send + Sync, K: Sink, E: Write>(
+pub fn list<
+    R: Threads + Sync,
+    F: Drop,
+    A: Allocator + Copy + Send + Sync,
+    K: Sink,
+    E: Write,
+>(
     rt: &R,
     alloc: A,
     line: &Line<'_>,
-    images: Vec<GatheredImage<A>, A>,
+    images: Vec<LoadedImage<F, A>, A>,
     output: &mut K,
     notes: &mut E,
 ) -> Result<(), Fault>
     requires { (K.state output.old).counts.failures < 2 ^ 63 }
-    ensures done { OnOk result (IsStackListed (profile_of line.now) (gathered_contents images)
+    ensures done { OnOk result (IsStackListed (profile_of line.now) (loaded_contents images)
         (K.state output.old) (K.state output.new)) }
     ensures stopped { IfErr result (λ fault.
-        IsNotListed (profile_of line.now) (gathered_contents images) fault
+        IsNotListed (profile_of line.now) (loaded_contents images) fault
         (K.state output.old) (K.state output.new)) }
-    ensures noted { OnOk result (GainsFront (unread_lines line.now (gathered_contents images))
+    ensures noted { OnOk result (GainsFront (unread_lines line.now (loaded_contents images))
         (E.contents notes.old) (E.contents notes.new)) }
     ensures unnoted { IfErr result (λ _. E.contents notes.new ≡ E.contents notes.old) }
 {
     let unread = unread_lines(alloc, line, images.as_slice())?;
-    let held = held_of(alloc, images)?;
+    let (held, _files) = apart(alloc, images)?;
     let table = prepare(rt, alloc, held, profile_of(line), Owner::ROOT, &FreePass)?;
     put_list(alloc, &table, output)?;
     let _ = write_bytes(notes, unread.as_bytes());
     Ok(())
-}
-
-// What is held of images.
-fn held_of<A: Allocator + Copy>(
-    alloc: A,
-    images: Vec<GatheredImage<A>, A>,
-) -> Result<Vec<HeldImage<A>, A>, AllocError>
-    ensures { IfOk result (λ held. held_contents held ≡ gathered_contents images) }
-{
-    let mut held = Vec::with_capacity(alloc, images.len())?;
-    for image in images {
-        held.push(image.held)?;
-    }
-    Ok(held)
 }
 
 // Puts a line for each path that a stack shows.

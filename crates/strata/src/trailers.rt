@@ -1,27 +1,27 @@
 //! Images whose trailers a line does not ask for.
 
 ghost use Rattle.std.specs.Prelude.{◌≡◌, ◌++◌, map, string_bytes, IfOk, OnOk};
-ghost use Rattle.image_files.specs.Opening.{gathered_bytes};
+ghost use Rattle.image_files.specs.Opening.{loaded_bytes};
 ghost use Rattle.strata.specs.Texts.{shows_trailer, trailer_line, trailer_lines, unread_lines};
 
 use crate::settings::asks_attributes;
 use command_line::Line;
 use held_image::Held;
 use held_image::read::{stand_at, word};
-use image_files::GatheredImage;
+use image_files::LoadedImage;
 use romfs_format::limits::HEAD_SIZE;
 use romfs_format::read::padded;
 use std::alloc::{AllocError, Allocator};
 use std::fmt::Write;
 
 /// A line for each image with a trailer, where the line does not ask for attributes.
-pub fn unread_lines<A: Allocator>(
+pub fn unread_lines<F, A: Allocator>(
     alloc: A,
     line: &Line<'_>,
-    images: &[GatheredImage<A>],
+    images: &[LoadedImage<F, A>],
 ) -> Result<String<A>, AllocError>
     ensures { IfOk result (λ lines.
-        string_bytes lines ≡ unread_lines line.now (map gathered_bytes images.now)) }
+        string_bytes lines ≡ unread_lines line.now (map loaded_bytes images.now)) }
 {
     if asks_attributes(line) {
         return Ok(String::new(alloc));
@@ -30,12 +30,12 @@ pub fn unread_lines<A: Allocator>(
 }
 
 // A line for each image with a trailer.
-fn trailer_lines<A: Allocator>(
+fn trailer_lines<F, A: Allocator>(
     alloc: A,
-    images: &[GatheredImage<A>],
+    images: &[LoadedImage<F, A>],
 ) -> Result<String<A>, AllocError>
     ensures { IfOk result (λ lines.
-        string_bytes lines ≡ trailer_lines (map gathered_bytes images.now)) }
+        string_bytes lines ≡ trailer_lines (map loaded_bytes images.now)) }
 {
     let mut lines = String::new(alloc);
     for (layer, image) in images.iter().enumerate() {

@@ -1,25 +1,25 @@
 use Rattle.std.proofs.Common.{◌∙◌}
 use Rattle.std.proofs.lemmas.Result.{IfOk-from_err}
-use Rattle.image_files.specs.Opening.{gathered_bytes}
+use Rattle.image_files.specs.Opening.{loaded_bytes}
 use Rattle.strata.proofs.Sizes.{first_refused, none_sized, one_more}
 use Rattle.strata.proofs.checking.checked_sizes.Goals as goal
 
-pub loop-held-init : goal.loop-held-init
-loop-held-init g c = record {
+pub loop-loaded-init : goal.loop-loaded-init
+loop-loaded-init g c = record {
   can_next = tt;
   is_finite = tt;
-  done = rw (c.in_ok-sizes.ensures.items, c.into_iter-held-iterator.ensures.into_iter_gives.0)
-      (none_sized gathered_bytes c.args.profile c.args.images.items);
+  done = rw (c.in_ok-sizes.ensures.items, c.into_iter-loaded-iterator.ensures.into_iter_gives.0)
+      (none_sized loaded_bytes c.args.profile c.args.images.items);
 }
 
-pub loop-held-preserved : goal.loop-held-preserved
-loop-held-preserved g c =
+pub loop-loaded-preserved : goal.loop-loaded-preserved
+loop-loaded-preserved g c =
     let good = c.in_ok-checked_size.ensures.ok in
     record {
       can_next = tt;
       is_finite = tt;
       done = rw c.in_ok-push.ensures.items
-          (one_more c.loop-held.invariant.done c.in-Some.held _ c.in-Some.ensures.steps.0 _ good.0 good.1);
+          (one_more c.loop-loaded.invariant.done c.in-Some.loaded _ c.in-Some.ensures.steps.0 _ good.0 good.1);
     }
 
 pub returns-in_err-sizes-clause-ok : goal.returns-in_err-sizes-clause-ok
@@ -37,7 +37,7 @@ returns-clause-err g c = tt
 
 pub returns-in_err-checked_size-clause-err : goal.returns-in_err-checked_size-clause-err
 returns-in_err-checked_size-clause-err g c =
-    first_refused c.loop-held.invariant.done c.in-Some.held _ c.in-Some.ensures.steps.0 _
-    (c.len-image.ensures ∙ c.loop-held.sizes.ok.0)
+    first_refused c.loop-loaded.invariant.done c.in-Some.loaded _ c.in-Some.ensures.steps.0 _
+    (c.len-image.ensures ∙ c.loop-loaded.sizes.ok.0)
     c.in_err-checked_size.field-0.0 c.in_err-checked_size.ensures.err c.from_residual-in_err-checked_size.result
     c.from_residual-in_err-checked_size.ensures.1
