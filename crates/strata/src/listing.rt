@@ -27,13 +27,7 @@ use std::thread::Threads;
 /// Checks the images, stacks them, and puts a line for each path that the stack shows, and then
 /// notes the images with a trailer that the line does not ask for. Where an image is broken nothing
 /// is put.
-pub fn list<
-    R: Threads + Sync,
-    F: Drop,
-    A: Allocator + Copy + Send + Sync,
-    K: Sink,
-    E: Write,
->(
+pub fn list<R: Threads + Sync, F: Drop, A: Allocator + Copy + Send + Sync, K: Sink, E: Write>(
     rt: &R,
     alloc: A,
     line: &Line<'_>,
