@@ -1,5 +1,5 @@
 -- What is loaded of a file of a kind, in words that name no kind.
-use Rattle.std.proofs.Common.{◌≡◌, sym, subst, ℕ, List, Option, Some, None, IfOk, IfSome, Result, Ok, Err}
+use Rattle.std.proofs.Common.{◌≡◌, sym, subst, ℕ, List, Option, None, IfOk, IfSome, Result, Ok, Err}
 use Rattle.image_files.specs.declared.opening.FileKind.{FileKind}
 use Rattle.image_files.specs.declared.opening.FileKind.TheVariants.{Regular, BlockDevice, Stream}
 use Rattle.image_files.specs.declared.image_data.ImageData.{ImageData}

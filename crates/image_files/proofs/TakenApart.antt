@@ -1,5 +1,5 @@
 -- Images that are taken apart one after another: the step at each, and the end.
-use Rattle.std.proofs.Common.{◌≡◌, ◌∙◌, ap, arith, refl, List, [], ◌∷◌, ◌++◌, append_assoc, append-nil, length, map, ℕ, Option, Some, None, sym}
+use Rattle.std.proofs.Common.{◌≡◌, ◌∙◌, ap, arith, refl, List, [], ◌∷◌, ◌++◌, append_assoc, append-nil, length, map, Option, Some, None, sym}
 use Rattle.image_files.specs.declared.image_data.ImageData.{ImageData}
 use Rattle.image_files.specs.declared.loaded.LoadedImage.{LoadedImage}
 use Rattle.image_files.specs.Loaded.{added, before, files_of}

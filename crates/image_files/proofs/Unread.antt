@@ -1,5 +1,5 @@
 -- Why the images of a list were not read, as their caller is told.
-use Rattle.std.proofs.Common.{◌≡◌, ◌∙◌, sym, ap, subst, ℕ, ◌+◌, ◌<◌, ◌⊎◌, inl, inr, Result, Ok, Err, IfErr, IsErrAnd, arith}
+use Rattle.std.proofs.Common.{◌≡◌, sym, subst, ℕ, ◌+◌, ◌<◌, ◌⊎◌, inl, inr, Result, Ok, Err, IfErr, IsErrAnd, arith}
 use Rattle.image_files.specs.Unread.{IsNextUnread, IsReadUpTo}
 use Rattle.image_files.specs.declared.images.FilesFault.{FilesFault}
 use Rattle.image_files.specs.declared.images.FilesFault.TheVariants.{Unread, Memory}

@@ -1,6 +1,6 @@
 //! Images that were loaded of their files.
 
-ghost use Rattle.std.specs.Prelude.{◌≡◌, None, map, IfOk, IfErr};
+ghost use Rattle.std.specs.Prelude.{◌≡◌, None, IfOk, IfErr};
 ghost use Rattle.kept_image.specs.Reads.{IsCause};
 ghost use Rattle.image_files.specs.Data.{known_bytes};
 ghost use Rattle.image_files.specs.Loaded.{AreApart, IsKeptOf, IsOpenOver, IsLetGo, WasGathered, added};

@@ -1,7 +1,7 @@
 -- The images of a line. `loaded_sources` says what the data of those that were loaded are read from, `stacked_sources` that
 -- their stack has the same; `read_held` and `whole_held` that nothing is where they are read whole, and `held_whole` that a
 -- stack without sources is held. `seen_as` lends their files. `loaded_ones` says what is held of images for a line that checks.
-use Rattle.std.proofs.Common.{◌≡◌, ◌≤◌, ◌⊎◌, ◌||◌, ◌∙◌, sym, ap, subst, refl, ℕ, suc, inl, inr, true, false, true≢false, List, [], ◌∷◌, length, map, Bool, Option, Some, Vec, vec_len, arith}
+use Rattle.std.proofs.Common.{◌≡◌, ◌≤◌, ◌⊎◌, ◌||◌, ◌∙◌, sym, ap, subst, refl, ℕ, suc, inl, inr, true, false, true≢false, List, [], ◌∷◌, length, map, Bool, Option, Vec, vec_len, arith}
 use Rattle.std.specs.List.{AllByRecursion, list_all}
 use Rattle.std.proofs.lemmas.List.Sums.{list_all-from_AllPass}
 use Rattle.std.proofs.lemmas.List.Elements.{All-map, All-weaker, recursion_from_All}

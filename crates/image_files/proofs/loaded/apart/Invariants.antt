@@ -1,6 +1,5 @@
 use Rattle.std.proofs.Common.{◌≡◌, ◌++◌, map}
 use Rattle.std.specs.Vec.Iter.{into_iter_items}
-use Rattle.image_files.specs.declared.loaded.LoadedImage.{LoadedImage}
 use Rattle.image_files.specs.Loaded.{files_of}
 use Rattle.image_files.proofs.loaded.apart.Given as goal
 
