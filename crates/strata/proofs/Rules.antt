@@ -1,8 +1,9 @@
 -- What a line asks for, and what follows from it: its profile (`asks`, `reads`), how its images are judged (`judged`,
--- `judged_whole`), and with which status its readers end (`ends_alike`).
-use Rattle.std.proofs.Common.{◌≡◌, ◌∙◌, sym, subst, refl, ℕ, ◌↔◌, ◌||◌, List, Bool, true, false, true≢false, Some, if◌then◌else◌}
+-- `judged_whole`), which are mounted (`mountable`), and with which status its readers end (`ends_alike`).
+use Rattle.std.proofs.Common.{◌≡◌, ◌∙◌, ◌≤◌, sym, ap₂, subst, refl, length, map, ℕ, ◌↔◌, ◌||◌, List, Bool, true, false, true≢false, Some, if◌then◌else◌}
 use Rattle.romfs_format.specs.declared.rule.Profile.{Profile}
 use Rattle.romfs_format.specs.Profiles.{asks_sums, profile_with, reads_attributes}
+use Rattle.romfs_format.specs.Fields.{image}
 use Rattle.romfs_format.specs.Rules.{IsSound}
 use Rattle.romfs_check.specs.declared.refusal.CheckFault.{CheckFault}
 use Rattle.romfs_check.specs.Refusals.{IsRefusal}
@@ -21,6 +22,11 @@ use Rattle.serve_core.specs.declared.stop.Stop.TheVariants as stops
 use Rattle.device_readers.specs.Ends.{end_of_stop}
 use Rattle.strata.specs.declared.faults.Fault.TheVariants.{Stopped}
 use Rattle.strata.specs.Images.{asks_attributes, profile_of, tells_trailers, trailers_of}
+use Rattle.stack_prepare.specs.declared.refusal.Refusal.{Refusal}
+use Rattle.stack_prepare.specs.declared.refusal.Refusal.TheVariants.{Memory}
+use Rattle.stack_prepare.specs.Layers.{AreLayers, AreRefused}
+use Rattle.stack_prepare.proofs.Refusals.{good_are_taken}
+use Rattle.strata.specs.Ending.{AreAccepted}
 use Rattle.strata.specs.Mounts.{status_on_device}
 use Rattle.strata.specs.Readers.{status_of_end}
 
@@ -69,6 +75,24 @@ judged_held line bytes (Whole all) h =
 pub judged_whole : {F A : Type 0} (line : Line) (bytes : List ℕ) (image : LoadedImage F A) → IsHeldWhole (Some bytes) image
     → IsJudged (profile_of line) bytes (loaded_bytes image)
 judged_whole line bytes image h = judged_held line bytes image.held h
+
+or_true : (a b : Bool) → b ≡ true → (a || b) ≡ true
+or_true true b e = refl
+or_true false b e = e
+
+-- a mount refuses images that are accepted as mounted for want of memory alone
+pub mountable : (line mount : Line) (images : List (List ℕ)) (sizes : List ℕ) → AreAccepted line images sizes → line.as_mounted ≡ true
+    → mount.strict ≡ line.strict → asks_attributes mount ≡ true → 1 ≤ length images
+    → (r : Refusal) → AreRefused (profile_of mount) images r → r ≡ Memory
+mountable line mount images sizes accepted said strict reads some r refused =
+    let alike : asks_attributes mount ≡ asks_attributes line = reads ∙ sym (or_true line.attributes line.as_mounted said) in
+    let good : AreLayers (profile_of line) images (map image images) = record {
+      few = (some, accepted.few said);
+      sound = accepted.sizes_are.sound;
+      are = refl;
+    } in
+    good_are_taken (profile_of line) images (map image images) r good
+    (subst (λ p. AreRefused p images r) (ap₂ profile_with strict alike) refused)
 
 -- readers end with the status of one alone
 pub ends_alike : (stop : Stop) (input output : Bool)

@@ -7,7 +7,7 @@ ghost use Rattle.command_line.specs.declared.options.Line.{Line};
 ghost use Rattle.command_line.specs.declared.options.Verb.TheVariants as verbs;
 ghost use Rattle.devices.specs.States.{Devices};
 ghost use Rattle.serve_core.specs.declared.stop.Stop.TheVariants.{Read, Write};
-ghost use Rattle.strata.specs.Ending.{EndsWith, IsServedWhole, IsFileFault, IsDoneOver, first_of};
+ghost use Rattle.strata.specs.Ending.{AreAccepted, EndsWith, IsServedWhole, IsFileFault, IsDoneOver, first_of};
 ghost use Rattle.reply_model.specs.declared.session.Session.{Session};
 ghost use Rattle.reply_model.specs.declared.session.Session.TheVariants.{Fresh, LastingFresh};
 ghost use Rattle.reply_model.specs.Readings.{Sourced, in_memory, sourced, IsReplyOver};
@@ -16,6 +16,9 @@ ghost use Rattle.serve_model.specs.Kept.{WereGatheredFor, over};
 ghost use Rattle.image_bytes.specs.Sources.{held};
 ghost use Rattle.fuse_wire.specs.Requests.{Asked, at_node, read};
 ghost use Rattle.stack_model.specs.Listing.{Stacked};
+ghost use Rattle.stack_prepare.specs.declared.refusal.Refusal.{Refusal};
+ghost use Rattle.stack_prepare.specs.declared.refusal.Refusal.TheVariants as refused;
+ghost use Rattle.stack_prepare.specs.Layers.{AreRefused};
 ghost use Rattle.stack_prepare.specs.Preparing.{AreStacked};
 ghost use Rattle.serve_loop.specs.declared.done.Done.{Done};
 ghost use Rattle.serve_loop.specs.Serving.{Trace};
@@ -190,6 +193,16 @@ pub fn lines_say_their_rules()
         asks_attributes line }
     ensures owner { (line : Line) (images : List (List ℕ)) (by : Sourced) →
         ArePrepared line images by → by.stack.owner ≡ line.owner }
+{}
+
+/// Images that `check` accepts as mounted are refused by a mount that is as strict for want of
+/// memory alone.
+#[tactic(auto, using(crate::proofs::Rules::mountable))]
+pub fn accepted_images_are_mounted()
+    ensures { (line mount : Line) (images : List (List ℕ)) (sizes : List ℕ) →
+        AreAccepted line images sizes → line.as_mounted ≡ true → mount.strict ≡ line.strict →
+        asks_attributes mount ≡ true → 1 ≤ length images → (refusal : Refusal) →
+        AreRefused (profile_of mount) images refusal → refusal ≡ refused.Memory }
 {}
 
 /// A reader of several ends with the status with which one alone would.
