@@ -31,17 +31,17 @@ is_data trailers (Kept kept) (File file) h = inl refl
 is_data trailers (Kept kept) (Memory bytes) h = inr (bytes.items, refl, h)
 
 abbrev held_of : {F A : Type 0} → List (LoadedImage F A) → List (HeldImage A)
-held_of images = map (λ image. image.held) images
+held_of {F} {A} images = map (λ (image : LoadedImage F A). image.held) images
 
 are_data : {F A : Type 0} (known : F → Option (List ℕ)) (trailers : Trailers) (images : List (LoadedImage F A))
     → AllByRecursion (IsOfFile (λ file. IsLoadedOf (known file) (how.Open trailers))) images
     → AreDataOf trailers (map held_bytes (held_of images)) (map source_of (files_of images))
 are_data known trailers [] all = tt
 are_data known trailers (image ∷ images) all =
-    let open = all.0.read in
+    let its = all.0.read in
     subst (λ s. AreDataOf trailers (held_bytes image.held ∷ map held_bytes (held_of images)) (map source_of (before s (files_of images))))
-    (sym open.over.source_is)
-    (is_data trailers image.held open.source open.over.kept.1, are_data known trailers images all.1)
+    (sym its.over.source_is)
+    (is_data trailers image.held its.source its.over.kept.1, are_data known trailers images all.1)
 
 -- the sources of images that stay in their files
 are_sources : {F A : Type 0} (line : Line) (known : F → Option (List ℕ)) (images : List (LoadedImage F A)) (whole : Bool)
@@ -66,9 +66,9 @@ is_whole_of known (Whole bytes) h = refl
 -- images that are read whole are held whole
 all_held : {F A : Type 0} (known : F → Option (List ℕ)) (images : List (LoadedImage F A)) → AreLoaded known how.Whole images
     → list_all is_whole (held_of images) ≡ true
-all_held known images h = list_all-from_AllPass is_whole (held_of images)
-    (All-map (λ held. is_whole held ≡ true) (λ image. image.held) images
-    (All-weaker (IsOfFile (λ file. IsLoadedOf (known file) how.Whole)) (λ image. is_whole image.held ≡ true)
+all_held {F} {A} known images h = list_all-from_AllPass is_whole (held_of images)
+    (All-map (λ (held : HeldImage A). is_whole held ≡ true) (λ (image : LoadedImage F A). image.held) images
+    (All-weaker (IsOfFile (λ file. IsLoadedOf (known file) how.Whole)) (λ (image : LoadedImage F A). is_whole image.held ≡ true)
     (λ image of. is_whole_of (known of.file) image.held of.read.0) images h))
 
 -- and their data are read from nothing
