@@ -6,4 +6,4 @@ use Rattle.strata.proofs.trailers.trailer_lines.Given as goal
 
 -- the lines so far
 abbrev pub invariant-loop-layer : goal.invariant-loop-layer
-invariant-loop-layer g l = IsPrinted trailer_line 0 (map loaded_bytes l.fn.images) l.layer-counter (string_bytes l.lines)
+invariant-loop-layer g l = IsPrinted trailer_line 0 (map loaded_bytes l.fn.images) l.layer (string_bytes l.lines)
