@@ -1,17 +1,19 @@
 -- How a list stopped. `list_stopped` puts the fault that was told together with what the fault left
--- in the output.
-use Rattle.std.proofs.Common.{◌≡◌, inl, inr, ℕ, List, Result, Ok, Err, IfErr, IsErrAnd}
+-- in the output, `unlisted` is the end before that. `told_on` tells a fault as it came.
+use Rattle.std.proofs.Common.{◌≡◌, sym, ap, subst, refl, inl, inr, ℕ, List, [], ◌∷◌, map, Result, Ok, Err, IfErr, IsErrAnd}
 use Rattle.devices.specs.States.{SinkState}
+use Rattle.held_image.specs.Images.{held_bytes}
+use Rattle.image_files.specs.declared.loaded.LoadedImage.{LoadedImage}
+use Rattle.image_files.specs.Opening.{loaded_bytes}
 use Rattle.romfs_format.specs.declared.rule.Profile.{Profile}
 use Rattle.node_attr.specs.declared.owner.TheConstants.Owner.{ROOT}
 use Rattle.stack_model.specs.Listing.{Stacked}
-use Rattle.stack_prepare.specs.declared.refusal.Refusal.TheVariants as refusals
 use Rattle.stack_prepare.specs.Preparing.{AreStacked}
 use Rattle.path_list.specs.declared.walk.ListFault.{ListFault}
 use Rattle.path_list.specs.declared.walk.ListFault.TheVariants.{Write, Memory}
 use Rattle.path_list.specs.Faults.{IsBrokenOff}
 use Rattle.strata.specs.declared.faults.Fault.{Fault}
-use Rattle.strata.specs.Faults.{list_told_of}
+use Rattle.strata.specs.Faults.{list_told_of, out_of_memory}
 use Rattle.strata.specs.Ending.{IsNotListed}
 
 -- a list that was broken off did not list the stack, and its fault tells why
@@ -21,7 +23,22 @@ pub list_stopped : {profile : Profile} {images : List (List ℕ)} {stack : Stack
     → IfErr r (λ told. IsNotListed profile images told old new)
 list_stopped old new (Ok u) fault s b e = absurd e
 list_stopped {stack = stack} old new (Err told) Write s b e = inr (record { told = e; stack = stack; stacked = s; broken = b })
-list_stopped old new (Err told) Memory s b e = inl (
-  record { refusal = refusals.Memory; told = e; refused = s.layers.few },
-  b,
-)
+list_stopped old new (Err told) Memory s b e = inl (inr e, b)
+
+-- memory that ran out before the images were stacked
+pub unlisted : {X : Type 0} {profile : Profile} {images : List (List ℕ)} (state : SinkState) (r : Result X Fault)
+    → IsErrAnd r (λ told. told ≡ out_of_memory) → IfErr r (λ told. IsNotListed profile images told state state)
+unlisted state (Ok u) e = absurd e
+unlisted state (Err told) e = inl (inr e, refl)
+
+-- a fault is told as it came
+pub told_on : {X : Type 0} (Q : Fault → Type 0) (r : Result X Fault) (fault : Fault) → IsErrAnd r (λ told. told ≡ fault) → Q fault
+    → IfErr r Q
+told_on Q (Ok u) fault e q = absurd e
+told_on Q (Err told) fault e q = subst Q (sym e) q
+
+-- images taken apart have the bytes that they had
+pub bytes_apart : {F A : Type 0} (images : List (LoadedImage F A))
+    → map held_bytes (map (λ (image : LoadedImage F A). image.held) images) ≡ map loaded_bytes images
+bytes_apart [] = refl
+bytes_apart (image ∷ images) = ap (λ xs. loaded_bytes image ∷ xs) (bytes_apart images)

@@ -4,6 +4,7 @@
 use Rattle.std.proofs.Common.{◌≡◌, ◌≤◌, ◌⊎◌, ◌||◌, ◌∙◌, sym, ap, subst, refl, ℕ, suc, inl, inr, true, false, true≢false, List, [], ◌∷◌, length, map, Bool, Option, Vec, vec_len, arith}
 use Rattle.std.specs.List.{AllByRecursion, list_all}
 use Rattle.std.proofs.lemmas.List.Sums.{list_all-from_AllPass}
+use Rattle.std.proofs.lemmas.List.{length-map}
 use Rattle.std.proofs.lemmas.List.Elements.{All-map, All-weaker, recursion_from_All}
 use Rattle.image_bytes.specs.Sources.{Source}
 use Rattle.image_files.specs.declared.image_data.ImageData.{ImageData}
@@ -83,7 +84,7 @@ no_sources : {F A : Type 0} (line : Line) (known : F → Option (List ℕ)) (ima
 no_sources line known images told each all loaded =
     let none = no_files known images (recursion_from_All (IsOfFile (λ file. IsLoadedOf (known file) how.Whole)) images loaded) in
     let held : AreHeldWhole (list_all is_whole (held_of images)) (map source_of (files_of images)) =
-        (all_held known images loaded, ap (map source_of) none) in
+    (all_held known images loaded, ap (map source_of) none) in
     record {
       told = told;
       each = each;
@@ -91,6 +92,12 @@ no_sources line known images told each all loaded =
       left = λ kept. absurd (kept all);
       either = inl held;
     }
+
+-- as many images are held as were loaded
+pub as_many_held : {F A : Type 0} (images : List (LoadedImage F A)) (held : List (HeldImage A)) (files : List (ImageData F A))
+    → AreApart images held files → length (map held_bytes held) ≡ length images
+as_many_held {F} {A} images held files apart =
+    length-map held held_bytes ∙ ap length apart.held_are ∙ length-map images (λ (image : LoadedImage F A). image.held)
 
 -- what the data of the images of a line are read from, as they are loaded
 pub loaded_sources : {F A : Type 0} (line : Line) (known : F → Option (List ℕ)) (loading : Loading) (images : List (LoadedImage F A))

@@ -147,7 +147,7 @@ pub record IsListLost (profile : Profile) (images : List (List ℕ)) (fault : Fa
 -- a list stopped: so, and the output is as it was; or the output failed
 abbrev pub IsNotListed : Profile → List (List ℕ) → Fault → SinkState → SinkState → Type 0
 IsNotListed profile images fault old new =
-    (AreNotStacked profile images fault × (new ≡ old))
+    ((AreNotStacked profile images fault ⊎ (fault ≡ out_of_memory)) × (new ≡ old))
     ⊎ IsListLost profile images fault old new
 
 -- ---- serve

@@ -42,11 +42,27 @@ pub fn check<F: Drop, A: Allocator + Copy, K: Sink, E: io::Write>(
     ensures unnoted { IfErr result (λ _. E.contents notes.new ≡ E.contents notes.old) }
 {
     let unread = unread_lines(alloc, line, images.as_slice())?;
-    let sizes = accepted_sizes(alloc, line, images)?;
-    let lines = lines_of(alloc, sizes.as_slice())?;
-    put_lines(output, lines.as_bytes())?;
+    put_sizes(alloc, line, images, output)?;
     let _ = write_bytes(notes, unread.as_bytes());
     Ok(())
+}
+
+// Checks the images, and puts a line for each if all are good.
+fn put_sizes<F: Drop, A: Allocator + Copy, K: Sink>(
+    alloc: A,
+    line: &Line<'_>,
+    images: Vec<LoadedImage<F, A>, A>,
+    output: &mut K,
+) -> Result<(), Fault>
+    requires { (K.state output.old).counts.failures < 2 ^ 63 }
+    ensures done { OnOk result (AreGood line.now (loaded_contents images)
+        (K.state output.old) (K.state output.new)) }
+    ensures stopped { IfErr result (λ fault. AreNotGood line.now (loaded_contents images) fault
+        (K.state output.old) (K.state output.new)) }
+{
+    let sizes = accepted_sizes(alloc, line, images)?;
+    let lines = lines_of(alloc, sizes.as_slice())?;
+    put_lines(output, lines.as_bytes())
 }
 
 // A line for each of these sizes in bytes, by the number of its image.

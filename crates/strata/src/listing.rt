@@ -6,6 +6,7 @@ ghost use Rattle.image_files.specs.Opening.{loaded_contents};
 ghost use Rattle.node_attr.specs.declared.owner.TheConstants.Owner.{ROOT};
 ghost use Rattle.romfs_format.specs.declared.rule.Profile.{Profile};
 ghost use Rattle.path_list.specs.Faults.{Lists};
+ghost use Rattle.stack_prepare.specs.Layers.{held_contents};
 ghost use Rattle.stack_prepare.specs.Preparing.{AreStacked};
 ghost use Rattle.strata.specs.Ending.{IsStackListed, IsNotListed};
 ghost use Rattle.strata.specs.Images.{profile_of};
@@ -19,7 +20,7 @@ use command_line::Line;
 use devices::Sink;
 use image_files::{LoadedImage, apart};
 use path_list::write_list;
-use stack_prepare::{FreePass, Owner, Table, prepare};
+use stack_prepare::{FreePass, HeldImage, Owner, Table, prepare};
 use std::alloc::Allocator;
 use std::io::Write;
 use std::thread::Threads;
@@ -47,10 +48,29 @@ pub fn list<R: Threads + Sync, F: Drop, A: Allocator + Copy + Send + Sync, K: Si
 {
     let unread = unread_lines(alloc, line, images.as_slice())?;
     let (held, _files) = apart(alloc, images)?;
-    let table = prepare(rt, alloc, held, profile_of(line), Owner::ROOT, &FreePass)?;
-    put_list(alloc, &table, output)?;
+    list_held(rt, alloc, line, held, output)?;
     let _ = write_bytes(notes, unread.as_bytes());
     Ok(())
+}
+
+// Checks and stacks images, by what is held of them, and puts a line for each path that they show.
+fn list_held<R: Threads + Sync, A: Allocator + Copy + Send + Sync, K: Sink>(
+    rt: &R,
+    alloc: A,
+    line: &Line<'_>,
+    images: Vec<HeldImage<A>, A>,
+    output: &mut K,
+) -> Result<(), Fault>
+    requires { (K.state output.old).counts.failures < 2 ^ 63 }
+    ensures done { OnOk result (IsStackListed (profile_of line.now) (held_contents images)
+        (K.state output.old) (K.state output.new)) }
+    ensures stopped { IfErr result (λ fault.
+        IsNotListed (profile_of line.now) (held_contents images) fault
+        (K.state output.old) (K.state output.new)) }
+{
+    let profile = profile_of(line);
+    let table = prepare(rt, alloc, images, profile, Owner::ROOT, &FreePass)?;
+    put_list(alloc, &table, output)
 }
 
 // Puts a line for each path that a stack shows.

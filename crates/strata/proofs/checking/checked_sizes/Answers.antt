@@ -1,7 +1,8 @@
-use Rattle.std.proofs.Common.{◌∙◌}
+use Rattle.std.proofs.Common.{◌≡◌, ◌∙◌, length, arith}
+use Rattle.std.specs.Vec.Iter.{into_iter_items}
 use Rattle.std.proofs.lemmas.Result.{IfOk-from_err}
 use Rattle.image_files.specs.Opening.{loaded_bytes}
-use Rattle.strata.proofs.Sizes.{first_refused, none_sized, one_more}
+use Rattle.strata.proofs.Sizes.{all_sized, first_refused, none_sized, one_more}
 use Rattle.strata.proofs.checking.checked_sizes.Goals as goal
 
 pub loop-loaded-init : goal.loop-loaded-init
@@ -31,6 +32,12 @@ returns-in_err-checked_size-clause-ok g c =
 
 pub returns-in_err-push-clause-ok : goal.returns-in_err-push-clause-ok
 returns-in_err-push-clause-ok g c = IfOk-from_err c.from_residual-in_err-push.result _ c.from_residual-in_err-push.ensures.0
+
+pub returns-clause-ok : goal.returns-clause-ok
+returns-clause-ok g c =
+    let left = into_iter_items c.loop-loaded.loaded-iterator in
+    let none : length left ≡ 0 = omega (arith, c.in-None.ensures.steps.0, c.loop-loaded.loaded-iterator.rest.ok) in
+    all_sized loaded_bytes c.args.profile _ left _ c.loop-loaded.invariant.done none
 
 pub returns-clause-err : goal.returns-clause-err
 returns-clause-err g c = tt

@@ -1,8 +1,14 @@
-use Rattle.std.proofs.Common.{subst}
+use Rattle.std.proofs.Common.{◌∙◌, sym, subst, arith}
 use Rattle.image_files.specs.declared.loaded.Loading.TheVariants as how
 use Rattle.strata.specs.Images.{IsLoadingOf}
-use Rattle.strata.proofs.Opened.{loaded_sources}
+use Rattle.strata.proofs.Opened.{as_many_held, loaded_sources}
 use Rattle.strata.proofs.images.open_all.Goals as goal
+
+pub returns-clause-named : goal.returns-clause-named
+returns-clause-named g c =
+    let images = c.in_ok-images.images in
+    as_many_held images.items c.in_ok-held.held.items c.in_ok-held.files.items c.in_ok-held.ensures ∙ sym images.ok.0
+    ∙ omega (arith, c.in_ok-images.ensures.ok, c.as_slice.ensures.len)
 
 pub returns-clause-sources : goal.returns-clause-sources
 returns-clause-sources g c =
