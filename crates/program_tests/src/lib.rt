@@ -1,10 +1,10 @@
 //! The tests of the program over what no command line can bring about.
 //!
 //! Clients of a socket that can't be accepted, or are refused memory (`clients`), readers and
-//! writers that fail (`failing`), each request for memory refused in turn (`memory`), how many
-//! workers and how large batches a line asks for (`plans`), and `serve` by itself, with refused
-//! memory and too few turns (`serving`). They share runs of the program and files of the test's own
-//! (`program`). What a mount comes to is seen by real mounts and the cases over a device.
+//! writers that fail (`failing`), each request for memory refused in turn (`memory`), devices like
+//! those of an open `/dev/fuse` (`mounted`), how many workers and how large batches a line asks for
+//! (`plans`), and `serve` by itself, with refused memory and too few turns (`serving`). They share
+//! runs of the program and files of the test's own (`program`).
 //!
 //! The devices of `fuse_device` are tested here, too, over readers and writers that misbehave: no
 //! contract says how often these are called, nor what errors they met. `messages` is a source over

@@ -4,6 +4,7 @@ mod clients;
 mod failing;
 mod memory;
 mod messages;
+mod mounted;
 mod plans;
 mod program;
 mod replies;
