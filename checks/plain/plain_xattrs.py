@@ -6,7 +6,7 @@ not from strata's code and not from tools/.
 import struct
 
 LETTERS = b"-attr02-"
-HEAD = 20
+HEAD = 16
 ACCESS, DEFAULT, CAPABILITY = b"system.posix_acl_access", b"system.posix_acl_default", b"security.capability"
 OVERLAYS = b"trusted.overlay.", b"user.overlay."
 # tags of ACL entries, in the order in which they stand
@@ -21,30 +21,34 @@ def part(rows_end, trailer):
 
 
 class Part:
-    """The tables of a part whose trailer has so many rows: a word for each row, then where lists begin, then where names and
-    values begin."""
+    """A part whose trailer has so many rows: a word for each row, and then the lists, with tables of where each begins and where
+    names and values begin."""
 
     def __init__(self, found, rows):
         self.bytes, self.rows = found, rows
-        self.size, _, self.lists = struct.unpack_from(">3I", found, 8)
-
-    def word(self, number):
-        return struct.unpack_from(">I", self.bytes, HEAD + 4 * number)[0]
+        self.size, _ = struct.unpack_from(">2I", found, 8)
+        self.texts = found[HEAD + 4 * rows:self.size]
 
     def of_row(self, row):
         """The number of a row's list, from 1 on; 0 for none."""
-        return self.word(row)
+        return struct.unpack_from(">I", self.bytes, HEAD + 4 * row)[0]
+
+    def word(self, number):
+        return struct.unpack_from(">I", self.texts, 4 * number)[0]
+
+    def lists(self):
+        return self.word(0)
 
     def first(self, number):
         """The number of the first attribute of a list, and behind the last list of all of them."""
-        return self.word(self.rows + number)
+        return self.word(1 + number)
 
     def place(self, number):
         """Where a name (even numbers) or value (odd numbers) begins."""
-        return self.word(self.rows + self.lists + 1 + number)
+        return self.word(self.lists() + 2 + number)
 
     def text(self, number):
-        return self.bytes[self.place(number):self.place(number + 1)]
+        return self.texts[self.place(number):self.place(number + 1)]
 
     def list(self, number):
         """The names and values of a list, from 0 on."""
@@ -52,17 +56,19 @@ class Part:
 
     def is_whole(self):
         """Whether its size is right and holds its tables, and they lead to nothing outside."""
-        if self.size > len(self.bytes) or self.size % 4 or HEAD + 4 * (self.rows + self.lists + 1) > self.size:
+        if self.size > len(self.bytes) or self.size % 4 or HEAD + 4 * self.rows + 4 > self.size:
             return False
-        firsts = [self.first(number) for number in range(self.lists + 1)]
+        if 4 * (self.lists() + 2) > len(self.texts):
+            return False
+        firsts = [self.first(number) for number in range(self.lists() + 1)]
         if firsts[0] != 0 or not rises(firsts):
             return False
         count = 2 * firsts[-1] + 1
-        if HEAD + 4 * (self.rows + self.lists + 1 + count) > self.size:
+        if 4 * (self.lists() + 2 + count) > len(self.texts):
             return False
         places = [self.place(number) for number in range(count)]
-        return sorted(places) == places and places[-1] <= self.size \
-            and all(self.of_row(row) <= self.lists for row in range(self.rows))
+        return sorted(places) == places and places[-1] <= len(self.texts) \
+            and all(self.of_row(row) <= self.lists() for row in range(self.rows))
 
 
 def rises(items):
@@ -119,7 +125,7 @@ def is_broken(found, modes):
     it = Part(found, len(modes))
     if not it.is_whole() or sum(struct.unpack(">%dI" % (it.size // 4), found[:it.size])) % 2 ** 32 != 0:
         return True
-    lists = [it.list(number) for number in range(it.lists)]
+    lists = [it.list(number) for number in range(it.lists())]
     if not all(is_list(items) for items in lists):
         return True
     accesses = [dict(items).get(ACCESS) for items in lists]

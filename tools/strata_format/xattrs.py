@@ -4,7 +4,7 @@ attributes of their files. A list of them is a tuple of pairs of name and value,
 import struct
 
 LETTERS = b"-attr02-"
-HEAD = struct.Struct(">8s3I")
+HEAD = struct.Struct(">8s2I")
 WORD = struct.Struct(">I")
 ACCESS, DEFAULT, CAPABILITY = b"system.posix_acl_access", b"system.posix_acl_default", b"security.capability"
 # what an overlay notes for itself; it would read these as its own
@@ -37,44 +37,47 @@ def part_of(rows):
             numbers.setdefault(items, len(numbers) + 1)
     if not numbers:
         return b""
+    body = words([numbers.get(items, 0) for items in rows]) + block_of(numbers)
+    size = HEAD.size + len(body)
+    sum_ = words_sum(HEAD.pack(LETTERS, size, 0) + body)
+    return HEAD.pack(LETTERS, size, -sum_ & 0xffffffff) + body
+
+
+def block_of(lists):
+    """The lists themselves: how many they are, where each begins, where names and values do, and these."""
     firsts = [0]
-    for items in numbers:
+    for items in lists:
         firsts.append(firsts[-1] + len(items))
-    texts = [text for items in numbers for item in items for text in item]
-    places = [HEAD.size + 4 * (len(rows) + len(firsts) + len(texts) + 1)]
+    texts = [text for items in lists for item in items for text in item]
+    places = [4 * (1 + len(firsts) + len(texts) + 1)]
     for text in texts:
         places.append(places[-1] + len(text))
-    tables = words([numbers.get(items, 0) for items in rows]) + words(firsts) + words(places)
-    body = tables + b"".join(texts) + bytes(-places[-1] % 4)
-    size = HEAD.size + len(body)
-    sum_ = words_sum(HEAD.pack(LETTERS, size, 0, len(numbers)) + body)
-    return HEAD.pack(LETTERS, size, -sum_ & 0xffffffff, len(numbers)) + body
+    return words([len(lists), *firsts, *places]) + b"".join(texts) + bytes(-places[-1] % 4)
 
 
 class Part:
     """The part at a place in an image's bytes, behind so many rows. It has no lists if there is none, or one cut off."""
 
     def __init__(self, data, place, rows):
-        self.data, self.place, self.rows, self.lists = data, place, rows, 0
+        self.data, self.rows, self.block, self.lists = data, place + HEAD.size, place + HEAD.size + 4 * rows, 0
         if len(data) - place >= HEAD.size:
-            letters, size, _, lists = HEAD.unpack_from(data, place)
-            if letters == LETTERS and size <= len(data) - place and HEAD.size + 4 * (rows + lists + 1) <= size:
-                self.lists = lists
+            letters, size, _ = HEAD.unpack_from(data, place)
+            if letters == LETTERS and size <= len(data) - place and HEAD.size + 4 * rows + 8 <= size:
+                self.lists = self.word(0)
 
     def word(self, number):
-        return WORD.unpack_from(self.data, self.place + HEAD.size + 4 * number)[0]
+        return WORD.unpack_from(self.data, self.block + 4 * number)[0]
 
     def text(self, number):
-        begin, end = self.word(self.rows + self.lists + 1 + number), self.word(self.rows + self.lists + 2 + number)
-        return bytes(self.data[self.place + begin:self.place + end])
+        begin, end = self.word(self.lists + 2 + number), self.word(self.lists + 3 + number)
+        return bytes(self.data[self.block + begin:self.block + end])
 
     def of_row(self, number):
         """The list of a row of a good trailer."""
-        number = self.word(number) if self.lists else 0
+        number = WORD.unpack_from(self.data, self.rows + 4 * number)[0] if self.lists else 0
         if number == 0:
             return ()
-        attributes = range(self.word(self.rows + number - 1), self.word(self.rows + number))
-        return tuple((self.text(2 * at), self.text(2 * at + 1)) for at in attributes)
+        return tuple((self.text(2 * at), self.text(2 * at + 1)) for at in range(self.word(number), self.word(number + 1)))
 
 
 def acl_entries(value):
