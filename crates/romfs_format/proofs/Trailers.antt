@@ -6,7 +6,7 @@ use Rattle.std.proofs.lemmas.Bool.{cases_lt, cases_order}
 use Rattle.romfs_format.specs.declared.rule.Profile.{Profile}
 use Rattle.romfs_format.specs.declared.rule.Rule.TheVariants.{Attributes}
 use Rattle.romfs_format.specs.Fields.{word}
-use Rattle.romfs_format.specs.Part.{IsPart}
+use Rattle.romfs_format.specs.Part.{AreTables, AreLists, IsPart}
 use Rattle.romfs_format.specs.Profiles.{reads_attributes}
 use Rattle.romfs_format.specs.Trailer.{trailer_at, trailer, HasTrailer, IsTrailer, IsTrailerBroken}
 use Rattle.romfs_format.specs.Rules.{IsSound}
@@ -28,20 +28,33 @@ stable_true : (b : Bool) → ¬ ¬ IsTrue b → IsTrue b
 stable_true true h = refl
 stable_true false h = absurd (h (λ e. absurd (cc)))
 
--- a part of which it can't be that it breaks its rule keeps it
-stable_part : (n : ℕ) (mode : ℕ → ℕ) (x : List ℕ) → ¬ ¬ IsPart n mode x → IsPart n mode x
-stable_part n mode x h = record {
-  head = stable_le _ _ (λ n. h (λ p. n p.head));
-  whole = stable_le _ _ (λ n. h (λ p. n p.whole));
-  words = stable_eq _ _ (λ n. h (λ p. n p.words));
-  sum = stable_eq _ _ (λ n. h (λ p. n p.sum));
+-- tables of which it can't be that they break their rule keep it
+stable_tables : (y : List ℕ) → ¬ ¬ AreTables y → AreTables y
+stable_tables y h = record {
   firsts_fit = stable_le _ _ (λ n. h (λ p. n p.firsts_fit));
   from_zero = stable_eq _ _ (λ n. h (λ p. n p.from_zero));
   firsts_rise = stable_true _ (λ n. h (λ p. n p.firsts_rise));
   edges_fit = stable_le _ _ (λ n. h (λ p. n p.edges_fit));
   edges_rise = stable_true _ (λ n. h (λ p. n p.edges_rise));
   inside = stable_le _ _ (λ n. h (λ p. n p.inside));
-  lists = stable_true _ (λ n. h (λ p. n p.lists));
+}
+
+-- so it is with lists
+stable_lists : (y : List ℕ) → ¬ ¬ AreLists y → AreLists y
+stable_lists y h = record {
+  tables = stable_tables y (λ n. h (λ p. n p.tables));
+  each = stable_true _ (λ n. h (λ p. n p.each));
+}
+
+-- and with a part
+stable_part : (n : ℕ) (mode : ℕ → ℕ) (x : List ℕ) → ¬ ¬ IsPart n mode x → IsPart n mode x
+stable_part n mode x h = record {
+  head = stable_le _ _ (λ n. h (λ p. n p.head));
+  whole = stable_le _ _ (λ n. h (λ p. n p.whole));
+  words = stable_eq _ _ (λ n. h (λ p. n p.words));
+  sum = stable_eq _ _ (λ n. h (λ p. n p.sum));
+  rows_fit = stable_le _ _ (λ n. h (λ p. n p.rows_fit));
+  lists = stable_lists _ (λ n. h (λ p. n p.lists));
   rows = stable_true _ (λ n. h (λ p. n p.rows));
 }
 

@@ -1,12 +1,12 @@
 -- The worked extended attributes and parts of trailers, by computation. What a part that is broken
 -- has to keep computes to something false.
-use Rattle.std.proofs.Common.{◌≡◌, ℕ, ◌<◌, ◌≤◌, List, arith, refl, lit<, lit≤}
+use Rattle.std.proofs.Common.{◌≡◌, ◌≤◌, arith, refl, lit<, lit≤}
 use Rattle.std.specs.Prelude.{⊤, false, true}
 use Rattle.romfs_format.specs.Fields.{word, ended}
 use Rattle.romfs_format.specs.Acls.{little_at}
 use Rattle.romfs_format.specs.Extended.{access_name, default_name, capability_name, is_overlay_name, is_capability}
-use Rattle.romfs_format.specs.Part.{part_bytes, piece, list_of, IsPart}
-use Rattle.romfs_format.specs.Trailer.{trailer, trailer_bytes, long_word, part, IsTrailer, IsTrailerBroken, row_of, IsRow}
+use Rattle.romfs_format.specs.Part.{part_bytes, lists_in, piece, list_of}
+use Rattle.romfs_format.specs.Trailer.{trailer, trailer_bytes, long_word, part}
 use Rattle.romfs_format.specs.ExtendedExamples.{AclExamples, BrokenAclExamples, CapabilityExamples, XattrNameExamples, ListExamples}
 use Rattle.romfs_format.specs.PartExamples.{PartExamples, RightPartExamples, BrokenPartExamples}
 use Rattle.romfs_format.proofs.WorkedTrailers.{two_right, one_right}
@@ -106,7 +106,7 @@ lists = record {
 
 -- what parts that are written out are read by
 unfoldable parts_on_literals : ⊤
-unfolding values_on_literals word trailer trailer_bytes long_word part part_bytes piece list_of
+unfolding values_on_literals word trailer trailer_bytes long_word part part_bytes lists_in piece list_of
 parts_on_literals = tt
 
 -- what is a part, and what its lists say
@@ -142,13 +142,18 @@ right = record {
       whole = lit≤ tt;
       words = refl;
       sum = refl;
-      firsts_fit = lit≤ tt;
-      from_zero = refl;
-      firsts_rise = refl;
-      edges_fit = lit≤ tt;
-      edges_rise = refl;
-      inside = lit≤ tt;
-      lists = refl;
+      rows_fit = lit≤ tt;
+      lists = record {
+        tables = record {
+          firsts_fit = lit≤ tt;
+          from_zero = refl;
+          firsts_rise = refl;
+          edges_fit = lit≤ tt;
+          edges_rise = refl;
+          inside = lit≤ tt;
+        };
+        each = refl;
+      };
       rows = refl;
     };
   };
@@ -162,13 +167,18 @@ right = record {
       whole = lit≤ tt;
       words = refl;
       sum = refl;
-      firsts_fit = lit≤ tt;
-      from_zero = refl;
-      firsts_rise = refl;
-      edges_fit = lit≤ tt;
-      edges_rise = refl;
-      inside = lit≤ tt;
-      lists = refl;
+      rows_fit = lit≤ tt;
+      lists = record {
+        tables = record {
+          firsts_fit = lit≤ tt;
+          from_zero = refl;
+          firsts_rise = refl;
+          edges_fit = lit≤ tt;
+          edges_rise = refl;
+          inside = lit≤ tt;
+        };
+        each = refl;
+      };
       rows = refl;
     };
   };
@@ -182,13 +192,18 @@ right = record {
       whole = lit≤ tt;
       words = refl;
       sum = refl;
-      firsts_fit = lit≤ tt;
-      from_zero = refl;
-      firsts_rise = refl;
-      edges_fit = lit≤ tt;
-      edges_rise = refl;
-      inside = lit≤ tt;
-      lists = refl;
+      rows_fit = lit≤ tt;
+      lists = record {
+        tables = record {
+          firsts_fit = lit≤ tt;
+          from_zero = refl;
+          firsts_rise = refl;
+          edges_fit = lit≤ tt;
+          edges_rise = refl;
+          inside = lit≤ tt;
+        };
+        each = refl;
+      };
       rows = refl;
     };
   };
@@ -202,13 +217,18 @@ right = record {
       whole = lit≤ tt;
       words = refl;
       sum = refl;
-      firsts_fit = lit≤ tt;
-      from_zero = refl;
-      firsts_rise = refl;
-      edges_fit = lit≤ tt;
-      edges_rise = refl;
-      inside = lit≤ tt;
-      lists = refl;
+      rows_fit = lit≤ tt;
+      lists = record {
+        tables = record {
+          firsts_fit = lit≤ tt;
+          from_zero = refl;
+          firsts_rise = refl;
+          edges_fit = lit≤ tt;
+          edges_rise = refl;
+          inside = lit≤ tt;
+        };
+        each = refl;
+      };
       rows = refl;
     };
   };
@@ -218,17 +238,18 @@ right = record {
 pub broken : BrokenPartExamples
 unfolding parts_on_literals
 broken = record {
-  letters_alone = (refl, λ t. let l : 20 ≤ 8 = (t.part refl).head in omega arith);
+  letters_alone = (refl, λ t. let l : 16 ≤ 8 = (t.part refl).head in omega arith);
   cut_off = (refl, λ t. let l : 52 ≤ 51 = (t.part refl).whole in omega arith);
   uneven = (refl, λ t. let e : 1 ≡ 0 = (t.part refl).words in omega arith);
   large_sum = (refl, λ t. let e : 1 ≡ 0 = (t.part refl).sum in omega arith);
-  many_lists = (refl, λ t. let l : 60 ≤ 52 = (t.part refl).firsts_fit in omega arith);
-  from_one = (refl, λ t. let e : 1 ≡ 0 = (t.part refl).from_zero in omega arith);
-  empty_list = (refl, λ t. let e : false ≡ true = (t.part refl).firsts_rise in cc);
-  many_attributes = (refl, λ t. let l : 76 ≤ 52 = (t.part refl).edges_fit in omega arith);
-  falling = (refl, λ t. let e : false ≡ true = (t.part refl).edges_rise in cc);
-  outside = (refl, λ t. let l : 53 ≤ 52 = (t.part refl).inside in omega arith);
-  nameless = (refl, λ t. let e : false ≡ true = (t.part refl).lists in cc);
+  no_lists = (refl, λ t. let l : 24 ≤ 20 = (t.part refl).rows_fit in omega arith);
+  many_lists = (refl, λ t. let l : 36 ≤ 32 = (t.part refl).lists.tables.firsts_fit in omega arith);
+  from_one = (refl, λ t. let e : 1 ≡ 0 = (t.part refl).lists.tables.from_zero in omega arith);
+  empty_list = (refl, λ t. let e : false ≡ true = (t.part refl).lists.tables.firsts_rise in cc);
+  many_attributes = (refl, λ t. let l : 40 ≤ 32 = (t.part refl).lists.tables.edges_fit in omega arith);
+  falling = (refl, λ t. let e : false ≡ true = (t.part refl).lists.tables.edges_rise in cc);
+  outside = (refl, λ t. let l : 33 ≤ 32 = (t.part refl).lists.tables.inside in omega arith);
+  nameless = (refl, λ t. let e : false ≡ true = (t.part refl).lists.each in cc);
   second_of_one = (refl, λ t. let e : false ≡ true = (t.part refl).rows in cc);
   disagreeing = (refl, λ t. let e : false ≡ true = (t.part refl).rows in cc);
 }

@@ -15,7 +15,7 @@ pub record LimitExamples : Type 0 where
   pub row : ROW_SIZE ≡ 32
   pub mode : MAX_MODE ≡ 0xfff
   pub second : SECOND ≡ 10 ^ 9
-  pub part_head : PART_HEAD_SIZE ≡ 20
+  pub part_head : PART_HEAD_SIZE ≡ 16
   pub xattr_name : MAX_XATTR_NAME_SIZE ≡ 255
   pub xattr : MAX_XATTR_SIZE ≡ 65536
   pub xattr_list : MAX_XATTR_LIST_SIZE ≡ 65536

@@ -1,5 +1,5 @@
 -- xattr(7), linux/limits.h and linux/capability.h: extended attributes, and a file's list of them.
-use Rattle.std.specs.Prelude.{ℕ, ◌+◌, ◌%◌, ◌==◌, ◌&&◌, ◌||◌, Bool, true, List, [], ◌∷◌, ◌++◌, length, take, Option, Some, None, nat_eq, nat_le, not, codes, bytes_eq, if◌then◌else◌}
+use Rattle.std.specs.Prelude.{ℕ, ◌%◌, ◌==◌, ◌&&◌, ◌||◌, Bool, true, List, [], ◌∷◌, ◌++◌, length, take, Option, Some, None, nat_eq, nat_le, not, codes, bytes_eq, if◌then◌else◌}
 use Rattle.std.specs.List.{starts_with, list_all}
 use Rattle.std.specs.Option.{is_none, option_map_or}
 use Rattle.std.specs.Ordering.{nat_cmp, is_lt}

@@ -1,6 +1,6 @@
 -- Worked examples: access control lists and capabilities as setfacl(1) and setcap(8) made them, names,
 -- lists, and why others are refused.
-use Rattle.std.specs.Prelude.{◌≡◌, ℕ, ◌^◌, false, true, Bool, List, [], ◌∷◌, ◌++◌, take, drop, replicate, codes, Some, None}
+use Rattle.std.specs.Prelude.{◌≡◌, ℕ, false, true, List, [], ◌∷◌, ◌++◌, take, drop, replicate, codes, Some, None}
 use Rattle.byteorder.specs.Endian.{little_bytes}
 use Rattle.romfs_format.specs.Acls.{is_acl, acl_mode}
 use Rattle.romfs_format.specs.Extended.{Extended, is_xattr_name, is_capability, is_extended, is_list, names_of, value_of, agrees}

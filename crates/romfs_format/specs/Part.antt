@@ -5,8 +5,72 @@ use Rattle.romfs_format.specs.Fields.{word, word_sum}
 use Rattle.romfs_format.specs.Below.{holds_below}
 use Rattle.romfs_format.specs.Extended.{Extended, is_list, agrees}
 
--- x is all bytes from where the rows end on, and n is how many rows there are. The part has three
--- tables of words: for each row, for each list, and two for each attribute.
+-- y is the bytes of the lists. They begin with words: how many lists there are, where each begins,
+-- and where names and values begin.
+
+-- word k
+abbrev pub table_word : List ℕ → ℕ → ℕ
+table_word y k = word y (4 * k)
+
+-- how many lists there are
+abbrev pub list_count : List ℕ → ℕ
+list_count y = table_word y 0
+
+-- the first attribute of list j, both counted from 0 on
+abbrev pub first_of : List ℕ → ℕ → ℕ
+first_of y j = table_word y (j + 1)
+
+-- how many attributes all lists have: this stands behind the last list's first one
+abbrev pub attribute_count : List ℕ → ℕ
+attribute_count y = first_of y (list_count y)
+
+-- where name or value k begins and the one before it ends: the name of attribute i is 2 * i
+abbrev pub edge : List ℕ → ℕ → ℕ
+edge y k = table_word y (list_count y + 2 + k)
+
+-- how many words there are
+abbrev pub table_size : List ℕ → ℕ
+table_size y = list_count y + 2 + (2 * attribute_count y + 1)
+
+-- name or value k
+unfoldable pub piece : List ℕ → ℕ → List ℕ
+piece y k = take (edge y (k + 1) - edge y k) (drop (edge y k) y)
+
+-- attribute i
+abbrev pub attribute : List ℕ → ℕ → Extended
+attribute y i = record { name = piece y (2 * i); value = piece y (2 * i + 1) }
+
+-- so many attributes from this one on
+abbrev pub attributes : List ℕ → ℕ → ℕ → List Extended
+attributes y i zero = []
+attributes y i (suc m) = attribute y i ∷ attributes y (suc i) m
+
+-- list j
+unfoldable pub list_of : List ℕ → ℕ → List Extended
+list_of y j = attributes y (first_of y j) (first_of y (j + 1) - first_of y j)
+
+-- the list with a number that counts from 1 on
+abbrev pub numbered : List ℕ → ℕ → List Extended
+numbered y zero = []
+numbered y (suc j) = list_of y j
+
+-- what the words lead to lies in order and inside
+pub record AreTables (y : List ℕ) : Type 0 where
+  pub firsts_fit : 4 * (list_count y + 2) ≤ length y
+  pub from_zero : first_of y 0 ≡ 0
+  pub firsts_rise : IsTrue (holds_below (list_count y)
+      (λ j. nat_lt (first_of y j) (first_of y (j + 1))))
+  pub edges_fit : 4 * table_size y ≤ length y
+  pub edges_rise : IsTrue (holds_below (2 * attribute_count y)
+      (λ k. nat_le (edge y k) (edge y (k + 1))))
+  pub inside : edge y (2 * attribute_count y) ≤ length y
+
+-- and each list is one that a file may have
+pub record AreLists (y : List ℕ) : Type 0 where
+  pub tables : AreTables y
+  pub each : IsTrue (holds_below (list_count y) (λ j. is_list (list_of y j)))
+
+-- x is all bytes from where the rows end on, and n is how many rows there are
 
 -- how many bytes the part has
 abbrev pub part_size : List ℕ → ℕ
@@ -16,76 +80,31 @@ part_size x = word x 8
 unfoldable pub part_bytes : List ℕ → List ℕ
 part_bytes x = take (part_size x) x
 
--- how many lists it has
-abbrev pub list_count : List ℕ → ℕ
-list_count x = word x 16
+-- where the lists begin, behind a word for each row
+abbrev pub lists_start : ℕ → ℕ
+lists_start n = PART_HEAD_SIZE + 4 * n
 
--- word k of the tables
-abbrev pub entry_of : List ℕ → ℕ → ℕ
-entry_of x k = word x (PART_HEAD_SIZE + 4 * k)
+-- the bytes of the lists
+unfoldable pub lists_in : ℕ → List ℕ → List ℕ
+lists_in n x = drop (lists_start n) (part_bytes x)
 
--- the list of row i, counted from 1 on; 0 for none
+-- the number of the list of row i; 0 for none
 abbrev pub list_number : List ℕ → ℕ → ℕ
-list_number x i = entry_of x i
-
--- the first attribute of list j, both counted from 0 on
-abbrev pub first_of : ℕ → List ℕ → ℕ → ℕ
-first_of n x j = entry_of x (n + j)
-
--- how many attributes all lists have: this stands behind the last list's first one
-abbrev pub attribute_count : ℕ → List ℕ → ℕ
-attribute_count n x = first_of n x (list_count x)
-
--- how many words stand before those of the attributes
-abbrev pub edges_from : ℕ → List ℕ → ℕ
-edges_from n x = n + list_count x + 1
-
--- where name or value k begins and the one before it ends: the name of attribute i is 2 * i
-abbrev pub edge : ℕ → List ℕ → ℕ → ℕ
-edge n x k = entry_of x (edges_from n x + k)
-
--- name or value k
-unfoldable pub piece : ℕ → List ℕ → ℕ → List ℕ
-piece n x k = take (edge n x (k + 1) - edge n x k) (drop (edge n x k) x)
-
--- attribute i
-abbrev pub attribute : ℕ → List ℕ → ℕ → Extended
-attribute n x i = record { name = piece n x (2 * i); value = piece n x (2 * i + 1) }
-
--- as many attributes, from the first on
-abbrev pub attributes : ℕ → List ℕ → ℕ → ℕ → List Extended
-attributes n x first zero = []
-attributes n x first (suc m) = attribute n x first ∷ attributes n x (suc first) m
-
--- list j
-unfoldable pub list_of : ℕ → List ℕ → ℕ → List Extended
-list_of n x j = attributes n x (first_of n x j) (first_of n x (j + 1) - first_of n x j)
-
--- the list with a row's number
-abbrev pub numbered : ℕ → List ℕ → ℕ → List Extended
-numbered n x zero = []
-numbered n x (suc j) = list_of n x j
+list_number x i = word x (PART_HEAD_SIZE + 4 * i)
 
 -- row i leads to a list that is there, and says what its mode says
-abbrev pub leads : ℕ → List ℕ → (ℕ → ℕ) → ℕ → Bool
-leads n x mode i =
-    nat_le (list_number x i) (list_count x) && agrees (mode i) (numbered n x (list_number x i))
+abbrev pub leads : ℕ → (ℕ → ℕ) → List ℕ → ℕ → Bool
+leads n mode x i =
+    nat_le (list_number x i) (list_count (lists_in n x))
+    && agrees (mode i) (numbered (lists_in n x) (list_number x i))
 
 -- the part keeps its rule, behind rows of these modes: it is not cut off, its words sum to 0, its
--- tables fit, what they lead to lies in order and inside, and lists and rows are right
+-- lists are right, and the rows lead to them
 pub record IsPart (n : ℕ) (mode : ℕ → ℕ) (x : List ℕ) : Type 0 where
   pub head : PART_HEAD_SIZE ≤ length x
   pub whole : part_size x ≤ length x
   pub words : part_size x % 4 ≡ 0
   pub sum : word_sum (part_bytes x) % 2 ^ 32 ≡ 0
-  pub firsts_fit : PART_HEAD_SIZE + 4 * edges_from n x ≤ part_size x
-  pub from_zero : first_of n x 0 ≡ 0
-  pub firsts_rise : IsTrue (holds_below (list_count x)
-      (λ j. nat_lt (first_of n x j) (first_of n x (j + 1))))
-  pub edges_fit :
-      PART_HEAD_SIZE + 4 * (edges_from n x + 2 * attribute_count n x + 1) ≤ part_size x
-  pub edges_rise : IsTrue (holds_below (2 * attribute_count n x)
-      (λ k. nat_le (edge n x k) (edge n x (k + 1))))
-  pub inside : edge n x (2 * attribute_count n x) ≤ part_size x
-  pub lists : IsTrue (holds_below (list_count x) (λ j. is_list (list_of n x j)))
-  pub rows : IsTrue (holds_below n (leads n x mode))
+  pub rows_fit : lists_start n + 4 ≤ part_size x
+  pub lists : AreLists (lists_in n x)
+  pub rows : IsTrue (holds_below n (leads n mode x))

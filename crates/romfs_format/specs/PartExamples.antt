@@ -1,7 +1,7 @@
 -- Worked examples: trailers of version 2 written out, what they say, and why they are broken.
 use Rattle.std.specs.Prelude.{◌≡◌, ℕ, false, true, List, [], ◌∷◌, ◌++◌, take, codes}
 use Rattle.romfs_format.specs.Extended.{Extended}
-use Rattle.romfs_format.specs.ExtendedExamples.{named, named_acl, net_raw, two_users}
+use Rattle.romfs_format.specs.ExtendedExamples.{named, named_acl, net_raw}
 use Rattle.romfs_format.specs.Trailer.{trailer, has_part, lists, lists_shown, list_at, rows, IsTrailer, IsTrailerBroken}
 use Rattle.romfs_format.specs.TrailerExamples.{bytes_of, behind}
 use Rattle.romfs_format.specs.declared.rule.Profile.TheVariants.{Usual, UsualWithAttributes}
@@ -15,10 +15,10 @@ two_lists = behind (
     ∷ 0x30 ∷ 0x1a0 ∷ 0 ∷ 0 ∷ 0 ∷ 0 ∷ 0 ∷ 0 ∷ [])
     ++ codes "-attr02-"
     ++ bytes_of (
-    180 ∷ 0x548f26d0 ∷ 2
+    180 ∷ 0x548f2778
     ∷ 1 ∷ 2
-    ∷ 0 ∷ 2 ∷ 3
-    ∷ 68 ∷ 87 ∷ 107 ∷ 113 ∷ 113 ∷ 136 ∷ 180 ∷ [])
+    ∷ 2 ∷ 0 ∷ 2 ∷ 3
+    ∷ 44 ∷ 63 ∷ 83 ∷ 89 ∷ 89 ∷ 112 ∷ 156 ∷ [])
     ++ codes "security.capability" ++ net_raw
     ++ codes "user.a"
     ++ codes "system.posix_acl_access" ++ named_acl
@@ -42,17 +42,18 @@ other_row_and words =
     behind (1 ∷ 0x606e58be ∷ 0x20 ∷ 0x180 ∷ 0 ∷ 0 ∷ 0 ∷ 0 ∷ 0 ∷ 0 ∷ [])
     ++ codes "-attr02-" ++ bytes_of words
 
--- one list with user.a, whose value is b: these are its size, what makes its sum 0, how many lists
--- there are, the row's, where the list begins and ends, and where name and value do
+-- one list with user.a, whose value is b: these are the part's size and what makes its sum 0, the
+-- number of the row's list, how many lists there are, where this one begins and ends, and where its
+-- name, its value and what is behind begin
 abbrev pub user_a : ℕ → ℕ → ℕ → ℕ → ℕ → ℕ → ℕ → ℕ → ℕ → List ℕ
-user_a size sum count number first end name value close = one_row_and (
-    size ∷ sum ∷ count ∷ number ∷ first ∷ end ∷ name ∷ value ∷ close
+user_a size sum number count first end name value close = one_row_and (
+    size ∷ sum ∷ number ∷ count ∷ first ∷ end ∷ name ∷ value ∷ close
     ∷ 0x75736572 ∷ 0x2e616200 ∷ [])
 
 -- one list with an access control list of rw-, r-- and ---
 abbrev pub three_entries : List ℕ
 three_entries =
-    96 ∷ 0xf3d412df ∷ 1 ∷ 1 ∷ 0 ∷ 1 ∷ 44 ∷ 67 ∷ 95
+    96 ∷ 0xf3d4131b ∷ 1 ∷ 1 ∷ 0 ∷ 1 ∷ 24 ∷ 47 ∷ 75
     ∷ 0x73797374 ∷ 0x656d2e70 ∷ 0x6f736978 ∷ 0x5f61636c ∷ 0x5f616363 ∷ 0x65737302
     ∷ 1 ∷ 0x000600ff ∷ 0xffffff04 ∷ 0x000400ff ∷ 0xffffff20 ∷ 0x000000ff ∷ 0xffffff00 ∷ []
 
@@ -74,7 +75,7 @@ pub record PartExamples : Type 0 where
 -- trailers with a part that keep their rule
 pub record RightPartExamples : Type 0 where
   pub two : IsTrailer 64 (trailer two_lists)
-  pub one : IsTrailer 64 (trailer (user_a 52 0xbc999125 1 1 0 1 44 50 51))
+  pub one : IsTrailer 64 (trailer (user_a 52 0xbc999161 1 1 0 1 24 30 31))
   pub no_list : IsTrailer 64
       (trailer (one_row_and (32 ∷ 0x606e593f ∷ 0 ∷ 0 ∷ 0 ∷ 0 ∷ [])))
   pub agreeing : IsTrailer 64 (trailer (one_row_and three_entries))
@@ -82,16 +83,17 @@ pub record RightPartExamples : Type 0 where
 -- trailers whose part breaks its rule, each for one thing alone
 pub record BrokenPartExamples : Type 0 where
   pub letters_alone : IsTrailerBroken (one_row_and [])
-  pub cut_off : IsTrailerBroken (take 163 (user_a 52 0xbc999125 1 1 0 1 44 50 51))
-  pub uneven : IsTrailerBroken (user_a 53 0xbc999124 1 1 0 1 44 50 51 ++ 0 ∷ 0 ∷ 0 ∷ 0 ∷ [])
-  pub large_sum : IsTrailerBroken (user_a 52 0xbc999126 1 1 0 1 44 50 51)
-  pub many_lists : IsTrailerBroken (user_a 52 0xbc99911e 8 1 0 1 44 50 51)
+  pub cut_off : IsTrailerBroken (take 163 (user_a 52 0xbc999161 1 1 0 1 24 30 31))
+  pub uneven : IsTrailerBroken (user_a 53 0xbc999160 1 1 0 1 24 30 31 ++ 0 ∷ 0 ∷ 0 ∷ 0 ∷ [])
+  pub large_sum : IsTrailerBroken (user_a 52 0xbc999162 1 1 0 1 24 30 31)
+  pub no_lists : IsTrailerBroken (one_row_and (20 ∷ 0x606e594a ∷ 1 ∷ []))
+  pub many_lists : IsTrailerBroken (user_a 52 0xbc99915b 1 7 0 1 24 30 31)
   pub from_one : IsTrailerBroken (one_row_and (
-      60 ∷ 0xbc99909b ∷ 1 ∷ 1 ∷ 1 ∷ 2 ∷ 52 ∷ 52 ∷ 52 ∷ 58 ∷ 59 ∷ 0x75736572 ∷ 0x2e616200 ∷ []))
-  pub empty_list : IsTrailerBroken (user_a 52 0xbc999126 1 1 0 0 44 50 51)
-  pub many_attributes : IsTrailerBroken (user_a 52 0xbc999121 1 1 0 5 44 50 51)
-  pub falling : IsTrailerBroken (user_a 52 0xbc99911e 1 1 0 1 51 50 51)
-  pub outside : IsTrailerBroken (user_a 52 0xbc999123 1 1 0 1 44 50 53)
-  pub nameless : IsTrailerBroken (user_a 52 0xbc99911f 1 1 0 1 50 50 51)
-  pub second_of_one : IsTrailerBroken (user_a 52 0xbc999124 1 2 0 1 44 50 51)
+      60 ∷ 0xbc9990ff ∷ 1 ∷ 1 ∷ 1 ∷ 2 ∷ 32 ∷ 32 ∷ 32 ∷ 38 ∷ 39 ∷ 0x75736572 ∷ 0x2e616200 ∷ []))
+  pub empty_list : IsTrailerBroken (user_a 52 0xbc999162 1 1 0 0 24 30 31)
+  pub many_attributes : IsTrailerBroken (user_a 52 0xbc99915f 1 1 0 3 24 30 31)
+  pub falling : IsTrailerBroken (user_a 52 0xbc99915a 1 1 0 1 31 30 31)
+  pub outside : IsTrailerBroken (user_a 52 0xbc99915f 1 1 0 1 24 30 33)
+  pub nameless : IsTrailerBroken (user_a 52 0xbc99915b 1 1 0 1 30 30 31)
+  pub second_of_one : IsTrailerBroken (user_a 52 0xbc999160 2 1 0 1 24 30 31)
   pub disagreeing : IsTrailerBroken (other_row_and three_entries)

@@ -9,7 +9,7 @@ use Rattle.romfs_format.specs.declared.rule.Profile.{Profile}
 use Rattle.romfs_format.specs.Fields.{word, padded, word_sum}
 use Rattle.romfs_format.specs.Profiles.{reads_attributes}
 use Rattle.romfs_format.specs.Extended.{Extended}
-use Rattle.romfs_format.specs.Part.{list_number, numbered, IsPart}
+use Rattle.romfs_format.specs.Part.{list_number, lists_in, numbered, IsPart}
 
 -- b is all bytes of an image, and t those from where its trailer begins on. Numbers are big-endian,
 -- as in the image.
@@ -112,7 +112,9 @@ rows b = if has_trailer b then first_rows (trailer b) (row_count (trailer b)) el
 -- the extended attributes of row i
 abbrev pub extended_of : List ℕ → ℕ → List Extended
 extended_of t i =
-    if has_part t then numbered (row_count t) (part t) (list_number (part t) i) else []
+    if has_part t
+    then numbered (lists_in (row_count t) (part t)) (list_number (part t) i)
+    else []
 
 -- those of the first n rows
 abbrev pub first_lists : List ℕ → ℕ → List (List Extended)

@@ -31,8 +31,8 @@ pub const MAX_MODE: u32 = 4_095;
 /// How many nanoseconds a second has. A row has fewer.
 pub const SECOND: u32 = 1_000_000_000;
 
-/// The size of what stands before the tables of the part with extended attributes, in bytes.
-pub const PART_HEAD_SIZE: usize = 20;
+/// The size of what stands before the words of the part with extended attributes, in bytes.
+pub const PART_HEAD_SIZE: usize = 16;
 
 /// The most bytes of the name of an extended attribute (`XATTR_NAME_MAX` of linux/limits.h).
 pub const MAX_XATTR_NAME_SIZE: usize = 255;
