@@ -1,3 +1,4 @@
+pub mod Below
 pub mod Text
 pub mod Faults
 pub mod Targets

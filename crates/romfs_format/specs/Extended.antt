@@ -1,5 +1,5 @@
 -- xattr(7), linux/limits.h and linux/capability.h: extended attributes, and a file's list of them.
-use Rattle.std.specs.Prelude.{ℕ, ◌%◌, ◌==◌, ◌&&◌, ◌||◌, Bool, true, List, [], ◌∷◌, ◌++◌, length, take, Option, Some, None, nat_eq, nat_le, not, codes, bytes_eq, if◌then◌else◌}
+use Rattle.std.specs.Prelude.{ℕ, ◌%◌, ◌==◌, ◌&&◌, ◌||◌, Bool, true, List, [], ◌∷◌, ◌++◌, length, Option, Some, None, nat_eq, nat_le, not, codes, bytes_eq, if◌then◌else◌}
 use Rattle.std.specs.List.{starts_with, list_all}
 use Rattle.std.specs.Option.{is_none, option_map_or}
 use Rattle.std.specs.Ordering.{nat_cmp, is_lt}
@@ -42,8 +42,8 @@ is_xattr_name name =
 -- the value begins with this revision of capabilities, which take effect at once or not
 abbrev pub has_revision : List ℕ → ℕ → Bool
 has_revision value revision =
-    bytes_eq (take 4 value) (0 ∷ 0 ∷ 0 ∷ revision ∷ [])
-    || bytes_eq (take 4 value) (1 ∷ 0 ∷ 0 ∷ revision ∷ [])
+    starts_with nat_eq value (0 ∷ 0 ∷ 0 ∷ revision ∷ [])
+    || starts_with nat_eq value (1 ∷ 0 ∷ 0 ∷ revision ∷ [])
 
 -- the value is that of a file's capabilities: of revision 2, or of revision 3 with a namespace
 unfoldable pub is_capability : List ℕ → Bool
