@@ -40,7 +40,7 @@ module _ (y : List ℕ) (end : ℕ) where
       ∙ ap (λ xs. attribute y i ∷ xs) (run_step (i + 1) l))
       ∙ ap (λ xs. is_lt (slice_cmp nat_cmp (piece y (2 * i)) (piece y (2 * (i + 1)))) && names_rise xs) (sym (run_step (i + 1) l))
 
-  rises_before : (i : ℕ) → i + 1 < end
+  pub rises_before : (i : ℕ) → i + 1 < end
       → rises_at y end i ≡ is_lt (slice_cmp nat_cmp (piece y (2 * i)) (piece y (2 * (i + 1))))
   rises_before i m = let f : nat_le end (i + 1) ≡ false = grind (arith, nat_tests) in rw f refl
 

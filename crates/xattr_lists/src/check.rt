@@ -1,11 +1,11 @@
 //! Whether lists hold what files may have.
 
-ghost use Rattle.std.specs.Prelude.{◌≡◌, ◌-◌, ◌<◌, ◌≤◌, length, nat_le};
+ghost use Rattle.std.specs.Prelude.{◌≡◌, ◌-◌, ◌<◌, ◌≤◌, ◌↔◌, length, nat_le, IsTrue};
 ghost use Rattle.std.specs.List.{list_all};
 ghost use Rattle.romfs_format.specs.declared.limits.TheConstants.{MAX_XATTR_LIST_SIZE};
 ghost use Rattle.romfs_format.specs.Below.{holds_below};
 ghost use Rattle.romfs_format.specs.Extended.{is_extended, is_list, names_of, names_rise};
-ghost use Rattle.romfs_format.specs.Part.{attribute_count, attributes, list_count, list_of};
+ghost use Rattle.romfs_format.specs.Part.{attribute_count, attributes, list_count, list_of, AreLists};
 ghost use Rattle.xattr_lists.specs.Runs.{rises_at};
 
 use crate::attribute::is_extended;
@@ -13,9 +13,19 @@ use crate::lists::Lists;
 use romfs_format::limits::MAX_XATTR_LIST_SIZE;
 use std::cmp::Ordering;
 
-/// Whether each list is one that a file may have. It goes over names and values once, and over names
-/// twice more, and takes no memory.
-pub(crate) fn are_right(lists: &Lists<'_>) -> bool
+/// Whether bytes are lists that files may have. It goes over names and values once, and over names
+/// twice more.
+pub fn are_lists(bytes: &[u8]) -> bool
+    ensures { IsTrue result ↔ AreLists bytes.now }
+{
+    match Lists::of(bytes) {
+        Some(lists) => are_right(&lists),
+        None => false,
+    }
+}
+
+// Whether each list is one that a file may have.
+fn are_right(lists: &Lists<'_>) -> bool
     ensures { result ≡ holds_below (list_count lists.now) (λ j. is_list (list_of lists.now j)) }
 {
     for number in 0..lists.count() {
