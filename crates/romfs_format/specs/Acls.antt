@@ -1,6 +1,6 @@
 -- linux/posix_acl_xattr.h and acl(5): an access control list as the value of an extended attribute,
 -- when it is a valid one, and the mode that it agrees with.
-use Rattle.std.specs.Prelude.{ℕ, zero, suc, ◌+◌, ◌*◌, ◌/◌, ◌%◌, ◌^◌, ◌==◌, ◌&&◌, ◌||◌, Bool, true, List, length, drop, Option, Some, None, nat_le, nat_lt, not, if◌then◌else◌}
+use Rattle.std.specs.Prelude.{ℕ, zero, suc, ◌+◌, ◌-◌, ◌*◌, ◌/◌, ◌%◌, ◌^◌, ◌==◌, ◌&&◌, ◌||◌, Bool, true, List, length, drop, Option, Some, None, nat_le, nat_lt, not, if◌then◌else◌}
 use Rattle.std.specs.Option.{is_some, option_or, unwrap_or}
 use Rattle.byteorder.specs.Endian.{little_number}
 use Rattle.romfs_format.specs.declared.limits.TheConstants.{MAX_ACL_SIZE}
@@ -13,9 +13,9 @@ use Rattle.romfs_format.specs.Below.{holds_below}
 unfoldable pub little_at : ℕ → List ℕ → ℕ → ℕ
 little_at n v p = little_number n (drop p v)
 
--- how many entries it has, if its size is right
+-- how many entries it has
 abbrev pub acl_count : List ℕ → ℕ
-acl_count v = length v / 8
+acl_count v = (length v - 4) / 8
 
 -- what entry i is for
 abbrev pub acl_tag : List ℕ → ℕ → ℕ

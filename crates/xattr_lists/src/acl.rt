@@ -23,8 +23,7 @@ pub(crate) fn is_acl(value: &[u8]) -> bool
 }
 
 /// The permissions in the mode of the file of an access control list.
-pub fn acl_mode(value: &[u8]) -> u32
-    requires { length value.now % 8 ≡ 4 }
+pub(crate) fn acl_mode(value: &[u8]) -> u32
     ensures { result ≡ acl_mode value.now }
 {
     let class = bits_of(value, MASK).or(bits_of(value, GROUP_OBJ));
@@ -33,12 +32,18 @@ pub fn acl_mode(value: &[u8]) -> u32
         + bits_of(value, OTHER).unwrap_or(0)
 }
 
+// How many entries there are.
+fn entries_in(value: &[u8]) -> usize
+    ensures { result ≡ acl_count value.now }
+{
+    value.len().saturating_sub(4) / 8
+}
+
 // Whether all entries are right.
 fn are_entries(value: &[u8]) -> bool
-    requires { length value.now % 8 ≡ 4 }
     ensures { result ≡ holds_below (acl_count value.now) (is_acl_entry value.now) }
 {
-    for number in 0..value.len() / 8 {
+    for number in 0..entries_in(value) {
         if !is_entry(value, number) {
             return false;
         }
@@ -78,7 +83,6 @@ fn follows(value: &[u8], number: usize) -> bool
 
 // Whether those have an entry who must have one.
 fn has_tags(value: &[u8]) -> bool
-    requires { length value.now % 8 ≡ 4 }
     ensures { result ≡ has_tags value.now }
 {
     has_tag(value, USER_OBJ)
@@ -89,7 +93,6 @@ fn has_tags(value: &[u8]) -> bool
 
 // Whether there is an entry with a tag.
 fn has_tag(value: &[u8], tag: u32) -> bool
-    requires { length value.now % 8 ≡ 4 }
     ensures { result ≡ has_tag tag value.now }
 {
     bits_of(value, tag).is_some()
@@ -97,12 +100,11 @@ fn has_tag(value: &[u8], tag: u32) -> bool
 
 // What the entry with a tag permits, if there is one.
 fn bits_of(value: &[u8], tag: u32) -> Option<u32>
-    requires { length value.now % 8 ≡ 4 }
     ensures value { result ≡ bits_of tag value.now }
     ensures small { IfSome result (λ bits. bits < 2 ^ 16) }
 {
     let mut found = None;
-    for number in 0..value.len() / 8 {
+    for number in 0..entries_in(value) {
         if tag_at(value, number) == tag {
             found = Some(bits_at(value, number));
         }

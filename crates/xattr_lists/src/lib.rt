@@ -2,16 +2,17 @@
 //! `Extended`, of `romfs_format`).
 //!
 //! [`Lists`] lends their bytes, whose tables are in order, and finds the value of an attribute by
-//! halves ([`Lists::value_of`]). [`are_lists`] says whether bytes are lists that files may have: it
+//! halves ([`Lists::value_of`]); with that [`Lists::agrees`] compares an access control list with
+//! a mode. [`are_lists`] says whether bytes are lists that files may have: it
 //! goes over them few times. No call takes memory. All promise what the definitions say.
 #![tactic(auto)]
 
 mod acl;
+mod agreement;
 mod attribute;
 mod check;
 mod lists;
 mod search;
 
-pub use acl::acl_mode;
 pub use check::are_lists;
 pub use lists::Lists;
