@@ -10,6 +10,7 @@
 
 mod check;
 mod kept_row;
+mod part;
 mod read;
 mod rows;
 

@@ -6,7 +6,7 @@ use Rattle.std.proofs.lemmas.Bool.{cases_lt, cases_order}
 use Rattle.romfs_format.specs.declared.rule.Profile.{Profile}
 use Rattle.romfs_format.specs.declared.rule.Rule.TheVariants.{Attributes}
 use Rattle.romfs_format.specs.Fields.{word}
-use Rattle.romfs_format.specs.Part.{AreTables, AreLists, IsPart}
+use Rattle.romfs_format.specs.Part.{AreTables, AreLists, IsFramed, IsPart}
 use Rattle.romfs_format.specs.Profiles.{reads_attributes}
 use Rattle.romfs_format.specs.Trailer.{trailer_at, trailer, HasTrailer, IsTrailer, IsTrailerBroken}
 use Rattle.romfs_format.specs.Rules.{IsSound}
@@ -46,14 +46,20 @@ stable_lists y h = record {
   each = stable_true _ (λ n. h (λ p. n p.each));
 }
 
--- and with a part
-stable_part : (n : ℕ) (mode : ℕ → ℕ) (x : List ℕ) → ¬ ¬ IsPart n mode x → IsPart n mode x
-stable_part n mode x h = record {
+-- and with what frames them
+stable_frame : (n : ℕ) (x : List ℕ) → ¬ ¬ IsFramed n x → IsFramed n x
+stable_frame n x h = record {
   head = stable_le _ _ (λ n. h (λ p. n p.head));
   whole = stable_le _ _ (λ n. h (λ p. n p.whole));
   words = stable_eq _ _ (λ n. h (λ p. n p.words));
   sum = stable_eq _ _ (λ n. h (λ p. n p.sum));
   rows_fit = stable_le _ _ (λ n. h (λ p. n p.rows_fit));
+}
+
+-- and with a part
+stable_part : (n : ℕ) (mode : ℕ → ℕ) (x : List ℕ) → ¬ ¬ IsPart n mode x → IsPart n mode x
+stable_part n mode x h = record {
+  frame = stable_frame n x (λ n. h (λ p. n p.frame));
   lists = stable_lists _ (λ n. h (λ p. n p.lists));
   rows = stable_true _ (λ n. h (λ p. n p.rows));
 }

@@ -138,11 +138,7 @@ right = record {
         (record { aligned = refl; inside = lit< tt; mode = lit≤ tt; nanoseconds = lit< tt; last = refl })
         (lit< tt);
     part = λ h. record {
-      head = lit≤ tt;
-      whole = lit≤ tt;
-      words = refl;
-      sum = refl;
-      rows_fit = lit≤ tt;
+      frame = record { head = lit≤ tt; whole = lit≤ tt; words = refl; sum = refl; rows_fit = lit≤ tt };
       lists = record {
         tables = record {
           firsts_fit = lit≤ tt;
@@ -163,11 +159,7 @@ right = record {
     rows = one_right 64 _
         (record { aligned = refl; inside = lit< tt; mode = lit≤ tt; nanoseconds = lit< tt; last = refl });
     part = λ h. record {
-      head = lit≤ tt;
-      whole = lit≤ tt;
-      words = refl;
-      sum = refl;
-      rows_fit = lit≤ tt;
+      frame = record { head = lit≤ tt; whole = lit≤ tt; words = refl; sum = refl; rows_fit = lit≤ tt };
       lists = record {
         tables = record {
           firsts_fit = lit≤ tt;
@@ -188,11 +180,7 @@ right = record {
     rows = one_right 64 _
         (record { aligned = refl; inside = lit< tt; mode = lit≤ tt; nanoseconds = lit< tt; last = refl });
     part = λ h. record {
-      head = lit≤ tt;
-      whole = lit≤ tt;
-      words = refl;
-      sum = refl;
-      rows_fit = lit≤ tt;
+      frame = record { head = lit≤ tt; whole = lit≤ tt; words = refl; sum = refl; rows_fit = lit≤ tt };
       lists = record {
         tables = record {
           firsts_fit = lit≤ tt;
@@ -213,11 +201,7 @@ right = record {
     rows = one_right 64 _
         (record { aligned = refl; inside = lit< tt; mode = lit≤ tt; nanoseconds = lit< tt; last = refl });
     part = λ h. record {
-      head = lit≤ tt;
-      whole = lit≤ tt;
-      words = refl;
-      sum = refl;
-      rows_fit = lit≤ tt;
+      frame = record { head = lit≤ tt; whole = lit≤ tt; words = refl; sum = refl; rows_fit = lit≤ tt };
       lists = record {
         tables = record {
           firsts_fit = lit≤ tt;
@@ -238,11 +222,11 @@ right = record {
 pub broken : BrokenPartExamples
 unfolding parts_on_literals
 broken = record {
-  letters_alone = (refl, λ t. let l : 16 ≤ 8 = (t.part refl).head in omega arith);
-  cut_off = (refl, λ t. let l : 52 ≤ 51 = (t.part refl).whole in omega arith);
-  uneven = (refl, λ t. let e : 1 ≡ 0 = (t.part refl).words in omega arith);
-  large_sum = (refl, λ t. let e : 1 ≡ 0 = (t.part refl).sum in omega arith);
-  no_lists = (refl, λ t. let l : 24 ≤ 20 = (t.part refl).rows_fit in omega arith);
+  letters_alone = (refl, λ t. let l : 16 ≤ 8 = (t.part refl).frame.head in omega arith);
+  cut_off = (refl, λ t. let l : 52 ≤ 51 = (t.part refl).frame.whole in omega arith);
+  uneven = (refl, λ t. let e : 1 ≡ 0 = (t.part refl).frame.words in omega arith);
+  large_sum = (refl, λ t. let e : 1 ≡ 0 = (t.part refl).frame.sum in omega arith);
+  no_lists = (refl, λ t. let l : 24 ≤ 20 = (t.part refl).frame.rows_fit in omega arith);
   many_lists = (refl, λ t. let l : 36 ≤ 32 = (t.part refl).lists.tables.firsts_fit in omega arith);
   from_one = (refl, λ t. let e : 1 ≡ 0 = (t.part refl).lists.tables.from_zero in omega arith);
   empty_list = (refl, λ t. let e : false ≡ true = (t.part refl).lists.tables.firsts_rise in cc);

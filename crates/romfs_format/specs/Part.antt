@@ -98,13 +98,17 @@ leads n mode x i =
     nat_le (list_number x i) (list_count (lists_in n x))
     && agrees (mode i) (numbered (lists_in n x) (list_number x i))
 
--- the part keeps its rule, behind rows of these modes: it is not cut off, its words sum to 0, its
--- lists are right, and the rows lead to them
-pub record IsPart (n : ℕ) (mode : ℕ → ℕ) (x : List ℕ) : Type 0 where
+-- the part is not cut off, its words sum to 0, and there is room for the rows' words and for the
+-- number of lists
+pub record IsFramed (n : ℕ) (x : List ℕ) : Type 0 where
   pub head : PART_HEAD_SIZE ≤ length x
   pub whole : part_size x ≤ length x
   pub words : part_size x % 4 ≡ 0
   pub sum : word_sum (part_bytes x) % 2 ^ 32 ≡ 0
   pub rows_fit : lists_start n + 4 ≤ part_size x
+
+-- the part keeps its rule, behind rows of these modes: its lists are right, and the rows lead there
+pub record IsPart (n : ℕ) (mode : ℕ → ℕ) (x : List ℕ) : Type 0 where
+  pub frame : IsFramed n x
   pub lists : AreLists (lists_in n x)
   pub rows : IsTrue (holds_below n (leads n mode x))

@@ -1,11 +1,12 @@
 -- Where tables are in order: the words of lists (firsts_long, first_small) and of names and values
 -- (edges_long, edge_inside, edge_rises) lie in the bytes, and lead to places inside.
-use Rattle.std.proofs.Common.{◌≡◌, ℕ, zero, suc, ◌+◌, ◌-◌, ◌*◌, ◌<◌, ◌≤◌, List, length, arith, refl, add-one}
-use Rattle.std.specs.Prelude.{nat_le, nat_lt}
+use Rattle.std.proofs.Common.{◌≡◌, ℕ, zero, suc, ◌+◌, ◌-◌, ◌*◌, ◌<◌, ◌≤◌, List, length, arith, refl}
+use Rattle.std.specs.Prelude.{true, nat_le, nat_lt}
 use Rattle.std.proofs.lemmas.Bool.Decides.{nat_tests}
 use Rattle.romfs_format.specs.Below.{holds_below}
 use Rattle.romfs_format.proofs.Below.{at_below}
-use Rattle.romfs_format.specs.Part.{list_count, attribute_count, first_of, edge, table_size, AreTables}
+use Rattle.romfs_format.specs.Part.{list_count, attribute_count, first_of, edge, list_of, numbered, AreTables, AreLists}
+use Rattle.romfs_format.specs.Extended.{is_list}
 
 -- what does not fall from one number to the next does not fall at all
 climbs : (f : ℕ → ℕ) (n : ℕ) → ((j : ℕ) → j < n → f j ≤ f (j + 1)) → (i d : ℕ) → i + d ≤ n → f i ≤ f (d + i)
@@ -53,3 +54,8 @@ module _ (y : List ℕ) (t : AreTables y) where
       let c = climbs_to (edge y) (2 * attribute_count y) edge_rises k l in
       let i = t.inside in
       omega arith
+
+-- each list of a number that is there is one that a file may have
+pub numbered_right : (y : List ℕ) → AreLists y → (number : ℕ) → number ≤ list_count y → is_list (numbered y number) ≡ true
+numbered_right y are zero l = refl
+numbered_right y are (suc j) l = at_below (list_count y) (λ j. is_list (list_of y j)) j (omega arith) are.each
