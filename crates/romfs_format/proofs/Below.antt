@@ -38,3 +38,11 @@ fails_below (suc n) test i l e = elim (cases_order i n) [
 -- where those below n pass and n does, those below n + 1 do
 pub one_more : (n : ℕ) (test : ℕ → Bool) → holds_below n test ≡ true → test n ≡ true → holds_below (n + 1) test ≡ true
 one_more n test e f = rw (add-one, e) f
+
+-- tests that say the same of each number below n say the same of all
+pub holds_alike : (n : ℕ) (p q : ℕ → Bool) → ((i : ℕ) → i < n → p i ≡ q i) → holds_below n p ≡ holds_below n q
+holds_alike zero p q h = refl
+holds_alike (suc n) p q h =
+    let e = holds_alike n p q (λ i l. h i (omega arith)) in
+    let f = h n (omega arith) in
+    rw (e, f) refl
