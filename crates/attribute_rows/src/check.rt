@@ -53,7 +53,10 @@ fn is_trailer<A: Allocator>(
     }
     let count = trailer.word(8);
     let end = row_start(count);
-    if trailer.len() < end || trailer.sum(end) != 0 || !are_rows(trailer, count, full) {
+    if trailer.len() < end {
+        return Ok(false);
+    }
+    if trailer.sum(end) != 0 || !are_rows(trailer, count, full) {
         return Ok(false);
     }
     is_part(alloc, trailer, count)
