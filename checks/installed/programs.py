@@ -69,13 +69,14 @@ def alone(root):
     hold_stack(root, "/mnt/alone")
     server, = servers()
     with open("/proc/%d/environ" % server, "rb") as it:
-        hold("the server's environment", [b"PATH", b""], [part.partition(b"=")[0] for part in it.read().split(b"\0")])
+        names = [part.partition(b"=")[0] for part in it.read().split(b"\0")]
+        hold("the server's environment", [b"MALLOC_MMAP_THRESHOLD_", b"PATH", b""], names)
     root.good("umount", "/mnt/alone")
     return "modules and programs of strangers in the working folder, PYTHONPATH and PATH are not met" + other_alone(root, words, env)
 
 
 def other_alone(root, words, env):
-    """The same for who is not root, for whom the helper starts fusermount3."""
+    """The same for an unprivileged user, for whom the helper starts fusermount3."""
     try:
         root.needs("fusermount3", "setpriv")
         other = user(root)
@@ -83,7 +84,7 @@ def other_alone(root, words, env):
         return "; left out for others than root: %s" % missing
     os.chown("/mnt/alone", OTHER, OTHER)
     command = ["/usr/bin/" + other[0], *other[1:], *words]
-    hold("the mount helper, for who is not root", "", root.good(*command, cwd="/tmp/stranger", env=env))
+    hold("the mount helper, for an unprivileged user", "", root.good(*command, cwd="/tmp/stranger", env=env))
     hold("mounts", [("/mnt/alone", STACK)], places())
     root.good(*other, "umount", "/mnt/alone")
     return ", by root and by others"

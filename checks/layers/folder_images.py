@@ -13,6 +13,7 @@ import signal
 import socket
 import stat
 import subprocess
+import sys
 import time
 
 from checks import TOOLS
@@ -109,7 +110,7 @@ def shown_of(image):
 
 
 def image_of(room, *words):
-    """Makes an image; its path, and the lines that were told."""
+    """Makes an image; its path, and the lines that were printed."""
     image = room.name() + " '.romfs"
     status, output, told = run_tool("image", *words, image)
     expect(status == 0, "status %d: %s" % (status, told))
@@ -140,7 +141,7 @@ def test_image_of_a_folder(room):
 
 
 def test_image_is_replaced(room):
-    """The same folder gives the same bytes, in the place of an image that is there."""
+    """The same folder gives the same bytes, instead of an existing image."""
     folder = made_folder(room)
     image, _ = image_of(room, folder)
     before = read(image)
@@ -172,12 +173,12 @@ def test_headers_stand_together(room):
     """Folders, links and small files stand before the headers of large files, the largest last."""
     folder = made_folder(room)
     for number in range(5):
-        put(folder, "d%d/middle" % number, b"m" * (4097 + number * 10000))
+        put(folder, "d%d/middle" % number, b"m" * (8193 + number * 10000))
     image = plain_images.Image(read(image_of(room, folder)[0]))
     sizes = {h: image.size(h) * (image.kind(h) == 2)
              for d in image.directories() for h in image.members(d)}
     order = [sizes[h] for h in sorted(sizes)]
-    classes = [(size > 4096) + (size > 65536) for size in order]
+    classes = [(size > 8192) + (size > 65536) for size in order]
     expect(classes == sorted(classes) and {*classes} == {0, 1, 2}, "in this order: %r" % order)
 
 
@@ -255,7 +256,7 @@ CHANGES = ((grown, "d1/large"), (shrunk, "d1/large"), (other, "d1"), (link, "non
 
 
 def test_folder_that_changes(room):
-    """What is changed meanwhile is told, and what a link leads to is not read in its place."""
+    """What is changed meanwhile is reported, and what a link leads to is not read instead of it."""
     for change, name in CHANGES:
         folder = made_folder(room)
         line = None
@@ -280,10 +281,10 @@ def test_refused_images(room):
     folder, image, none = made_folder(room), room.name(), room.path + "/none"
     refuse_image(room, (none, image), none + ": no such file or directory")
     refuse_image(room, (folder + "/su", image), "%s/su: not a directory" % folder)
-    refuse_image(room, (folder, folder), "%s: is there, and no file" % folder)
-    refuse_image(room, (folder, "/dev/null"), "/dev/null: is there, and no file")
+    refuse_image(room, (folder, folder), "%s: exists and is not a file" % folder)
+    refuse_image(room, (folder, "/dev/null"), "/dev/null: exists and is not a file")
     refuse_image(room, (folder, none + "/x"), none + ": no such file or directory")
-    line = "an image can't be made within the folder that it is made of"
+    line = "the image must be outside the folder that it is made from"
     refuse_image(room, (folder, folder + "/d1/x.romfs"), line)
     expect({*os.listdir(folder + "/d1")} == {"large", "s", "closed", "su2"}, "something was left")
     if os.geteuid() != 0:
@@ -295,7 +296,7 @@ def test_refused_images(room):
 
 
 def test_what_no_image_holds(room):
-    """Files above 4 GiB, large numbers and deep paths are told by name, or left out."""
+    """Files above 4 GiB, large numbers and deep paths are reported by name, or left out."""
     folder, image = made_folder(room), room.name()
     with open(folder + "/huge", "wb") as out:
         out.truncate(2 ** 32)
@@ -318,7 +319,7 @@ def test_what_no_image_holds(room):
     refuse_image(room, (folder, image), *(line for line in lines if "to nothing" not in line))
     image, told = image_of(room, "--leave-out", folder)
     names = [line.partition(":")[0] for line in lines]
-    wanted = ["what no image holds is left out: %d entries" % len(names)]
+    wanted = ["entries that romfs cannot hold are left out: %d entries" % len(names)]
     expect(told == wanted + ["  " + name for name in names], "told %r" % told)
     shown = shown_of(image)
     expect((b"d",) * 512 in shown, "too much was left out")
@@ -377,7 +378,7 @@ def test_upper_folder(room):
         os.link(upper + "/a/x", upper + "/c")
         os.link(upper + "/a/x", upper + "/d")
     below, above = image_of(room, low)[0], image_of(room, "--upper", upper)
-    lost = ["extended attributes are not kept: 1 entry", "  empty: user.note"]
+    lost = ["extended attributes are not kept: 1 entry (1 user attribute)", "  empty: user.note"]
     expect(above[1] == lost, "told %r" % above[1])
     stack = plain.stack_of([read(below), read(above[0])], True, True)
     paths = {b"/".join(path).decode() for path in stack.paths}
@@ -386,13 +387,15 @@ def test_upper_folder(room):
     expect(paths == wanted, "shown: %r" % sorted(paths))
     # without the option devices are devices, and the marks are lost
     told = image_of(room, upper)[1]
-    expect(told[0] == "extended attributes are not kept: 3 entries", "told %r" % told)
+    marks = ["attributes of overlayfs's own are left out: 2 entries",
+             "  a: %s.overlay.impure" % kind, "  b: %s.overlay.opaque" % kind]
+    expect(told == lost + marks, "told %r" % told)
     put(upper, ".wh.name")
     set_mark(upper + "/a", kind + ".overlay.redirect", b"/b")
     refuse_image(room, ("--upper", upper, room.name()),
                  ".wh.name: a layer takes a name that begins with .wh. as a whiteout",
                  "a: overlayfs shows another folder of the layers below there, which a layer"
-                 " can't say")
+                 " cannot express")
 
 
 def test_full_disk(room):
@@ -421,6 +424,26 @@ def test_memory_of_an_image(room):
             image_of_folder(number, out, Lost())
     finally:
         resource.setrlimit(resource.RLIMIT_AS, before)
+
+
+LOADED = """
+import sys
+sys.path.insert(0, sys.argv[1])
+from strata_layers.command import main
+main(["image", *sys.argv[2:]])
+sys.stderr.write(" ".join(sys.modules))
+"""
+
+
+def test_little_is_loaded(room):
+    """A small image takes little more than Python's start: what loads longer than that is not
+    loaded."""
+    words = [sys.executable, "-IBS", "-c", LOADED, TOOLS, "--leave-out", made_folder(room), room.name()]
+    done = subprocess.run(words, capture_output=True, check=True, text=True)
+    many = {"argparse", "re", "subprocess", "hashlib", "json", "shutil", "threading", "contextlib",
+            "enum", "shlex", "strata_layers.tars", "strata_layers.store"}
+    found = sorted(many.intersection(done.stderr.split()))
+    expect(found == [], "loaded: %s" % " ".join(found))
 
 
 def test_words_of_image(room):

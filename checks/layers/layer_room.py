@@ -7,7 +7,7 @@ import tempfile
 
 from checks.layers.shown_trees import Unlike, compare, compare_attributes, shown_tree, wanted_tree
 from checks.plain import plain_layers
-from checks.shared.layer_files import layout_of
+from checks.shared.layer_files import BESIDE, layout_of
 from strata_layers import command
 
 GNU, PAX, USTAR = tarfile.GNU_FORMAT, tarfile.PAX_FORMAT, tarfile.USTAR_FORMAT
@@ -34,13 +34,14 @@ class Room:
         return run_tool(word, folder)
 
     def taken(self, word, archives):
-        """Holds what the images of a layout show against the plain reading of its archives; the lines that were told."""
+        """Holds what the images of a layout show against the plain reading of its archives; the lines that were printed."""
         folder = self.name()
         status, output, told = self.convert(word, folder)
         expect(status == 0, "status %d: %s" % (status, told))
         images = [os.path.join(folder, "%02d.romfs" % number) for number in range(len(archives))]
         expect(output == "tools/mount.py %s DIR\n" % " ".join(images), "printed %r" % output)
-        expect(sorted(os.listdir(folder)) == [os.path.basename(it) for it in images], "in the folder: %r" % os.listdir(folder))
+        names = [BESIDE] * (len(images) > 1) + [*map(os.path.basename, images)]
+        expect(sorted(os.listdir(folder)) == names, "in the folder: %r" % os.listdir(folder))
         self.hold(images, archives)
         return told
 

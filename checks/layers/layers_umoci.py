@@ -18,7 +18,7 @@ from checks import TOOLS
 from checks.layers.shown_trees import Unlike, read, shown_tree
 from checks.plain import plain
 from checks.plain.plain_stacks import MARKER
-from checks.shared.layer_files import archive, directory, file, hard, symlink
+from checks.shared.layer_files import archive, directory, file, hard, images_in, symlink
 
 IMAGE = "layout:made"
 IS_ROOT = os.geteuid() == 0
@@ -207,7 +207,7 @@ def held(strata, make):
         wanted = unpacked_tree(umoci.unpack("wanted"))
         umoci.run(sys.executable, os.path.join(TOOLS, "layers.py"), IMAGE, "images")
         folder = os.path.join(umoci.path, "images")
-        images = sorted(os.path.join(folder, name) for name in os.listdir(folder))
+        images = images_in(folder)
         if len(images) != umoci.layers:
             raise Unlike("%d images of %d layers" % (len(images), umoci.layers))
         if IS_ROOT:

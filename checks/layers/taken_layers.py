@@ -1,4 +1,4 @@
-"""Tests of tools/layers.py: layers that must be taken, and what is told of them. A test is a function of a room."""
+"""Tests of tools/layers.py: layers that must be taken, and what is reported about them. A test is a function of a room."""
 import random
 import struct
 
@@ -112,7 +112,7 @@ def test_ends(room):
 
 
 def test_random(room):
-    """Layers of entries that often meet, some of which no image holds."""
+    """Layers of entries that often meet, some of which romfs cannot hold."""
     rng, refused = random.Random(7), 0
     for _ in range(80):
         made = [random_archive(rng) for _ in range(rng.randrange(1, 5))]
@@ -154,7 +154,7 @@ def random_archive(rng):
 def test_lost(room):
     told = room.take(archive([directory("d", mode=0o1777, mtime=0), file("a", mode=0o4755, mtime=7), file("b", mode=0o444, uid=5)]),
                      archive([file("c", gid=7, pax_headers={"SCHILY.xattr.user.x": "1"}), symlink("l", "x", mode=0o700, mtime=9)]))
-    expect(told == ["extended attributes are not kept: 1 entry", "  layer 1: c: user.x"], "told %r" % told)
+    expect(told == ["extended attributes are not kept: 1 entry (1 user attribute)", "  layer 1: c: user.x"], "told %r" % told)
     kept = archive([file("a"), directory("d"), file("x", mode=0o755), hard("h", "a"), file(".wh.y", mode=0, uid=5, mtime=7)])
     expect(room.take(kept) == [], "something was lost")
 

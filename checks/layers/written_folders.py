@@ -6,12 +6,12 @@ import subprocess
 
 from checks import ROOT, TOOLS
 from checks.layers.layer_room import expect
-from checks.shared.layer_files import archive, directory, file, hard, layout_of, symlink
+from checks.shared.layer_files import BESIDE, archive, directory, file, hard, layout_of, symlink
 from strata_layers import layouts
 
 
 def test_folder(room):
-    """Images that are there are never written over, nor is anything that a name in the folder leads to."""
+    """Existing images are never overwritten, nor is anything that a name in the folder leads to."""
     data = archive([file("a", b"1")])
     parts = layout_of(room.name(), [data])
     folder = room.name()
@@ -21,7 +21,7 @@ def test_folder(room):
     broken = layout_of(room.name(), [data, data[:100]])
     expect(room.convert(broken.path, folder)[2] == ["layer 1: the archive is truncated"], "a broken layer")
     expect(os.listdir(folder) == ["other"], "left: %r" % os.listdir(folder))
-    expect(room.convert(parts.path, folder)[0] == 0, "a folder that is there")
+    expect(room.convert(parts.path, folder)[0] == 0, "an existing folder")
     with open(os.path.join(folder, "00.romfs"), "rb") as it:
         written = it.read()
     status, output, told = room.convert(parts.path, folder)
@@ -48,7 +48,7 @@ def test_names_of_images(room):
     folder = room.name()
     status, output, _ = room.convert(layout_of(room.name(), made).path, folder)
     names = ["%03d.romfs" % number for number in range(128)]
-    expect(status == 0 and sorted(os.listdir(folder)) == names, "the folder")
+    expect(status == 0 and sorted(os.listdir(folder)) == [BESIDE, *names], "the folder")
     expect(output.split() == ["tools/mount.py", *(os.path.join(folder, name) for name in names), "DIR"], "printed %r" % output)
     room.hold([os.path.join(folder, name) for name in names], made)
 
@@ -78,18 +78,19 @@ def test_command(room):
     expect((done.returncode, done.stdout.decode(), done.stderr) == (0, line, b""), "ended with %r" % (done,))
     for word in ("-h", "--help"):
         done = subprocess.run([tool, word], cwd=room.path, capture_output=True, check=False)
-        usage = b"usage: tools/layers.py LAYOUT[:TAG] FOLDER\n"
+        usage = b"usage: tools/layers.py [--fail-on-lost] LAYOUT[:TAG] FOLDER\n"
         expect((done.returncode, done.stderr) == (0, b"") and done.stdout.startswith(usage), "ended with %r" % (done,))
 
 
 def test_wrong_words(room):
-    """Wrong words are told in one line, which says what is wrong with them, with status 2."""
+    """Wrong arguments are reported in one line, which says what is wrong with them, with status 2."""
     place = layout_of(room.name(), [archive([file("a", b"1")])]).path
-    verbs = "neither a directory nor a verb; the verbs are image, convert, pull, images, verify, remove, prune, config, attributes, podman"
+    verbs = "neither a directory nor a verb; the verbs are image, convert, pull, images, verify, remove, prune, config, attributes, seal, podman"
     for line, *words in (
             ("a verb or LAYOUT[:TAG] FOLDER is missing",),
             ("FOLDER for the images of %s is missing" % place, place),
             ("b: unexpected after LAYOUT[:TAG] FOLDER", place, "a", "b"),
+            ("a verb or LAYOUT[:TAG] FOLDER is missing", "--fail-on-lost"),
             ("--store: an option before the verb", "--store", "X", "images"),
             ("pul: " + verbs, "pul", "oci:x"),
             ("convrt: " + verbs, "convrt", "a", "b")):

@@ -5,6 +5,7 @@ path is a tuple of names; a tree is a dict of nodes by path, of which () is the 
 """
 import decimal
 import io
+import struct
 import tarfile
 
 from checks.plain.plain_images import BLOCK, CHARACTER, DIRECTORY, FIFO, REGULAR, SYMLINK
@@ -48,9 +49,37 @@ def names_of(text):
     return names
 
 
+def mode_without_acl(info):
+    """The mode of an entry whose list of rights is lost: acl(5) has the mask in the mode's group bits, and the rights of the
+    group are both its own entry's and the mask's. Others have no rights that an entry for somebody takes from him."""
+    group, others = 0o7, 0o7
+    for entries in acls_of(info):
+        masks = [perms for tag, _, perms in entries if tag == "mask"]
+        group &= min([perms for tag, name, perms in entries if (tag, name) == ("group", "")], default=0)
+        for mask in masks:
+            group &= mask
+        for _, name, perms in entries:
+            others &= perms & (masks or [7])[0] if name else 7
+    return info.mode & (0o7700 | group << 3 | others)
+
+
+def acls_of(info):
+    """The entries of each of its lists of rights: tag, who is named, and rights; none of one that is broken."""
+    binary = info.pax_headers.get("SCHILY.xattr.system.posix_acl_access")
+    if binary is not None:
+        data, tags = raw(binary), {1: "user", 2: "user", 4: "group", 8: "group", 16: "mask", 32: "other"}
+        words = [struct.unpack_from("<HHI", data, at) for at in range(4, len(data) - 7, 8)]
+        yield [(tags[tag], str(number) * (tag in (2, 8)), perms) for tag, perms, number in words]
+    text = info.pax_headers.get("SCHILY.acl.access")
+    if text is not None:
+        rows = [it.split("#")[0].strip().split(":") for it in text.replace(",", "\n").splitlines()]
+        tags = {"u": "user", "g": "group", "m": "mask", "o": "other"}
+        yield [(tags[it[0][0]], it[1], sum(4 >> at for at in range(3) if it[2][at] != "-")) for it in rows]
+
+
 def row_of(info):
     """What an entry says. Linux has one mode for symbolic links, and shows an owner that it can't say as 65534."""
-    mode = 0o777 if info.issym() else info.mode & 0o7777
+    mode = 0o777 if info.issym() else mode_without_acl(info)
     owners = [it if 0 <= it < 2 ** 32 else 65534 for it in (info.uid, info.gid)]
     with decimal.localcontext() as context:
         context.prec, context.rounding = 400, decimal.ROUND_DOWN

@@ -1,6 +1,9 @@
 """Checks of mounts of images by their names in a store."""
 import json
 import os
+import shutil
+import struct
+import subprocess
 import sys
 import time
 
@@ -80,7 +83,7 @@ def check_one_file(room):
 
 
 def check_used_layers(room):
-    """prune leaves the layers of a mount, and takes them away when it has ended."""
+    """prune leaves the layers of a mount, and removes them when it has ended."""
     source = made.layout(room.name())
     room.layers("pull", "oci:" + source.path, "a:1")
     at = mounted(room, "a:1")
@@ -124,7 +127,7 @@ def moved_layout(room, read, manifest, order, **notes):
 
 def check_order(room):
     """A mount says in one line which image lies on another than it was made for: of a layout's files, and of an image of the
-    store. What is in order, or not known, is not told."""
+    store. Nothing is printed about what is in order, or not known."""
     out = room.name()
     room.layers("convert", made.layout(room.name()).path, out)
     read = made.Read(out, "1")
@@ -155,6 +158,57 @@ def told_of(room, line, *words):
     hold("told", line, done.stderr.partition(": ")[2].rstrip("\n"))
 
 
+def check_order_of_a_folder(room):
+    """The same of images that were made without a store, by the file beside them; also where they
+    lie under other names there, or have gone elsewhere, no report is false."""
+    out = room.name()
+    room.ran(sys.executable, "-B", LAYERS, made.layout(room.name()).path, out)
+    images = ["%s/%02d.romfs" % (out, number) for number in range(5)]
+    hold("in order", WANTED, seen(mounted(room, *images)))
+    told_of(room, "layer 0 is %s: made to lie on 00.romfs, and is the lowest; 1 more lie on others" % images[1],
+            images[1], images[0], *images[2:])
+    told_of(room, "layer 1 is %s: made to lie on 01.romfs, and lies on 00.romfs" % images[2],
+            images[0], images[2], images[3])
+    # what lies between is another's, and one that was exchanged is not the one that is noted
+    other = room.name()
+    shutil.copy(images[0], other)
+    mounted(room, other, images[2])
+    shutil.copy(images[2], images[1])
+    mounted(room, images[1])
+    with open(os.path.join(out, ".layers.json"), "rb+") as beside:
+        beside.truncate(100)
+    mounted(room, images[2], images[0])
+    os.unlink(os.path.join(out, ".layers.json"))
+    os.mkfifo(os.path.join(out, ".layers.json"))
+    mounted(room, images[2], images[0])
+
+
+def acl(*entries):
+    """A list of rights as Linux has it in an attribute: tags, rights, and numbers."""
+    return struct.pack("<I", 2) + b"".join(struct.pack("<HHI", *it) for it in entries)
+
+
+def check_rights_of_an_acl(room):
+    """Of a file whose list of rights refuses its group, a member of the group reads nothing on a
+    mount, though the mask lets others read; nor does anybody by the rights of the others."""
+    nobody = 2 ** 32 - 1
+    closed = acl((1, 6, nobody), (2, 4, 1234), (4, 0, nobody), (16, 4, nobody), (32, 0, nobody))
+    texts = {"text": {"SCHILY.acl.access": "user::rw-,user:1234:r--,group::---,mask::r--,other::---"},
+             "binary": {"SCHILY.xattr.system.posix_acl_access": closed.decode("utf-8", "surrogateescape")}}
+    entries = [made.entry(name, b"1", mode=0o640, gid=65533, pax_headers=headers) for name, headers in texts.items()]
+    entries.append(made.entry("open", b"1", mode=0o640, gid=65533))
+    if os.geteuid() != 0:
+        raise LeftOut("who is not root can't become another user")
+    room.layers("pull", "oci:" + made.layout(room.name(), [made.archive(*entries)]).path, "a:1")
+    os.chmod(room.path, 0o755)
+    at = mounted(room, "-o", "allow_other", "a:1")
+    found = {}
+    for name in (*texts, "open"):
+        done = subprocess.run(["cat", os.path.join(at, name)], user=65532, group=65533, extra_groups=[], capture_output=True, check=False)
+        found[name] = done.returncode
+    hold("who reads", {"text": 1, "binary": 1, "open": 0}, found)
+
+
 HELPER = """
 mount -t tmpfs tmpfs /var/lib && mount -t tmpfs tmpfs /mnt || exit 99
 "$1" -B "$2" pull "oci:$4" team/app:1 >&2 && "$1" -B "$3" image:team/app:1 /mnt -o ro >&2 || exit 98
@@ -177,4 +231,5 @@ def check_mount_helper(room):
     hold("paths", sorted(made.SHOWN), sorted(("/" + it).replace("/.", "/") for it in json.loads(done.stdout)))
 
 
-CHECKS = [check_mounts_by_name, check_one_file, check_used_layers, check_verified_mounts, check_order, check_mount_helper]
+CHECKS = [check_mounts_by_name, check_one_file, check_used_layers, check_verified_mounts, check_order, check_order_of_a_folder,
+          check_rights_of_an_acl, check_mount_helper]

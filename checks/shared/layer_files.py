@@ -11,6 +11,13 @@ MANIFEST = "application/vnd.oci.image.manifest.v1+json"
 INDEX = "application/vnd.oci.image.index.v1+json"
 CONFIG = "application/vnd.oci.image.config.v1+json"
 REFERENCE = "org.opencontainers.image.ref.name"
+# what says beside the images of a layout's layers which they are
+BESIDE = ".layers.json"
+
+
+def images_in(folder):
+    """The images that were made in a folder, in order."""
+    return [os.path.join(folder, name) for name in sorted(os.listdir(folder)) if name != BESIDE]
 
 
 # --- entries: a header, and its data ---

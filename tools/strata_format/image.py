@@ -3,7 +3,7 @@
 The data of a large file go straight to the image when they come; names, kinds, places and few small
 data are held. All else is written at the end, when it is known which header comes next in each
 directory: first directories, links and small files, close together in the order in which they are
-read, then larger files, and the largest last. So whoever looks at headers alone reads few places of
+read, then larger files, and the largest last. So a reader of headers alone reads few places of
 a cold image. A directory begins with `.` and `..`, and its members are in the order in which they
 came. What was replaced may stay in the image, but nothing names it. Behind its full size stands the
 attribute trailer, with a row for each node of which something was said.
@@ -24,9 +24,9 @@ from strata_format.romfs import (MAJOR_MOST, MINOR_MOST, REGULAR, SYMLINK, TARGE
                                  header_size, padded_name, path_text)
 
 # files up to the first size stand among the headers, up to the second behind them, others last
-SIZES = (1 << 12, 1 << 16)
+SIZES = (1 << 13, 1 << 16)
 # so many bytes of small data are held
-HELD_MOST = 1 << 23
+HELD_MOST = 1 << 25
 # of an image of many parts each keeps this part of its room for hard links to what is in it
 KEPT = 32
 

@@ -3,7 +3,6 @@
 They are appended; only places of headers that were not known yet are written over at the end. A
 part knows of trees and nodes as little as it needs: how much of its room is claimed.
 """
-import contextlib
 import os
 import struct
 
@@ -190,8 +189,9 @@ def other_size(path, size, said):
 
 def copied(number, at, out, size):
     """Copies some bytes of an open file behind those of another, by the kernel where it can."""
-    with contextlib.suppress(OSError):
+    try:
         return os.sendfile(out.fileno(), number, at, size)
-    data = os.pread(number, size, at)
-    write_all(out, data)
-    return len(data)
+    except OSError:
+        data = os.pread(number, size, at)
+        write_all(out, data)
+        return len(data)

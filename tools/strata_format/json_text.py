@@ -24,7 +24,8 @@ def value_of(data):
         return json.loads(text)
     try:
         value, end = read(text, len(text) - len(text.lstrip(SPACE)))
-    except StopIteration:
+    except (StopIteration, SystemError):
+        # the part in C finds no error to raise as long as nothing has loaded json.decoder
         raise ValueError("no JSON") from None
     if text[end:].strip(SPACE):
         raise ValueError("more than one value")

@@ -4,26 +4,26 @@ LAYOUT is an OCI image layout, as `skopeo copy docker://IMAGE oci:LAYOUT:TAG` or
 FOLDER is created if necessary. It gets 00.romfs, 01.romfs and so on, the lowest layer first, or
 nothing; existing images are never overwritten. The command that mounts them is printed. What
 romfs cannot hold is reported on standard error, once for each kind. A layout that would lose data
-is refused with one line and status 1. Status 2 means a wrong command line.
+is refused with one line and status 1; with --fail-on-lost, so is anything that is not kept, such
+as extended attributes. Status 2 means a wrong command line.
 
 It needs no root and unpacks nothing: file data goes straight from the archive into the image.
 Modes, owners and times follow each image, as in strata-attributes(5).
 """
+import _signal as signal  # without enum, which takes longer to load than all of this
 import os
-import re
-import shlex
-import shutil
-import signal
 import sys
-import textwrap
 
 from strata_format import ends
 from strata_format.refused import Refused, shown
 from strata_format.version import command, version
+from strata_format.words import quoted
 
 VERBS = ("image", "convert", "pull", "images", "verify", "remove", "prune", "config", "attributes",
-         "podman")
+         "seal", "podman")
 HELP_WIDTH = 100
+# what may stand before a layout
+FAIL_ON_LOST = "--fail-on-lost"
 
 
 def say(line):
@@ -35,9 +35,11 @@ def say_fault(line):
 
 
 def help_text():
+    import shutil
+    import textwrap
     name = command("layers")
-    lines = ["usage: %s LAYOUT[:TAG] FOLDER" % name, "       %s VERB .." % name,
-             "       %s -h|--help|-V|--version" % name]
+    lines = ["usage: %s [%s] LAYOUT[:TAG] FOLDER" % (name, FAIL_ON_LOST),
+             "       %s VERB .." % name, "       %s -h|--help|-V|--version" % name]
     # as wide as the terminal, as the help of a verb is
     width = min(HELP_WIDTH, shutil.get_terminal_size().columns)
     verbs = "Each VERB has a --help: %s." % ", ".join(VERBS)
@@ -54,21 +56,22 @@ def wrong_words(words):
     if first.startswith("-") and not is_there:
         return "%s: an option before the verb" % first
     # a path, or a name with a tag, is a layout's that isn't there
-    if not re.search("[:/]", words[0]) and not is_there:
+    if not {":", "/"} & {*words[0]} and not is_there:
         return "%s: neither a directory nor a verb; the verbs are %s" % (first, ", ".join(VERBS))
     if len(words) == 1:
         return "FOLDER for the images of %s is missing" % first
     return "%s: unexpected after LAYOUT[:TAG] FOLDER" % shown(os.fsencode(words[2])) if len(words) > 2 else None
 
 
-def images_of_layout(words):
+def images_of_layout(words, fails):
     """`LAYOUT[:TAG] FOLDER`."""
     from strata_layers.image_folder import write_images
-    paths, lost = write_images(*words)
+    from strata_layers.lost import Lost
+    lost = Lost(fails=fails)
+    paths = write_images(*words, lost)
     for line in lost.lines():
         say(line)
-    line = " ".join([command("mount"), *(shlex.quote(path) for path in paths), "DIR"])
-    ends.put(os.fsencode(line) + b"\n")
+    ends.put(os.fsencode(quoted([command("mount"), *paths, "DIR"])) + b"\n")
     return 0
 
 
@@ -82,17 +85,19 @@ def run(words):
         return 0
     if first in VERBS:
         from strata_layers import verbs
-        return verbs.run(words)
+        return verbs.run(first, words[1:])
+    fails = first == FAIL_ON_LOST
+    words = words[fails:]
     wrong = wrong_words(words)
     if wrong is not None:
         say_fault("%s; see --help" % wrong)
         return 2
-    return images_of_layout(words)
+    return images_of_layout(words, fails)
 
 
 def main(words):
     ends.begin()
-    # an end by a signal takes away what was begun
+    # an end by a signal removes what was begun
     signal.signal(signal.SIGTERM, lambda *_: sys.exit(143))
     try:
         return run(words)

@@ -1,11 +1,11 @@
 """`attributes`: adds an attribute trailer to an image that genromfs made of a folder."""
-import errno
 import os
 import stat
 
 from strata_format import romfs, trailer
 from strata_format.read_romfs import ReadImage
 from strata_format.refused import Refused, shown
+from strata_layers.attributes import mode_without, of_file
 
 KINDS = {romfs.DIRECTORY: stat.S_IFDIR, romfs.REGULAR: stat.S_IFREG, romfs.SYMLINK: stat.S_IFLNK,
          romfs.BLOCK: stat.S_IFBLK, romfs.CHARACTER: stat.S_IFCHR, romfs.SOCKET: stat.S_IFSOCK,
@@ -13,21 +13,12 @@ KINDS = {romfs.DIRECTORY: stat.S_IFDIR, romfs.REGULAR: stat.S_IFREG, romfs.SYMLI
 PIECE = 1 << 20
 
 
-def said_by(found):
-    """What the row of a file says, by what the system says of that."""
+def said_by(found, there):
+    """What the row of a file says, by what the system says of that, and its extended attributes."""
     seconds, nanoseconds = divmod(found.st_mtime_ns, trailer.SECOND)
-    mode = 0o777 if stat.S_ISLNK(found.st_mode) else stat.S_IMODE(found.st_mode)
+    mode = mode_without(stat.S_IMODE(found.st_mode), there)
+    mode = 0o777 if stat.S_ISLNK(found.st_mode) else mode
     return trailer.said(mode, found.st_uid, found.st_gid, seconds, nanoseconds)
-
-
-def extended_attributes(path):
-    """The names of a file's extended attributes; none where its file system has none at all, as a mount of strata."""
-    try:
-        return [os.fsencode(name) for name in sorted(os.listxattr(path, follow_symlinks=False))]
-    except OSError as fault:
-        if fault.errno != errno.ENOTSUP:
-            raise
-        return []
 
 
 class Names:
@@ -67,7 +58,7 @@ class Reading:
         for name, header in members.items():
             end = self.image.end(header)
             if end is None:
-                raise Refused("no sound image of romfs")
+                raise Refused("not a valid romfs image")
             if name not in names.devices:
                 yield (*path, name), end
 
@@ -81,10 +72,10 @@ class Reading:
             raise Refused("%s: is of another kind in the image" % shown(place))
         if kind == romfs.REGULAR and found.st_size != size:
             raise Refused("%s: has %d bytes, and %d in the image" % (shown(place), found.st_size, size))
-        self.rows[at] = said_by(found)
-        names = extended_attributes(place)
-        if names:
-            self.lost.note("attributes", shown(place), names)
+        there = of_file(place)
+        self.rows[at] = said_by(found, there)
+        if there:
+            self.lost.note_attributes(shown(place), there)
 
 
 def check_behind(number, full):
@@ -94,7 +85,7 @@ def check_behind(number, full):
         return
     for data in iter(lambda: os.pread(number, PIECE, at), b""):
         if data.strip(b"\0"):
-            raise Refused("something else than a trailer stands behind its full size")
+            raise Refused("something other than a trailer follows its full size")
         at += len(data)
 
 
@@ -109,5 +100,6 @@ def add_attributes(folder, path, lost):
                 raise Refused("with its attributes it would be larger than %d bytes" % trailer.END_MOST)
         except Refused as refused:
             raise Refused("%s: %s" % (shown(os.fsencode(path)), refused)) from None
+        lost.settle()
         trailer.write_trailer(file.fileno(), image.full, rows)
     return len(rows)

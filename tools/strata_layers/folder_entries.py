@@ -17,14 +17,14 @@ from strata_format.progress import unheard
 from strata_format.refused import BadEntry, Refused
 from strata_format.romfs import NAMES_MOST, path_text
 from strata_format.trailer import SECOND
-from strata_layers import entries, overlay
+from strata_layers import attributes, entries, overlay
 from strata_layers.entries import MARKER, OPAQUE, Entry
 
 DIRECTORIES = READING | os.O_DIRECTORY
 OPEN_FILES = b"/proc/self/fd"
 NO_ROOM = (errno.ENOSPC, errno.EDQUOT, errno.EFBIG)
 # faults of what was there before
-GONE = (errno.ENOENT, errno.ELOOP, errno.ENOTDIR, errno.ENXIO)
+GONE = (errno.ENOENT, errno.ELOOP, errno.ENOTDIR, errno.ENXIO, errno.ENODATA)
 KINDS = {stat.S_IFDIR: entries.DIRECTORY, stat.S_IFREG: entries.FILES[0],
          stat.S_IFLNK: entries.SYMBOLIC, stat.S_IFCHR: entries.CHARACTER,
          stat.S_IFBLK: entries.BLOCK_DEVICE, stat.S_IFIFO: entries.FIFO,
@@ -112,7 +112,7 @@ class Folder:
 
     def __init__(self, number, name, own, is_upper=False, heard=unheard):
         if not os.path.isdir(OPEN_FILES):
-            raise Refused("/proc is not mounted, by which extended attributes are read")
+            raise Refused("/proc is not mounted, and extended attributes are read through it")
         self.name, self.is_upper, self.heard = os.fsencode(name), is_upper, heard
         found = os.fstat(own.fileno())
         self.own = found.st_dev, found.st_ino
@@ -178,14 +178,10 @@ class Folder:
             raise self.fault(fault, place.above or place, place.name) from None
 
     def attributes(self, place, name):
-        """The names of a file's extended attributes, in order; none where its file system has none
-        at all."""
+        """A file's extended attributes by their names, in order."""
         try:
-            return sorted(map(os.fsencode, os.listxattr(self.link_to(place, name),
-                                                        follow_symlinks=False)))
+            return attributes.of_file(self.link_to(place, name))
         except OSError as fault:
-            if fault.errno == errno.ENOTSUP:
-                return []
             raise self.fault(fault, place, name) from None
 
     def link_to(self, place, name):
@@ -220,28 +216,26 @@ class Folder:
 
     def read(self, path, place, name, found):
         if (found.st_dev, found.st_ino) == self.own:
-            raise Refused("an image can't be made within the folder that it is made of")
-        names = self.attributes(place, name)
-        marks, names = overlay.parted(names) if self.is_upper else ({}, names)
+            raise Refused("the image must be outside the folder that it is made from")
+        there = self.attributes(place, name)
+        marks, there = overlay.parted(there) if self.is_upper else ({}, there)
         if self.is_upper:
             overlay.check(path, marks)
             if overlay.is_whiteout(found, marks):
                 yield (*path[:-1], MARKER + name), Entry(entries.FILES[0], name)
                 return
-        yield path, self.entry(path, place, name, found, names)
-        if stat.S_ISDIR(found.st_mode) and "opaque" in marks:
-            value = os.getxattr(self.link_to(place, name), marks["opaque"], follow_symlinks=False)
-            if value == b"y":
-                yield (*path, OPAQUE), Entry(entries.FILES[0], OPAQUE)
+        yield path, self.entry(path, place, name, found, there)
+        if stat.S_ISDIR(found.st_mode) and marks.get("opaque") == b"y":
+            yield (*path, OPAQUE), Entry(entries.FILES[0], OPAQUE)
 
-    def entry(self, path, place, name, found, names):
-        """The entry of a file, whose extended attributes have these names."""
+    def entry(self, path, place, name, found, there):
+        """The entry of a file, which has these extended attributes."""
         key, is_folder = (found.st_dev, found.st_ino), stat.S_ISDIR(found.st_mode)
         if found.st_nlink > 1 and not is_folder and self.linked.setdefault(key, path) != path:
             return Entry(entries.HARD, name, b"/".join(self.linked[key]))
         entry = Entry(KINDS[stat.S_IFMT(found.st_mode)], name)
         entry.mode, entry.uid, entry.gid = stat.S_IMODE(found.st_mode), found.st_uid, found.st_gid
-        entry.time, entry.attributes = divmod(found.st_mtime_ns, SECOND), names
+        entry.time, entry.attributes = divmod(found.st_mtime_ns, SECOND), there
         if stat.S_ISREG(found.st_mode):
             entry.size, entry.data = found.st_size, File(self, place, name, found)
             self.size += entry.size

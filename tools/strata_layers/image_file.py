@@ -1,5 +1,4 @@
 """`image`: an image of a folder, or of an archive of tar on standard input."""
-import contextlib
 import os
 import stat
 
@@ -7,7 +6,6 @@ from strata_format.files import new_file, open_folder
 from strata_format.progress import Progress
 from strata_format.refused import Refused, shown
 from strata_layers.image_maker import image_of_archive, image_of_folder
-from strata_layers.packing import Unpacked
 
 PASSING = ".strata-"
 STANDARD_INPUT = "-"
@@ -16,7 +14,7 @@ LETTERS, FRONT = {"gzip": b"\x1f\x8b", "zstd": b"\x28\xb5\x2f\xfd"}, 512
 
 
 class Heard:
-    """What is read from an open file, of which progress is told; its first bytes were read to see
+    """What is read from an open file, with its progress reported; its first bytes were read to see
     how it is packed."""
 
     def __init__(self, file, progress):
@@ -36,6 +34,7 @@ class Heard:
 def archive_read(file, progress):
     """The archive in an open file, unpacked. Nothing at all is none: what should have written it
     has failed."""
+    from strata_layers.packing import Unpacked  # a folder needs none of it
     heard = Heard(file, progress)
     if not heard.front:
         raise Refused("standard input is empty")
@@ -44,28 +43,55 @@ def archive_read(file, progress):
 
 def check_aim(path):
     """Sees that nothing but a file would be replaced."""
-    with contextlib.suppress(FileNotFoundError):
+    try:
         if not stat.S_ISREG(os.lstat(path).st_mode):
-            raise Refused("%s: is there, and no file" % shown(os.fsencode(path)))
+            raise Refused("%s: exists and is not a file" % shown(os.fsencode(path)))
+    except FileNotFoundError:
+        pass
+
+
+class opened_folder:
+    """An open folder, as long as a `with`."""
+
+    def __init__(self, path):
+        self.number = open_folder(path)
+
+    def __enter__(self):
+        return self.number
+
+    def __exit__(self, *_):
+        os.close(self.number)
+
+
+def write_archive_image(out, lost, progress):
+    """Writes the image of the archive on standard input."""
+    with open(0, "rb", closefd=False) as given:
+        archive = archive_read(given, progress)
+        try:
+            image_of_archive(archive, out, lost)
+        finally:
+            archive.close()
 
 
 def write_image_file(source, path, lost, is_upper=False):
     """Makes the image at a path of a folder, or of standard input."""
     check_aim(path)
+    if source == STANDARD_INPUT:
+        keep_image(path, lost, lambda out, progress: write_archive_image(out, lost, progress))
+        return
+    with opened_folder(source) as number:
+        # a fault that names no whole path would be one of the new file's folder
+        name = os.path.abspath(source)
+        keep_image(path, lost, lambda out, progress: image_of_folder(
+            number, out, lost, name, is_upper, progress))
+
+
+def keep_image(path, lost, write):
+    """Gives a new file its path, once `write` has written it, and nothing is lost that may not
+    be."""
     place = os.path.dirname(os.path.abspath(path))
-    with contextlib.ExitStack() as opened:
-        if source != STANDARD_INPUT:
-            number = open_folder(source)
-            opened.callback(os.close, number)
-        folder = open_folder(place)
-        opened.callback(os.close, folder)
-        progress = opened.enter_context(Progress("image", None))
-        new = opened.enter_context(new_file(folder, place, 0o666, PASSING))
-        if source == STANDARD_INPUT:
-            given = opened.enter_context(open(0, "rb", closefd=False))
-            archive = opened.enter_context(contextlib.closing(archive_read(given, progress)))
-            image_of_archive(archive, new.file, lost)
-        else:
-            # a fault that names no whole path would be one of the new file's folder
-            image_of_folder(number, new.file, lost, os.path.abspath(source), is_upper, progress)
+    with opened_folder(place) as folder, Progress("image", None) as progress, \
+            new_file(folder, place, 0o666, PASSING) as new:
+        write(new.file, progress)
+        lost.settle()
         new.keep(folder, os.path.basename(path))

@@ -6,18 +6,19 @@
     for line in lost.lines(): ..            what the image doesn't hold
 
 Whiteouts are OCI's files `.wh.NAME` and `.wh..wh..opq`, which stand in the image as they are. What
-an image can't hold is told of up to ten entries, or, where this is asked, left out.
+an image can't hold is reported for up to ten entries, or left out on request.
 """
 from strata_format import romfs
 from strata_format.image import Image
 from strata_format.progress import unheard
 from strata_format.refused import BadEntry, Faults, NotHeld, Refused, shown
 from strata_format.romfs import path_text
-from strata_layers import entries, tars
+from strata_layers import entries
+from strata_layers.attributes import mode_without
 from strata_layers.entries import MARKER, said_by
 from strata_layers.folder_entries import Folder
 
-# the volume's name of an image of which no digest is known when it begins
+# the volume's name of an image whose digest is not known when it begins
 VOLUME_NAME = b"strata"
 DEVICES = {entries.CHARACTER: romfs.CHARACTER, entries.BLOCK_DEVICE: romfs.BLOCK}
 SPECIALS = {entries.FIFO: romfs.FIFO, entries.SOCKET: romfs.SOCKET}
@@ -65,24 +66,21 @@ def put(image, path, entry):
 
 
 class Maker:
-    """Puts entries into an image. `lost` is told what the image doesn't hold of them, each named
-    behind the words `where`; it also has whether what no image holds is left out."""
+    """Puts entries into an image. `lost` gets what the image doesn't hold of them, each named
+    behind the words `where`; it also has whether entries that romfs cannot hold are left out."""
 
     def __init__(self, image, lost, where=""):
         self.image, self.lost, self.where = image, lost, where
         self.faults, self.left_out = Faults(), set()
 
-    def put_archive(self, source):
-        """All that is in an archive of tar, which is read to the end of the source."""
+    def put_archive(self, entries):
+        """All entries of an archive of tar."""
         try:
-            for entry in tars.Tar(source).entries():
+            for entry in entries:
                 self.put_named(entry)
         except Refused as refused:
             self.faults.note(refused)
         self.faults.settle()
-        # what stands behind the archive says nothing, but a packed one has its checksum at the end
-        while source.read(tars.PIECE):
-            pass
 
     def put_named(self, entry):
         """An entry of an archive, whose path its name says."""
@@ -108,6 +106,7 @@ class Maker:
             if self.is_left_out(entry):
                 self.leave_out(path)
                 return
+            entry.mode = mode_without(entry.mode, entry.attributes)
             put(self.image, path, entry)
         except NotHeld as refused:
             if not self.lost.leaves_out:
@@ -133,13 +132,14 @@ def image_of_archive(source, out, lost):
     """Makes the image of an archive of tar; `source.read(n)` gives at most n bytes of it, and none
     at its end."""
     image = Image(lambda: out, VOLUME_NAME)
-    Maker(image, lost).put_archive(source)
+    Maker(image, lost).put_archive(tars.Tar(source).entries())
+    tars.read_rest(source)
     image.finish()
 
 
 def image_of_folder(number, out, lost, name=b".", is_upper=False, progress=None):
     """Makes the image of an open folder, which faults call `name`. `is_upper` says that it is the
-    upper one of a mount of overlayfs, whose whiteouts become those of layers. `progress` is told
+    upper one of a mount of overlayfs, whose whiteouts become those of layers. `progress` gets
     how many bytes there are, and of those that are read. Refused where the folder is changed
     meanwhile."""
     image = Image(lambda: out, VOLUME_NAME)

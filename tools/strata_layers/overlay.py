@@ -5,26 +5,27 @@ import stat
 
 from strata_format.refused import BadEntry
 from strata_format.romfs import path_text
+from strata_layers.attributes import OVERLAYS
 from strata_layers.entries import MARKER
 
-# root's mounts have the first, those of other users the second
-FRONTS = (b"trusted.overlay.", b"user.overlay.")
 # with these, what is shown at a path is not what stands there, but something of the layers below
 ELSEWHERE = {"redirect": "another folder of the layers below", "metacopy": "data of the layers below"}
 
 
-def parted(names):
-    """The names of overlayfs's own attributes, by what is behind their fronts, and the others."""
-    marks = {os.fsdecode(name[len(front):]): name for front in FRONTS for name in names
-             if name.startswith(front)}
-    return marks, [name for name in names if not name.startswith(FRONTS)]
+def parted(attributes):
+    """The values of overlayfs's own attributes, by what is behind their fronts, and the others by
+    their names."""
+    marks = {os.fsdecode(name[len(front):]): value for front in OVERLAYS
+             for name, value in attributes.items() if name.startswith(front)}
+    return marks, {name: value for name, value in attributes.items()
+                   if not name.startswith(OVERLAYS)}
 
 
 def check(path, marks):
     """Refuses what no layer says."""
     for mark, words in ELSEWHERE.items():
         if mark in marks:
-            raise BadEntry("%s: overlayfs shows %s there, which a layer can't say"
+            raise BadEntry("%s: overlayfs shows %s there, which a layer cannot express"
                            % (path_text(path), words))
     if path and path[-1].startswith(MARKER):
         raise BadEntry("%s: a layer takes a name that begins with .wh. as a whiteout"

@@ -57,6 +57,7 @@ def pull(store, source, name, platform, lost):
             with Progress("layers", sum(it.size for it in image.layers)) as progress:
                 layout.heard = progress.add
                 layers = [it for found in maker.layers(layout, image) for it in found]
+        lost.settle()
         put_image(store, name, StoredImage(source, digest, layers, image.config))
     return name, count_of(layers), maker.made_count
 

@@ -5,11 +5,12 @@ import contextlib
 import json
 import os
 
-from strata_format import romfs, trailer
+from strata_format import trailer
 from strata_format.files import copy_front, write_all
 from strata_format.read_romfs import ReadImage
 from strata_format.refused import Refused, shown
 from strata_layers.below import Below
+from strata_layers.image_archive import image_pieces
 from strata_layers.layer_images import LayerWriter, read_blob
 from strata_layers.layout_images import PACKED_ROMFS
 from strata_layers.layouts import LAYERS_MOST, PACKED, digest_of
@@ -18,7 +19,7 @@ from strata_layers.store import SMALL_MOST, digits_of, file_digits
 from strata_layers.store_images import StoredLayer, layer_json, layer_of_json
 
 # a layer that was made by other rules is made anew
-MAKER = 3
+MAKER = 4
 # above what an image of romfs can have, with all that stands behind it
 UNPACKED_MOST = 1 << 33
 BROKEN = "%s: the layer sha256:%s is broken"
@@ -31,9 +32,9 @@ def record_name(it):
 
 # what is known of a blob: the images that were made of it, the lowest first, or None; the digest of
 # what it unpacks to, or None; the paths of the folders that it implies without an entry, which have
-# the rows of the layers below, whichever these were; and whether something was left out
-Made = collections.namedtuple("Made", "images archive implied is_less")
-NOTHING = Made(None, None, [], False)
+# the rows of the layers below, whichever these were; and how much was lost, as Lost counts it
+Made = collections.namedtuple("Made", "images archive implied lost")
+NOTHING = Made(None, None, [], {})
 
 
 class Maker:
@@ -43,7 +44,8 @@ class Maker:
 
     def __init__(self, store, lost, checks_archives):
         self.store, self.lost, self.checks_archives = store, lost, checks_archives
-        self.made_count = 0
+        # the blobs of which it is known what is lost
+        self.made_count, self.told = 0, set()
 
     # --- what is there ---
 
@@ -56,7 +58,7 @@ class Maker:
         if PACKED_ROMFS.get(it.media) == "" and it.algorithm == "sha256":
             images = [StoredLayer(it.digits, it.size, part)]
             is_there = self.stored(images[0])
-            return Made(images if is_there else None, "sha256:" + it.digits, [], False)
+            return Made(images if is_there else None, "sha256:" + it.digits, [], {})
         value = self.store.small_json(self.store.records, record_name(it))
         if value is None or value.get("maker") != MAKER:
             return NOTHING
@@ -64,10 +66,11 @@ class Maker:
         images = layers_said(value.get("layers"), where)
         if it.media in PACKED_ROMFS:
             images = [images[0]._replace(part=part)]
-        is_less = value.get("is_less") is not False
-        is_there = all(map(self.stored, images)) and (self.lost.leaves_out or not is_less)
+        lost = counts_said(value.get("lost"), where)
+        is_taken = self.lost.leaves_out or "entries" not in lost
+        is_there = all(map(self.stored, images)) and is_taken
         return Made(images if is_there else None, value.get("archive"),
-                    paths_said(value.get("implied"), where), is_less)
+                    paths_said(value.get("implied"), where), lost)
 
     def has_made(self, it):
         """Whether the layer of a blob is there. Over other layers it may need other rows."""
@@ -88,7 +91,7 @@ class Maker:
         # what a blob's layer lies on is an image's affair
         layers = [layer_json(it._replace(parent=None)) for it in made.images]
         value = {"maker": MAKER, "layers": layers,
-                 "archive": made.archive, "is_less": made.is_less,
+                 "archive": made.archive, "lost": made.lost,
                  "implied": [b"/".join(path).decode("latin-1") for path in made.implied]}
         data = json.dumps(value).encode()
         if len(data) < SMALL_MOST:
@@ -107,7 +110,7 @@ class Maker:
         value = {"digest": "sha256:" + digits, "size": size}
         name = "sha256-%s.%s" % (layer.digits, packing)
         self.store.write_small(self.store.records, name, json.dumps(value).encode())
-        self.note("sha256-" + digits, Made([layer], "sha256:" + layer.digits, [], False))
+        self.note("sha256-" + digits, Made([layer], "sha256:" + layer.digits, [], {}))
 
     # --- what is made ---
 
@@ -119,8 +122,10 @@ class Maker:
         if found.images is not None:
             self.hold_unpacked(it, found.archive, archive)
             layout.heard(it.size)
+            self.tell(it, found.lost)
             return self.fitted(it, found, below) if found.implied else found.images
-        left_out = self.lost.count("entries")
+        before = dict(self.lost.counts)
+        self.told.add(record_name(it))
         with contextlib.ExitStack() as opened:
             files = []
 
@@ -138,9 +143,14 @@ class Maker:
                 self.hold_unpacked(it, "sha256:" + digits[0], archive)
             images = [self.kept(*both, image.parts[number] + at)
                       for at, both in enumerate(zip(files, digits))]
-        is_less = self.lost.count("entries") > left_out
-        self.note(record_name(it), Made(images, archive, implied, is_less))
+        self.note(record_name(it), Made(images, archive, implied, self.lost.since(before)))
         return images
+
+    def tell(self, it, lost):
+        """Tells what was lost of a blob that isn't read again; once, if several images have it."""
+        if record_name(it) not in self.told:
+            self.told.add(record_name(it))
+            self.lost.add(lost)
 
     def kept(self, new, digits, part):
         """The image in a new file that is whole, which is kept where it isn't there. A layer is
@@ -152,7 +162,7 @@ class Maker:
         return layer
 
     def fitted(self, it, found, below):
-        """The images of a blob's layer over those below: those that are there, or, where folders
+        """The images of a blob's layer over those below: those that exist, or, where folders
         that it implies have other rows in the layers below, copies with these."""
         read, images = set(), []
         for layer in found.images:
@@ -189,7 +199,7 @@ class Maker:
     def opened(self, layer):
         number = self.store.open_layer(layer.digits)
         if number is None:
-            raise Refused("%s: a layer has gone meanwhile" % self.store.name)
+            raise Refused("%s: a layer was removed meanwhile" % self.store.name)
         return number
 
     def layers(self, layout, image):
@@ -224,14 +234,21 @@ def with_parents(layers, said):
 def layers_said(value, where):
     """The images that a record says."""
     if not isinstance(value, list) or not value:
-        raise Refused("%s: no good images of a layer" % where)
+        raise Refused("%s: not valid images of a layer" % where)
     return [layer_of_json(it, where) for it in value]
+
+
+def counts_said(value, where):
+    """How much was lost of each kind, as a record says it."""
+    if not isinstance(value, dict) or not all(isinstance(it, int) for it in value.values()):
+        raise Refused("%s: no good counts of what is lost" % where)
+    return value
 
 
 def paths_said(value, where):
     """The paths of folders that a record says."""
     if not isinstance(value, list) or not all(isinstance(it, str) for it in value):
-        raise Refused("%s: no good paths of folders" % where)
+        raise Refused("%s: not valid paths of folders" % where)
     return [tuple(it.encode("latin-1", "replace").split(b"/")) if it else () for it in value]
 
 
@@ -243,15 +260,10 @@ def unpack_layer(layout, number, it, file):
 def write_unpacked(blob, it, file):
     # what is not packed is hashed as the blob
     is_hashed = PACKED_ROMFS[it.media] != "" or it.algorithm != "sha256"
-    source, size = Unpacked(blob, PACKED_ROMFS[it.media], is_hashed, UNPACKED_MOST), 0
+    source = Unpacked(blob, PACKED_ROMFS[it.media], is_hashed, UNPACKED_MOST)
     try:
-        for data in iter(lambda: source.read(PIECE), b""):
-            if size == 0 and not data.startswith(romfs.MAGIC):
-                raise Refused("no image of romfs")
-            size += len(data)
+        for data in image_pieces(iter(lambda: source.read(PIECE), b"")):
             write_all(file, data)
     finally:
         source.close()
-    if size == 0:
-        raise Refused("no image of romfs")
     return source.digest().partition(":")[2] if is_hashed else it.digits

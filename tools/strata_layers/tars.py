@@ -10,7 +10,7 @@ import re
 import struct
 
 from strata_format.refused import BadEntry, Refused, shown
-from strata_layers import sparse_maps
+from strata_layers import attributes, sparse_maps
 from strata_layers.entries import (BLOCK_DEVICE, CHARACTER, DIRECTORY, FIFO, FILES, HARD, SYMBOLIC,
                                    Entry)
 
@@ -24,10 +24,8 @@ SPARSE_WORDS = {*sparse_maps.KEYWORDS, sparse_maps.PAIRS}
 # entries behind whose header no data stand, whatever size it says
 BARE = (HARD, SYMBOLIC, CHARACTER, BLOCK_DEVICE, DIRECTORY, FIFO)
 PAX, PAX_GLOBAL, LONG_NAME, LONG_LINK = (b"x", b"X"), b"g", b"L", b"K"
-# keywords of extended attributes: behind these stands an attribute's name
-ATTRIBUTES = re.compile(rb"(?:SCHILY\.xattr\.|LIBARCHIVE\.xattr\.|SCHILY\.(?=acl\.)|RHT\.(?=security\.))(.*)", re.S)
-# the names of all of them stand under this, which no keyword is
-NAMES = b""
+# extended attributes by their names stand under this, which no keyword is
+ATTRIBUTES = b""
 # what is heeded of all else that an extended header says
 KEYWORDS = (b"path", b"linkpath", b"size", b"uid", b"gid", b"mtime")
 # the numbers of most headers
@@ -112,6 +110,13 @@ def pax_records(data):
         at = end
 
 
+def read_rest(source):
+    """Reads what stands behind an archive: it says nothing, but what is packed has its checksum at
+    the end."""
+    while source.read(PIECE):
+        pass
+
+
 class Tar:
     """An archive that is read from a source."""
 
@@ -186,7 +191,7 @@ class Tar:
         block = self.taken(BLOCK)
         if block == bytes(BLOCK):
             if self.taken(BLOCK).strip(b"\0"):
-                raise Refused("the archive is broken: a header behind its end")
+                raise Refused("the archive is broken: a header after its end")
             return None
         if not block:
             return None
@@ -201,9 +206,9 @@ class Tar:
         other things, in header after header."""
         found = {}
         for keyword, value in pax_records(data):
-            attribute = ATTRIBUTES.fullmatch(keyword)
-            if attribute and value:
-                found.setdefault(NAMES, []).append(attribute[1])
+            attribute = attributes.of_record(keyword, value)
+            if attribute is not None and value:
+                found.setdefault(ATTRIBUTES, {}).setdefault(*attribute)
             elif keyword in (sparse_maps.OFFSET, sparse_maps.NUMBYTES):
                 found.setdefault(sparse_maps.PAIRS, []).append(value)
             elif keyword in KEYWORDS or keyword in sparse_maps.KEYWORDS:
@@ -251,7 +256,7 @@ class Tar:
         entry.uid = decimal(fields[b"uid"], "owner") if b"uid" in fields else number(block[108:116], "owner")
         entry.gid = decimal(fields[b"gid"], "group") if b"gid" in fields else number(block[116:124], "group")
         entry.time = time_of(fields[b"mtime"]) if b"mtime" in fields else (number(block[136:148], "time"), 0)
-        entry.attributes = fields.get(NAMES, ())
+        entry.attributes = fields.get(ATTRIBUTES, {})
         if kind == b"\0" and name.endswith(b"/"):
             entry.kind = DIRECTORY
         elif kind in (CHARACTER, BLOCK_DEVICE):

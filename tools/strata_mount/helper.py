@@ -21,7 +21,7 @@ from strata_mount import mounting
 from strata_mount.options import Options, Wrong
 from strata_mount.plan import Plan
 from strata_mount.preconditions import find_images, hold_folder, hold_here, hold_images, hold_names
-from strata_mount.words import Reader, WrongWords
+from strata_format.words import Reader, WrongWords
 
 PATH = "/usr/sbin:/usr/bin:/sbin:/bin"
 SOURCE_MOST = 4095
@@ -128,7 +128,7 @@ def mounted(plan):
 
 
 def main(words, name="mount.strata"):
-    # until it mounts there is nothing to take away
+    # until it mounts there is nothing to unmount
     signal.signal(signal.SIGINT, lambda *_: os._exit(INTERRUPTED))
     ends.begin()
     os.environ.clear()

@@ -3,6 +3,7 @@ nothing below the folder."""
 import os
 
 from strata_format.version import PACKAGES, TOP
+from strata_layers import layer_order
 from strata_mount import dead_mounts
 from strata_mount.device import take_away
 from strata_mount.mount_table import mount_at
@@ -12,8 +13,6 @@ from strata_mount.mount_table import mount_at
 # the last folder
 OPENED = ("/lib64/ld-linux-x86-64.so.2", "/etc/ld.so.preload", "/etc/ld.so.cache", "/dev/null",
           "/sys/devices/system/cpu/online", "/sys/fs/cgroup/cpu.max", "/proc/self/fd")
-# of a digest, by which a layer's file is named
-DIGITS = 64
 # as many links as the kernel follows on the way to a file
 LINKS_MOST = 40
 
@@ -41,7 +40,7 @@ def has_lost_server(folder):
 
 def hold_folder(plan):
     """Looks whether a folder is there, and whether a mount of strata stands there. With --replace a
-    dead one is taken away, and one that lives later, when all else is known to be right."""
+    dead one is unmounted, and one that lives later, when all else is known to be right."""
     is_dead, folder = has_lost_server(plan.folder), os.path.realpath(plan.folder)
     if is_dead:
         if not plan.replace or not dead_mounts.replace(folder, take_away):
@@ -61,21 +60,19 @@ def clear(plan):
         take_away(plan.folder)
         found = mount_at(plan.folder)
         if found is not None and found.number == before:
-            raise OSError(0, "the mount that stands here could not be taken away", plan.folder)
+            raise OSError(0, "the mount here could not be unmounted", plan.folder)
 
 
 def find_images(plan):
-    """Puts the layers of images of the store in the place of their names, and says where one lies
+    """Puts the layers of the store's images instead of their names, and says where one lies
     on another than it was made for."""
     parents = {}
     if plan.store is not None or plan.verify or not all(map(os.path.lexists, plan.images)):
         from strata_layers import store_images
         found = store_images.mounted_words(plan.images, plan.store, plan.verify)
         plan.images, plan.marks, parents = found
-    # of others than blobs, which are named by their digests, nothing is known
-    if any(len(os.path.basename(it)) == DIGITS for it in plan.images):
-        from strata_layers.layer_order import wrong_order
-        line = wrong_order(plan.images, parents)
+    if layer_order.is_known(plan.images):
+        line = layer_order.wrong_order(plan.images, parents)
         if line is not None:
             plan.say(line)
 
@@ -86,7 +83,7 @@ def hold_names(plan):
         try:
             os.fsencode(os.path.abspath(image)).decode("utf-8")
         except UnicodeDecodeError:
-            why = "no name in UTF-8, and strata takes no other; a link with another name will do"
+            why = "the name is not UTF-8, which strata needs; a link with another name will do"
             raise OSError(0, why, image) from None
 
 
@@ -155,8 +152,8 @@ def hold_images(plan):
         images, needed = plan.images, [plan.program, *packages(), *sorted(libraries()), *OPENED]
     for image in images:
         if lies_in(image, plan.folder):
-            raise OSError(0, "this image lies in the folder that it would be mounted on", image)
+            raise OSError(0, "this image is in the directory that it would be mounted on", image)
     for path in needed:
         if lies_in(path, plan.folder):
-            why = "strata needs this file, which lies in the folder that it would mount on"
+            why = "strata needs this file, which is in the directory that it would mount on"
             raise OSError(0, why, path)

@@ -31,8 +31,8 @@ ANY_PLACE = os.O_PATH | os.O_DIRECTORY | os.O_NOFOLLOW | os.O_CLOEXEC
 
 def identity_of(plan):
     """What a plan would show, as bytes: the images' files, by device, inode, size and times, and
-    all options; None where an image is no file, or is missing. A layer of a store never changes, so
-    that its file stands for its digest."""
+    all options, whatever the images are called; None where an image is no file, or is missing. A
+    layer of a store never changes, so that its file stands for its digest."""
     files = []
     for image in plan.images:
         try:
@@ -43,7 +43,7 @@ def identity_of(plan):
             return None
         files.append((it.st_dev, it.st_ino, it.st_size, it.st_mtime_ns, it.st_ctime_ns))
     program = os.stat(plan.program)
-    options = mounting.option_words(plan), plan.words, plan.source, plan.keeps_privileges
+    options = mounting.option_words(plan), plan.words, plan.keeps_privileges
     return repr((files, options, program.st_dev, program.st_ino, program.st_mtime_ns)).encode()
 
 
@@ -100,7 +100,7 @@ class Note:
             except OSError:
                 os.close(self.file)
                 raise
-            # who swept may have taken it away before it was locked
+            # a sweep may have removed it before it was locked
             if os.fstat(self.file).st_nlink:
                 break
             os.close(self.file)
@@ -123,7 +123,7 @@ class Note:
 
 
 def sweep(folder):
-    """Takes away notes of mounts that are all gone, with the folders that were printed for them."""
+    """Removes notes of mounts that are all gone, with the folders that were printed for them."""
     for name in filter(is_name, os.listdir(folder)):
         try:
             note = Note(folder, name, is_waited_for=False)
@@ -135,7 +135,7 @@ def sweep(folder):
 
 
 def is_removed(folder, name):
-    """Whether a folder below an open one is gone, if it had to be taken away or not."""
+    """Whether a folder below an open one is gone, if it had to be removed or not."""
     try:
         os.rmdir(name, dir_fd=folder)
         return True
@@ -149,8 +149,7 @@ def joinable(plan, note):
     """The mounts in this namespace that show what a plan would show."""
     devices = [device for device, _ in note.live()]
     for it in mounts(KIND) if devices else ():
-        is_alike = it.root == "/" and it.source == plan.source
-        if is_alike and it.is_of(os.geteuid()) and it.device in devices:
+        if it.root == "/" and it.is_of(os.geteuid()) and it.device in devices:
             yield it
 
 
@@ -178,7 +177,7 @@ def is_joined(plan, found):
 
 def printed_folder(folder, place, name):
     """The folder that --print tells of a stack, which is made where it isn't there; a dead mount is
-    taken away."""
+    unmounted."""
     try:
         os.mkdir(name + PRINTED, 0o700, dir_fd=folder)
     except FileExistsError:
@@ -195,7 +194,7 @@ def hold_unshared(plan):
     if plan.is_printed:
         for image in plan.images:
             if not stat.S_ISREG(os.stat(image).st_mode):
-                raise OSError(0, "is no file, and cannot be shared", image)
+                raise OSError(0, "is not a file and cannot be shared", image)
 
 
 def attempt(plan):

@@ -31,11 +31,11 @@ def parser():
     found.add_argument("--socket", metavar="PATH", default=SOCKET,
                        help="where containerd reaches it, unless systemd gives one (%(default)s)")
     found.add_argument("--store", metavar="DIR", default=STORE,
-                       help="the store of strata-layers, whose layers stand ready (%(default)s)")
+                       help="the store of strata-layers, whose layers are used as they are (%(default)s)")
     found.add_argument("--content", metavar="DIR", default=CONTENT,
                        help="containerd's content store, for layers that are fetched (%(default)s)")
     found.add_argument("--strata", metavar="PROGRAM", dest="program", default=None,
-                       help="another program than strata's own")
+                       help="start PROGRAM instead of the installed strata")
     found.add_argument("--debug", action="store_true", help="log each call with its time")
     found.add_argument("--version", action="store_true", help="print the version")
     return found
@@ -57,19 +57,21 @@ def serve(words):
     path = words.socket if given is None else held.at("grpc.sock")
     os.makedirs(os.path.dirname(path) or ".", 0o700, exist_ok=True)
     sockets.clear(path)
-    ready = ReadyLayers(held, StoreLayers(words.store), Content(words.content))
-    snapshots = Snapshots(held, words.program or version.program(), ready)
+    program = os.path.abspath(words.program or version.program())
+    ready = ReadyLayers(held, StoreLayers(words.store), Content(words.content), program)
+    snapshots = Snapshots(held, program, ready)
     server = service.server_of(snapshots)
     try:
         server.add_insecure_port("unix:" + os.path.abspath(path))
     except RuntimeError as fault:
         raise Refused("%s: %s" % (path, fault)) from None
     server.start()
-    if given is not None:
-        sockets.pass_all_on(given, path)
+    passing = None if given is None else sockets.Passing(given, path)
     sockets.tell("READY=1")
     done.wait()
     sockets.tell("STOPPING=1")
+    if passing is not None:
+        passing.stop()
     server.stop(GRACE).wait()
     snapshots.close()
     # threads that wait for an image would be waited for

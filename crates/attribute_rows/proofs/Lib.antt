@@ -2,3 +2,4 @@ pub mod Search
 pub mod Kept
 pub mod Rising
 pub mod Copies
+pub mod Slices

@@ -1,9 +1,19 @@
-"""Reads a command's arguments by tables of its options.
+"""Reads a command's arguments by tables of its options, and writes words for the shell.
 
 It takes what argparse takes: `--name=value`, `--name value`, unique beginnings of long names,
 letters in one word (`-fn`), options and names in any order. Everything behind `--` is a name. It is
 here because to load argparse takes longer than to mount.
 """
+
+
+# letters that the shell takes as they are
+PLAIN = frozenset("ABCDEFGHIJKLMNOPQRSTUVWXYZabcdefghijklmnopqrstuvwxyz0123456789@%+=:,./-_")
+
+
+def quoted(words):
+    """Words as the shell takes them, like shlex.join, which loads longer than it works."""
+    return " ".join(it if it and PLAIN.issuperset(it) else "'%s'" % it.replace("'", "'\"'\"'")
+                    for it in words)
 
 
 class WrongWords(Exception):
