@@ -4,3 +4,4 @@ pub mod Targets
 pub mod Trailers
 pub mod Worked
 pub mod WorkedTrailers
+pub mod WorkedExtended

@@ -1,10 +1,12 @@
 -- What keeps its rule is known by its bounds, and bounds that can't fail hold (stable_..): so the
 -- trailer of a sound image keeps its rule, where the profile reads it (whole_trailer).
 use Rattle.std.proofs.Common.{◌≡◌, ℕ, ◌<◌, ◌≤◌, inl, inr, List, IsTrue, arith, refl}
+use Rattle.std.specs.Prelude.{Bool, true, false}
 use Rattle.std.proofs.lemmas.Bool.{cases_lt, cases_order}
 use Rattle.romfs_format.specs.declared.rule.Profile.{Profile}
 use Rattle.romfs_format.specs.declared.rule.Rule.TheVariants.{Attributes}
 use Rattle.romfs_format.specs.Fields.{word}
+use Rattle.romfs_format.specs.Part.{IsPart}
 use Rattle.romfs_format.specs.Profiles.{reads_attributes}
 use Rattle.romfs_format.specs.Trailer.{trailer_at, trailer, HasTrailer, IsTrailer, IsTrailerBroken}
 use Rattle.romfs_format.specs.Rules.{IsSound}
@@ -22,6 +24,27 @@ stable_eq m n h = elim (cases_order m n) [
   | inr (inr l) ↦ absurd (h (λ k. omega arith))
 ]
 
+stable_true : (b : Bool) → ¬ ¬ IsTrue b → IsTrue b
+stable_true true h = refl
+stable_true false h = absurd (h (λ e. absurd (cc)))
+
+-- a part of which it can't be that it breaks its rule keeps it
+stable_part : (n : ℕ) (mode : ℕ → ℕ) (x : List ℕ) → ¬ ¬ IsPart n mode x → IsPart n mode x
+stable_part n mode x h = record {
+  head = stable_le _ _ (λ n. h (λ p. n p.head));
+  whole = stable_le _ _ (λ n. h (λ p. n p.whole));
+  words = stable_eq _ _ (λ n. h (λ p. n p.words));
+  sum = stable_eq _ _ (λ n. h (λ p. n p.sum));
+  firsts_fit = stable_le _ _ (λ n. h (λ p. n p.firsts_fit));
+  from_zero = stable_eq _ _ (λ n. h (λ p. n p.from_zero));
+  firsts_rise = stable_true _ (λ n. h (λ p. n p.firsts_rise));
+  edges_fit = stable_le _ _ (λ n. h (λ p. n p.edges_fit));
+  edges_rise = stable_true _ (λ n. h (λ p. n p.edges_rise));
+  inside = stable_le _ _ (λ n. h (λ p. n p.inside));
+  lists = stable_true _ (λ n. h (λ p. n p.lists));
+  rows = stable_true _ (λ n. h (λ p. n p.rows));
+}
+
 -- a trailer of which it can't be that it breaks its rule keeps it
 stable_trailer : (full : ℕ) (t : List ℕ) → ¬ ¬ IsTrailer full t → IsTrailer full t
 stable_trailer full t h = record {
@@ -37,6 +60,7 @@ stable_trailer full t h = record {
     };
     rising = λ i j l m. stable_lt _ _ (λ n. h (λ x. n (x.rows.rising i j l m)));
   };
+  part = λ v. stable_part _ _ _ (λ n. h (λ x. n (x.part v)));
 }
 
 -- a trailer that is not broken keeps its rule

@@ -4,14 +4,17 @@
 //! `specs/` restates the document: the fields of headers (`Fields`, `Heads`), which headers stand
 //! in which directory (`Chains`), what they lead to (`Links`), the rules of an image and the one
 //! fault of an image that breaks some (`Rules`, in words `Texts`). Behind an image may stand an
-//! attribute trailer with the owners, modes and times of its files (`Trailer`), which the profiles
-//! read that ask for it (`Profiles`). [`limits`] has all sizes and limits, and [`examples`] the
-//! number of each, and worked trailers. [`read`] reads words, names and headers where they lie
-//! within the image; no call takes memory. [`laws`] says that an image has at most one fault.
+//! attribute trailer with the owners, modes and times of its files (`Trailer`), and behind its rows
+//! a part with lists (`Part`) of extended attributes (`Extended`, `Acls`); the profiles read it that
+//! ask for it (`Profiles`). [`limits`] has all sizes and limits, [`acl`] the numbers of access
+//! control lists, and [`examples`] the number of each, and worked trailers. [`read`] reads words,
+//! names and headers where they lie within the image; no call takes memory. [`laws`] says that an
+//! image has at most one fault.
 //!
 //! The crate stands on `byteorder` for words and `memchr` for the ends of names.
 #![tactic(auto)]
 
+pub mod acl;
 pub mod attribute_row;
 pub mod examples;
 pub mod head;
