@@ -28,7 +28,7 @@ def store_of(asked, make=False):
 
 def run_image(asked):
     from strata_layers.image_file import write_image_file
-    lost = Lost(asked.leave_out, asked.fail_on_lost)
+    lost = Lost(asked.leave_out, asked.fail_on_lost, asked.no_xattrs)
     write_image_file(asked.folder, asked.image, lost, asked.upper)
     told(lost)
     print_line(quoted([command("mount"), asked.image, "DIR"]))
@@ -39,7 +39,7 @@ def run_convert(asked):
     from strata_layers.convert import convert
     from strata_layers.open_layout import open_layout
     layout, tag = open_layout(asked.layout)
-    lost, store = Lost(asked.leave_out, asked.fail_on_lost), store_of(asked, make=True)
+    lost, store = Lost(asked.leave_out, asked.fail_on_lost, asked.no_xattrs), store_of(asked, make=True)
     folder, tag = convert(store, layout, tag, asked.new_layout, asked, lost)
     told(lost)
     print_line("oci:%s:%s" % (folder, tag))
@@ -48,7 +48,7 @@ def run_convert(asked):
 
 def run_pull(asked):
     from strata_layers.pull import pull
-    lost, store = Lost(asked.leave_out, asked.fail_on_lost), store_of(asked, make=True)
+    lost, store = Lost(asked.leave_out, asked.fail_on_lost, asked.no_xattrs), store_of(asked, make=True)
     name, count, new = pull(store, asked.source, asked.name, asked.platform, lost)
     told(lost)
     print_line("%s: %d layers, %d of them new" % (name, count, new))
@@ -114,7 +114,7 @@ def sandbox_words(store, name, config, asked):
 
 def run_attributes(asked):
     from strata_layers.folder_attributes import add_attributes
-    lost = Lost(fails=asked.fail_on_lost)
+    lost = Lost(False, asked.fail_on_lost, asked.no_xattrs)
     count = add_attributes(asked.folder, asked.image, lost)
     told(lost)
     print_line("%s: attributes of %d files" % (asked.image, count))
@@ -183,20 +183,22 @@ LEAVE_OUT = ("--leave-out", {
     "action": SWITCH, "help": "leave out entries that romfs cannot hold, and name them"})
 FAIL_ON_LOST = ("--fail-on-lost", {
     "action": SWITCH, "help": "fail if anything is lost, such as extended attributes"})
+NO_XATTRS = ("--no-xattrs", {
+    "action": SWITCH, "help": "leave out extended attributes, with a line that counts them"})
 STORE = ("--store", {"metavar": "DIR", "help": "where layers are kept (default: %(default)s)"})
 NAME = ("name", {"metavar": "NAME[:TAG]"})
 # options, and behind them what has no name of its own
 WORDS = {
-    "image": [LEAVE_OUT, FAIL_ON_LOST, ("--upper", {
+    "image": [LEAVE_OUT, FAIL_ON_LOST, NO_XATTRS, ("--upper", {
         "action": SWITCH, "help": "FOLDER is the upper directory of an overlayfs mount: convert its"
                                   " whiteouts and opaque directories"}),
         ("folder", {"metavar": "FOLDER|-"}), ("image", {"metavar": "IMAGE"})],
-    "convert": [STORE, LEAVE_OUT, FAIL_ON_LOST, ("--platform", {
+    "convert": [STORE, LEAVE_OUT, FAIL_ON_LOST, NO_XATTRS, ("--platform", {
         "metavar": "PLATFORM", "type": platform_or_all, "help": PLATFORM + "; all for every one"}),
         ("--compress", {"dest": "packing", "choices": ("gzip", "zstd"), "default": "",
                         "help": "compress layers; pull decompresses them once"}),
         ("layout", {"metavar": "LAYOUT[:TAG]"}), ("new_layout", {"metavar": "LAYOUT2[:TAG2]"})],
-    "pull": [STORE, LEAVE_OUT, FAIL_ON_LOST, ("--platform", {
+    "pull": [STORE, LEAVE_OUT, FAIL_ON_LOST, NO_XATTRS, ("--platform", {
         "metavar": "PLATFORM", "type": platform_asked, "help": PLATFORM}),
         ("source", {"metavar": "SOURCE", "help": "oci:LAYOUT[:TAG] or docker://HOST/NAME[:TAG]"}),
         ("name", {"metavar": "NAME[:TAG]", "nargs": "?"})],
@@ -211,7 +213,7 @@ WORDS = {
                                       " image's user"}),
         ("options", {"metavar": "OPTION", "nargs": "...",
                      "help": "an option of bwrap, such as --ro-bind /mnt /"})],
-    "attributes": [FAIL_ON_LOST, ("folder", {"metavar": "FOLDER"}), ("image", {"metavar": "IMAGE"})],
+    "attributes": [FAIL_ON_LOST, NO_XATTRS, ("folder", {"metavar": "FOLDER"}), ("image", {"metavar": "IMAGE"})],
     "podman": [STORE, NAME, ("folder", {"metavar": "DIR"})],
 }
 REST, MAYBE = "...", "?"

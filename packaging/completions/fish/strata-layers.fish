@@ -15,6 +15,7 @@ complete -c strata-layers -n "not __fish_seen_subcommand_from $verbs" -l version
 complete -c strata-layers -n "__fish_seen_subcommand_from image" -l upper -d 'An upper folder of overlayfs'
 complete -c strata-layers -n "__fish_seen_subcommand_from image convert pull" -l leave-out -d 'Leave out what no image holds'
 complete -c strata-layers -n "__fish_seen_subcommand_from image convert pull attributes" -l fail-on-lost -d 'Fail if anything is lost'
+complete -c strata-layers -n "__fish_seen_subcommand_from image convert pull attributes" -l no-xattrs -d 'Leave out extended attributes'
 complete -c strata-layers -l help -d 'Print the usage'
 complete -c strata-layers -n "__fish_seen_subcommand_from $stored" -l store -r -d 'Where layers are kept'
 complete -c strata-layers -n "__fish_seen_subcommand_from convert pull" -l platform -x -a 'linux/amd64 linux/arm64' -d 'The image of an index'
