@@ -28,7 +28,7 @@ def test_folder(room):
     expect((status, output, told) == (1, "", ["%s: there is a 00.romfs already" % folder]), "told %r" % told)
     with open(os.path.join(folder, "00.romfs"), "rb") as it:
         expect(it.read() == written, "it was written over")
-    expect(sorted(os.listdir(folder)) == [BESIDE, "00.romfs", "other"], "left: %r" % os.listdir(folder))
+    expect(sorted(os.listdir(folder)) == ["00.romfs", "other"], "left: %r" % os.listdir(folder))
     for name in ("00.romfs", "7.romfs"):
         folder = room.name()
         os.mkdir(folder)

@@ -1,5 +1,5 @@
-"""`LAYOUT[:TAG] FOLDER`: images of a layout's layers in a folder, 00.romfs the lowest. A file
-beside them says their digests, and which image each was made to lie on."""
+"""`LAYOUT[:TAG] FOLDER`: images of a layout's layers in a folder, 00.romfs the lowest. Beside several
+a file says their digests, and which image each was made to lie on."""
 import contextlib
 import os
 import re
@@ -38,15 +38,24 @@ class ImageFolder:
 
     def keep(self, layers):
         """Gives the images their names, of as many digits as the last one needs, so that their
-        order is that of names, and the file beside them its own; their paths."""
+        order is that of names, and the file beside several its own; their paths."""
         digits = max(2, len(str(len(self.new) - 1)))
         names = ["%0*d.romfs" % (digits, number) for number in range(len(self.new))]
-        with new_file(self.place, self.path, 0o666, PASSING) as beside:
-            write_all(beside.file, beside_text(names, layers))
-            for new, name in zip([beside, *self.new], [BESIDE, *names]):
-                new.keep(self.place, name)
+        self.keep_beside(names, layers)
+        for new, name in zip(self.new, names):
+            new.keep(self.place, name)
         self.is_new = False
         return [os.path.join(self.path, name) for name in names]
+
+    def keep_beside(self, names, layers):
+        """Keeps the file beside several images; beside one that of earlier ones goes."""
+        if layers:
+            with new_file(self.place, self.path, 0o666, PASSING) as beside:
+                write_all(beside.file, beside_text(names, layers))
+                beside.keep(self.place, BESIDE)
+        else:
+            with contextlib.suppress(FileNotFoundError):
+                os.unlink(BESIDE, dir_fd=self.place)
 
     def close(self):
         """Takes away what got no name."""
@@ -56,29 +65,74 @@ class ImageFolder:
             os.rmdir(self.path)
 
 
-def stored_layer(number, part, below):
-    """The image in an open file, a part of a layer, which lies on others."""
-    parent = below[-1].digits if below else None
-    return StoredLayer(file_digits(number), os.fstat(number).st_size, part, parent)
+class Digests:
+    """The digests of images, each of which is read again while the next one is made; of one alone
+    nobody asks for it."""
+
+    def __init__(self):
+        self.pool, self.parts, self.waiting, self.found = None, [], [], []
+
+    def __enter__(self):
+        return self
+
+    def __exit__(self, *_):
+        for number, _ in self.waiting:
+            os.close(number)
+        if self.pool is not None:
+            self.pool.shutdown(cancel_futures=True)
+
+    def add(self, number, part):
+        """Adds the image in an open file, a part of a layer."""
+        self.parts.append(part)
+        self.waiting.append((os.dup(number), os.fstat(number).st_size))
+
+    def begin(self):
+        """Begins to read what waits."""
+        if self.waiting and self.pool is None:
+            from concurrent.futures import ThreadPoolExecutor
+            self.pool = ThreadPoolExecutor(1)
+        while self.waiting:
+            self.found.append(self.pool.submit(closed_digits, *self.waiting.pop(0)))
+
+    def layers(self):
+        """The images, each of which lies on the one before, if they are several."""
+        if len(self.parts) < 2:
+            return []
+        self.begin()
+        below, layers = None, []
+        for part, it in zip(self.parts, self.found):
+            layers.append(StoredLayer(*it.result(), part, below))
+            below = layers[-1].digits
+        return layers
+
+
+def closed_digits(number, size):
+    """The digits of the digest of an open file, which is closed then, and its size."""
+    try:
+        return file_digits(number), size
+    finally:
+        os.close(number)
 
 
 def write_images(word, path, lost):
     """Makes the images of a layout's layers; their paths. `lost` is told what they don't hold."""
     layout, tag = open_layout(word)
-    below, layers = Below(), []
+    below = Below()
     descriptors = layout.layers(tag)
     folder = ImageFolder(path)
     try:
-        with Progress("layers", sum(it.size for it in descriptors)) as progress:
+        with Progress("layers", sum(it.size for it in descriptors)) as progress, \
+                Digests() as digests:
             layout.heard = progress.add
             for number, descriptor in enumerate(descriptors):
                 made = len(folder.new)
+                digests.begin()
                 LayerWriter(layout, number, descriptor).write(folder.new_file, lost, below)
                 for part, new in enumerate(folder.new[made:]):
                     below.add(new.file.fileno())
-                    layers.append(stored_layer(new.file.fileno(), part, layers))
+                    digests.add(new.file.fileno(), part)
                     new.file.close()
-        lost.settle()
-        return folder.keep(layers)
+            lost.settle()
+            return folder.keep(digests.layers())
     finally:
         folder.close()
