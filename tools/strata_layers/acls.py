@@ -58,16 +58,17 @@ def bits_of(perms):
 def mode_without(mode, found):
     """The mode of a file that loses the entries of a list (None: nobody can read it): nobody has
     more rights by it than by the list, but for the file's group where an entry takes rights from
-    one of its users. The mode's group bits are the list's mask, which says nothing of the group."""
+    one of its users. The mode's group bits are the list's mask, or, as libarchive writes them, its
+    group's own."""
     if found is None:
         return mode & ~0o70
-    mask, group, other = mode >> 3 & 7, 0, mode & 7
+    mask, group, other = 7, 0, mode & 7
     for tag, perms, _ in found:
         if tag == MASK:
             mask &= perms
     for tag, perms, _ in found:
         if tag == GROUP_OBJ:
-            group = perms & mask
+            group = perms & mask & mode >> 3
         elif tag in NAMED:
             other &= perms & mask
     return mode & ~0o77 | group << 3 | other
