@@ -87,7 +87,8 @@ def write_image_file(source, path, lost, is_upper=False):
 
 
 def keep_image(path, lost, write):
-    """Gives a new file its path, once `write` has written it and nothing is lost that may not be."""
+    """Gives a new file its path, once `write` has written it, and nothing is lost that may not
+    be."""
     place = os.path.dirname(os.path.abspath(path))
     with opened_folder(place) as folder, Progress("image", None) as progress, \
             new_file(folder, place, 0o666, PASSING) as new:

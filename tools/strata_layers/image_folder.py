@@ -1,5 +1,5 @@
-"""`LAYOUT[:TAG] FOLDER`: images of a layout's layers in a folder, 00.romfs the lowest. Beside several
-a file says their digests, and which image each was made to lie on."""
+"""`LAYOUT[:TAG] FOLDER`: images of a layout's layers in a folder, 00.romfs the lowest. Beside
+several a file says their digests, and which image each was made to lie on."""
 import contextlib
 import os
 import re

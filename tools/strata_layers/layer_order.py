@@ -109,8 +109,9 @@ class Known:
 def is_known(paths):
     """Whether something may be known of one of these images: a blob is named by its digest, and of
     others a file beside them may say what they are."""
+    folders = {*map(os.path.dirname, paths)}
     return (any(len(os.path.basename(it)) == DIGITS for it in paths)
-            or any(os.path.exists(os.path.join(it, BESIDE)) for it in {*map(os.path.dirname, paths)}))
+            or any(os.path.exists(os.path.join(it, BESIDE)) for it in folders))
 
 
 def wrong_order(paths, known):

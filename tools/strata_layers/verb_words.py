@@ -1,42 +1,108 @@
-"""What a verb is asked, by argparse: its help, and what is wrong with words."""
-import argparse
-import sys
-
-from strata_format import ends
-from strata_format.refused import Refused, one_line
-from strata_format.version import command
-from strata_layers.store import default_place
-
-# options of one field: of these at most one may be said
-CHOSEN = "store_const"
+"""What each verb of strata-layers is asked: tables of words, as argparse takes them, and a reader
+of what users mostly write, without argparse, which takes longer to load than a small image."""
+from strata_format.refused import Refused
+from strata_format.words import Reader, WrongWords
 
 
-class Parser(argparse.ArgumentParser):
-    """Says in one line what is wrong with the words."""
-
-    def error(self, message):
-        ends.write("%s: %s; see --help\n" % (self.prog, one_line(message)))
-        sys.exit(2)
+def platform_asked(text):
+    """The platform that a word says."""
+    from strata_layers.layouts import platform_said
+    return platform_said(text)
 
 
-def refusing(read):
-    """A reader of a value whose Refused argparse tells."""
-    def refused_as_wrong(text):
-        try:
-            return read(text)
-        except Refused as refused:
-            raise argparse.ArgumentTypeError(str(refused)) from None
-    return refused_as_wrong
+def platform_or_all(text):
+    return text if text == "all" else platform_asked(text)
 
 
-def parsed(verb, description, table, words):
-    """What words ask of a verb with a table of words; an end with help, or with what is wrong."""
-    it = Parser(prog="%s %s" % (command("layers"), verb), description=description)
-    is_chosen = any(how.get("action") == CHOSEN for _, how in table)
-    chosen = it.add_mutually_exclusive_group() if is_chosen else None
-    for name, how in table:
-        more = {"type": refusing(how["type"])} if "type" in how else {}
-        if name == "--store":
-            more["default"] = default_place()
-        (chosen if how.get("action") == CHOSEN else it).add_argument(name, **{**how, **more})
-    return it.parse_args(words)
+SWITCH = "store_true"
+PLATFORM = "linux/ARCHITECTURE[/VARIANT]; by default this machine's"
+LEAVE_OUT = ("--leave-out", {
+    "action": SWITCH, "help": "leave out entries that romfs cannot hold, and name them"})
+FAIL_ON_LOST = ("--fail-on-lost", {
+    "action": SWITCH, "help": "fail if anything is lost, such as extended attributes"})
+NO_XATTRS = ("--no-xattrs", {
+    "action": SWITCH, "help": "leave out extended attributes, with a line that counts them"})
+STORE = ("--store", {"metavar": "DIR", "help": "where layers are kept (default: %(default)s)"})
+NAME = ("name", {"metavar": "NAME[:TAG]"})
+# options, and behind them what has no name of its own
+WORDS = {
+    "image": [LEAVE_OUT, FAIL_ON_LOST, NO_XATTRS, ("--upper", {
+        "action": SWITCH, "help": "FOLDER is the upper directory of an overlayfs mount: convert its"
+                                  " whiteouts and opaque directories"}),
+        ("folder", {"metavar": "FOLDER|-"}), ("image", {"metavar": "IMAGE"})],
+    "convert": [STORE, LEAVE_OUT, FAIL_ON_LOST, NO_XATTRS, ("--platform", {
+        "metavar": "PLATFORM", "type": platform_or_all, "help": PLATFORM + "; all for every one"}),
+        ("--compress", {"dest": "packing", "choices": ("gzip", "zstd"), "default": "",
+                        "help": "compress layers; pull decompresses them once"}),
+        ("layout", {"metavar": "LAYOUT[:TAG]"}), ("new_layout", {"metavar": "LAYOUT2[:TAG2]"})],
+    "pull": [STORE, LEAVE_OUT, FAIL_ON_LOST, NO_XATTRS, ("--platform", {
+        "metavar": "PLATFORM", "type": platform_asked, "help": PLATFORM}),
+        ("source", {"metavar": "SOURCE", "help": "oci:LAYOUT[:TAG] or docker://HOST/NAME[:TAG]"}),
+        ("name", {"metavar": "NAME[:TAG]", "nargs": "?"})],
+    "images": [STORE], "verify": [STORE], "prune": [STORE], "remove": [STORE, NAME],
+    "config": [STORE, NAME, ("--bwrap", {
+        "dest": "form", "action": "store_const", "const": "bwrap",
+        "help": "print a command of bwrap, with the OPTIONs after NAME"}),
+        ("--podman", {"dest": "form", "action": "store_const", "const": "podman",
+                      "help": "print arguments of podman run, before --rootfs"}),
+        ("--as-caller", {
+            "action": SWITCH, "help": "with --bwrap: keep your own rights, under the number of the"
+                                      " image's user"}),
+        ("options", {"metavar": "OPTION", "nargs": "...",
+                     "help": "an option of bwrap, such as --ro-bind /mnt /"})],
+    "attributes": [FAIL_ON_LOST, NO_XATTRS, ("folder", {"metavar": "FOLDER"}),
+                   ("image", {"metavar": "IMAGE"})],
+    "podman": [STORE, NAME, ("folder", {"metavar": "DIR"})],
+}
+REST, MAYBE = "...", "?"
+
+
+def field_of(name, how):
+    return how.get("dest", name.lstrip("-").replace("-", "_"))
+
+
+class Asked:
+    """What a verb is asked, by fields."""
+
+    def __init__(self, words):
+        for name, how in words:
+            unsaid = False if "action" in how else None
+            setattr(self, field_of(name, how), how.get("default", unsaid))
+
+
+def read(verb, words):
+    """What words ask of a verb; None where argparse is to say what is wrong with them, or to help:
+    to load it takes longer than a small image."""
+    options = [it for it in WORDS[verb] if it[0].startswith("-")]
+    others = [it for it in WORDS[verb] if not it[0].startswith("-")]
+    flags = {name: field_of(name, how) for name, how in options if "action" in how}
+    valued = {name: field_of(name, how) for name, how in options if "action" not in how}
+    least = sum(how.get("nargs") != MAYBE for _, how in others)
+    try:
+        reader = Reader(flags, valued).read(words)
+        if any(how.get("nargs") == REST for _, how in others):
+            return None
+        if not least <= len(reader.names) <= len(others):
+            return None
+        return filled(Asked(WORDS[verb]), reader, options, others)
+    except (WrongWords, Refused):
+        return None
+
+
+def filled(asked, reader, options, others):
+    """The same with what was read; Refused where a value is none that an option takes."""
+    for (name, how), value in zip(others, reader.names):
+        setattr(asked, field_of(name, how), value)
+    for name, how in options:
+        said = reader.said.get(field_of(name, how))
+        if said is True:
+            setattr(asked, field_of(name, how), True)
+        elif said is not None:
+            setattr(asked, field_of(name, how), checked(how, said[-1]))
+    return asked
+
+
+def checked(how, value):
+    if value not in how.get("choices", [value]):
+        raise Refused(value)
+    return how.get("type", str)(value)

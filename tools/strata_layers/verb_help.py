@@ -1,0 +1,69 @@
+"""Help for each verb of strata-layers, and what is wrong with words, by argparse."""
+import argparse
+import sys
+
+from strata_format import ends
+from strata_format.refused import Refused, one_line
+from strata_format.version import command
+from strata_layers.store import default_place
+from strata_layers.verb_words import WORDS
+
+HELP = {
+    "image": "Makes a romfs image of a directory, or of a tar archive on standard input (-), with"
+             " modes, owners, times, hard links and special files, and prints the command that mounts"
+             " it. Replaces an image of that name. The same directory gives the same bytes.",
+    "convert": "Writes an image layout whose layers are romfs images, made from those of LAYOUT in"
+               " the same order. Layers are made in the store, each once, and copied from there."
+               " Prints the name of the new layout in skopeo's form.",
+    "pull": "Brings an image into the store, from a layout or, with skopeo, from a registry: only"
+            " the missing layers. Layers may be romfs images or archives, which are converted."
+            " NAME is by default that of the layout's folder, or the image's name in the registry"
+            " without the host.",
+    "images": "Prints a line for each image: its name, number of layers, their bytes, and the digest"
+              " of its manifest.",
+    "verify": "Reads all layers and prints a line for each that is missing or has a wrong digest;"
+              " the status is then 1.",
+    "remove": "Removes the name of an image; prune removes its layers.",
+    "prune": "Removes the layers that no image names and no mount uses.",
+    "config": "Prints entry point, command, environment, working directory and user of an image,"
+              " quoted for the shell; or, for eval, a command of bwrap that runs it as its user,"
+              " with these options of bwrap; or arguments for podman run.",
+    "attributes": "Adds the modes, owners and times of all files in FOLDER to the image that"
+                  " genromfs made of it, or replaces those that were added before.",
+    "podman": "Makes DIR, which must be new or empty, an additional image store for podman, with one"
+              " image of the store; prints the command that mounts its files there.",
+}
+
+# options of one field: of these at most one may be said
+CHOSEN = "store_const"
+
+
+class Parser(argparse.ArgumentParser):
+    """Says in one line what is wrong with the words."""
+
+    def error(self, message):
+        ends.write("%s: %s; see --help\n" % (self.prog, one_line(message)))
+        sys.exit(2)
+
+
+def refusing(read):
+    """A reader of a value whose Refused argparse tells."""
+    def refused_as_wrong(text):
+        try:
+            return read(text)
+        except Refused as refused:
+            raise argparse.ArgumentTypeError(str(refused)) from None
+    return refused_as_wrong
+
+
+def parsed(verb, words):
+    """What words ask of a verb; an end with help, or with what is wrong."""
+    it, table = Parser(prog="%s %s" % (command("layers"), verb), description=HELP[verb]), WORDS[verb]
+    is_chosen = any(how.get("action") == CHOSEN for _, how in table)
+    chosen = it.add_mutually_exclusive_group() if is_chosen else None
+    for name, how in table:
+        more = {"type": refusing(how["type"])} if "type" in how else {}
+        if name == "--store":
+            more["default"] = default_place()
+        (chosen if how.get("action") == CHOSEN else it).add_argument(name, **{**how, **more})
+    return it.parse_args(words)
