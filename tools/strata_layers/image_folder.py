@@ -71,11 +71,13 @@ class Digests:
 
     def __init__(self):
         self.pool, self.parts, self.waiting, self.found = None, [], [], []
+        self.is_ended = False
 
     def __enter__(self):
         return self
 
     def __exit__(self, *_):
+        self.is_ended = True
         for number, _ in self.waiting:
             os.close(number)
         if self.pool is not None:
@@ -92,7 +94,19 @@ class Digests:
             from concurrent.futures import ThreadPoolExecutor
             self.pool = ThreadPoolExecutor(1)
         while self.waiting:
-            self.found.append(self.pool.submit(closed_digits, *self.waiting.pop(0)))
+            self.found.append(self.pool.submit(self.read, *self.waiting.pop(0)))
+
+    def read(self, number, size):
+        """The digits of the digest of an open file, which is closed then, and its size."""
+        try:
+            return file_digits(number, self.go_on), size
+        finally:
+            os.close(number)
+
+    def go_on(self, _):
+        """Ends a read of which nobody waits for the end."""
+        if self.is_ended:
+            raise InterruptedError
 
     def layers(self):
         """The images, each of which lies on the one before, if they are several."""
@@ -104,14 +118,6 @@ class Digests:
             layers.append(StoredLayer(*it.result(), part, below))
             below = layers[-1].digits
         return layers
-
-
-def closed_digits(number, size):
-    """The digits of the digest of an open file, which is closed then, and its size."""
-    try:
-        return file_digits(number), size
-    finally:
-        os.close(number)
 
 
 def write_images(word, path, lost):
