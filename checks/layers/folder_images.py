@@ -13,6 +13,7 @@ import signal
 import socket
 import stat
 import subprocess
+import sys
 import time
 
 from checks import TOOLS
@@ -423,6 +424,26 @@ def test_memory_of_an_image(room):
             image_of_folder(number, out, Lost())
     finally:
         resource.setrlimit(resource.RLIMIT_AS, before)
+
+
+LOADED = """
+import sys
+sys.path.insert(0, sys.argv[1])
+from strata_layers.command import main
+main(["image", *sys.argv[2:]])
+sys.stderr.write(" ".join(sys.modules))
+"""
+
+
+def test_little_is_loaded(room):
+    """A small image takes little more than Python's start: what loads longer than that is not
+    loaded."""
+    words = [sys.executable, "-IBS", "-c", LOADED, TOOLS, "--leave-out", made_folder(room), room.name()]
+    done = subprocess.run(words, capture_output=True, check=True, text=True)
+    many = {"argparse", "re", "subprocess", "hashlib", "json", "shutil", "threading", "contextlib",
+            "enum", "shlex", "strata_layers.tars", "strata_layers.store"}
+    found = sorted(many.intersection(done.stderr.split()))
+    expect(found == [], "loaded: %s" % " ".join(found))
 
 
 def test_words_of_image(room):
