@@ -54,7 +54,7 @@ def trailer_of(rows):
 
 
 def write_trailer(number, full, rows):
-    """Writes the trailer of an image of this full size, in the place of what stood behind that. Its letters come last, so that
+    """Writes the trailer of an image of this full size, instead of what followed that. Its letters come last, so that
     one that is written by half is none."""
     data, place = memoryview(trailer_of(rows)), place_of(full)
     end = place + len(data)

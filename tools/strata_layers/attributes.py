@@ -1,5 +1,5 @@
 """Extended attributes of entries: as the records of archives say them, and by what kind they are
-told of.
+reported.
 
 An entry has them by their names. A list of rights in its text has the name of its record, since it
 may stand beside one in its binary form, and may name users without their numbers.
@@ -16,7 +16,7 @@ SCHILY_ACL, ACCESS_TEXT = b"SCHILY.acl.", b"acl.access"
 # an overlay's own, which would hide files of an overlay on top: root's mounts have the first, those
 # of other users the second
 OVERLAYS = (b"trusted.overlay.", b"user.overlay.")
-# what is told of an attribute, by the front of its name, in the singular and the plural
+# how an attribute is reported, by the front of its name, in the singular and the plural
 KINDS = {
     b"security.capability": ("capability", "capabilities"),
     b"system.posix_acl_": ("ACL", "ACLs"),
