@@ -13,7 +13,8 @@
 # make wrong_bodies: tries the wrong bodies of trials/gate, over what is proved. The gate tries them, too.
 # make trials [CRATES=..] [ONLY=EDIT]: tries the wrong bodies of trials/CRATE.edits, over what make kept has kept; trials/outcomes.txt tells
 # the last runs.
-# make bench: figures. make growth: how time and memory grow with nodes and layers, drawn in docs/growth.svg.
+# make bench: bounds of time. make growth: how time and memory grow with nodes and layers, drawn in docs/growth.svg.
+# make speed: measures the tables of docs/SPEED.md and writes them, with README's table and the pictures; as root, on a quiet machine.
 # make fuzz [FUZZ=WORDS]: random and changed inputs, against a plain reading of the formats; WORDS are those of checks/fuzz/fuzz.py,
 # as `--minutes 120 --seed 1000000 long device`.
 # make threads: 10,000 runs of one stream by 64 workers, each of which must give the same bytes; and valgrind over it.
@@ -22,7 +23,7 @@
 # make install [PREFIX=/usr/local] [DESTDIR=], make uninstall: what make build has made, with man pages and the mount helper.
 # make deb, make dist [PACKAGES=build]: a Debian package, a tar of the same files. make installed: all of these in fresh roots.
 # Each of these starts a file of checks/ by `python3 checks NAME WORDS..`; `python3 checks` lists them.
-.PHONY: test build kept demo doors links crate_order logic cases layers registry mounted plant trials wrong_bodies bench growth fuzz threads soak demo_files needed pictures
+.PHONY: test build kept demo doors links crate_order logic cases layers registry mounted plant trials wrong_bodies bench growth speed fuzz threads soak demo_files needed pictures
 .PHONY: install uninstall deb dist installed snapshots engines
 
 PYTHON = python3 -B
@@ -92,6 +93,9 @@ bench: build/strata
 
 growth: build/strata
 	$(CHECKS) growth build/strata --drawn docs/growth.svg
+
+speed: build/strata
+	$(CHECKS) tables build/strata --write
 
 fuzz: build/strata
 	$(CHECKS) fuzz build/strata $(FUZZ)

@@ -164,7 +164,7 @@ def architecture():
 
 
 def control(text, found, scripts=(), **more):
-    """What dpkg is told of the package, as files of its own folder, with the scripts that it runs."""
+    """What dpkg must know about the package, as files of its own folder, with the scripts that it runs."""
     size = sum(-(-len(entry.data or b"") // 1024) for entry in found) + len(files.folders(found))
     text = text.format(version=files.version(), maintainer=MAINTAINER, size=size, **more)
     sums = "".join("%s  usr/%s\n" % (hashlib.md5(entry.data).hexdigest(), entry.path) for entry in found if entry.link is None)

@@ -1,4 +1,4 @@
-"""What is installed: which files, where, and what they hold. packaging/install.py, deb.py and dist.py go by it."""
+"""What is installed: which files, where, and what they hold. packaging/install.py, deb.py and dist.py use it."""
 import collections
 import os
 import re
@@ -96,7 +96,7 @@ def documents():
 
 
 def entries(program, python, is_compiled=True):
-    """All that is installed, in the order of paths: the program from this file, and what goes by this python3, with its
+    """All that is installed, in the order of paths: the program from this file, and what depends on this python3, with its
     modules compiled for it."""
     with open(program, "rb") as it:
         found = [Entry("bin/strata", 0o755, it.read())]

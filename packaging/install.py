@@ -1,4 +1,4 @@
-"""Installs what `make build` has made, or takes it away: packaging/install.py PROGRAM DESTDIR PREFIX HELPERS [--remove]
+"""Installs what `make build` has made, or removes it: packaging/install.py PROGRAM DESTDIR PREFIX HELPERS [--remove]
 
 Files go below DESTDIR/PREFIX. mount(8) seeks its helpers in HELPERS alone (/sbin): where the prefix is another, links to
 them are made there. Where that may not be, or a helper stands there that is not this install's, as a package's is, this is
@@ -47,7 +47,7 @@ def is_ours(place, target):
 
 
 def held_links(links):
-    """The links that may be made or taken away: a helper that is not this install's is left as it is, which is said."""
+    """The links that may be made or removed: a helper that is not this install's is left as it is, and reported."""
     for place, target in links:
         if not os.path.lexists(place) or is_ours(place, target):
             yield place, target
@@ -70,7 +70,7 @@ def install(found, top, links):
 
 
 def remove_modules(top, kept=()):
-    """Takes away modules, compiled ones and those of an earlier strata too, but for those at paths that are kept."""
+    """Removes modules, compiled ones and those of an earlier strata too, but for those at paths that are kept."""
     for folder, _, names in os.walk(os.path.join(top, files.MODULES)):
         for place in (os.path.join(folder, name) for name in names if name.endswith((".py", ".pyc"))):
             if os.path.relpath(place, top) not in kept:

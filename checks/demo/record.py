@@ -22,7 +22,7 @@ MOST = 1 << 21
 
 
 def pass_requests(device, strata, messages):
-    """Passes the kernel's messages on, one by one, until the mount is taken away."""
+    """Passes the kernel's messages on, one by one, until it is unmounted."""
     with contextlib.suppress(OSError):
         while True:
             messages.append(os.read(device, MOST))

@@ -227,7 +227,7 @@ def check_a_full_disk(snapshotter):
 
 def check_the_socket_of_systemd(snapshotter):
     """With a socket that systemd holds, a call that comes while the service is down is answered
-    once it runs again; and systemd is told when it is ready."""
+    once it runs again; and systemd learns when it is ready."""
     snapshotter.stop()
     place, told = snapshotter.folder + "/outer.sock", snapshotter.folder + "/told.sock"
     with socket.socket(socket.AF_UNIX) as outer, \

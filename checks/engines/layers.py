@@ -59,7 +59,7 @@ def lowest(folder):
 
 
 def higher(folder):
-    """A layer over it: a removed file, an opaque folder, a file in the place of a folder."""
+    """A layer over it: a removed file, an opaque folder, a file instead of a folder."""
     make_folder(folder, "etc", 0o750)
     whiteout(folder, "etc/passwd")
     put(folder, "etc/shadow", b"other\n", 0o640)

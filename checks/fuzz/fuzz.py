@@ -2,13 +2,13 @@
 
 python3 checks fuzz PROGRAM [--seed N] [--tries N] [--minutes N] [PART..]
 
-Each try of a part makes its inputs of a seed of its own, from N (1) on, and goes by any plan, strictly or not, with attributes or
-not, over images that stay in their files or are read whole, and with any owner. Some images have an attribute trailer, right or
+Each try of a part makes its inputs of a seed of its own, from N (1) on, and uses any plan, strictly or not, with attributes or
+not, over images that stay in their files or are read in full, and with any owner. Some images have an attribute trailer, right or
 broken. The parts:
 
 - `images`: images, most of them broken, through `check` and `list`; `stacks`: stacks of 1 to 6 layers, too.
 - `streams`: requests over such stacks through `serve`, from files and through pipes in pieces, lastingly or not, with
-  balances, and one in three through `socket`, one to three clients, some of whom go away early.
+  balances, and one in three through `socket`, one to three clients, some of which leave early.
 - `device`: requests through `serve --device`, over a socket of packets in place of /dev/fuse: a read gives one packet, of a
   message, of several, or of any piece, and a write must be one whole reply. Some stand-ins go away early. Or by several
   readers, whose replies may come in any order.
@@ -50,7 +50,7 @@ INIT, DESTROY = 26, 38
 # --- images ---
 
 class Profile:
-    """By which rules images are looked at, whether their trailers are read, and whether they are read whole or, where they
+    """By which rules images are checked, whether their trailers are read, and whether they are read in full or, where they
     are served, left in their files, which changes nothing: at random, `--strict` so often as is said."""
 
     def __init__(self, rng, strictly):
@@ -225,7 +225,7 @@ def serve_device(inputs, make, seen):
 
 
 def in_one_session(rng, stream):
-    """The messages of a stream whose replies don't go by their order: an INIT, and all that begins and ends no session."""
+    """The messages of a stream whose replies don't depend on their order: an INIT, and all that begins and ends no session."""
     messages = plain.split(stream)[0]
     first = messages[0] if messages and opcode_of(messages[0]) == INIT else init(1, flags=random_flags(rng))
     return [first, *[it for it in messages if opcode_of(it) not in (INIT, DESTROY) and len(it) <= MOST_PACKET]]

@@ -7,7 +7,7 @@ answers of that file's functions. One that changes no function but a constant co
 
 `rt ci` tries an edit by a check of its whole crate. So an edit may leave out what its function does not stand on
 (`leave_out`): what is left is checked sooner, and no contract of it is another. Where what is left does not compile
-without it, the edit is told here.
+without it, the edit is reported here.
 
 The status is that of `rt ci`; 1, too, where an edit does not count.
 """

@@ -3,7 +3,7 @@
 A public call is a function that the front door of a layer (its lib.rt) gives, or a method of one of the types that
 checks/gate/doors.txt names for callers. That file has each call that the specification names, below the layer that gives it, with
 its signature; --list writes it anew from the sources. So a call that moves, or takes or gives something else, is seen there.
-Each of these calls has its row under "Every public call returns" of docs/PROMISES.md, and each row names a test that is there and
+Each of these calls has its row under "Every public call returns" of docs/PROMISES.md, and each row names a test that exists and
 calls it; where the row says `CALL` by `OTHER`, or by `OTHER` of all its calls, the test calls that. Each other public call stands
 among those for other layers alone, below that table.
 

@@ -5,7 +5,7 @@
 `use`. This writes these lines behind those of the edit's own: out go all functions that are named neither in what the
 edit changes nor in what that names in turn, and all modules of which nothing is left, unless a definition or a proof
 names a type of theirs. The prover then misses functions that have written answers, and says so; that is no goal, and
-`python3 checks ci` counts goals alone. It goes by names, so functions of one name stay together; where it took too much the rest does
+`python3 checks ci` counts goals alone. It looks at names, so functions of one name stay together; where it took too much the rest does
 not compile, and `python3 checks ci` tells that. Of a crate with several edits in must-fail/ each is tried over a proof
 of the whole crate, so there nothing is left out.
 """

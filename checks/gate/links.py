@@ -2,8 +2,8 @@
 
 Looked at are links and the headings that they lead to; paths from the root of the repository, and from the folder of a
 crate; file names alone, which some folder must have; `make TARGET`; and `python3 checks NAME`. In a path `*` stands for
-anything, and so does a word like NAME. How long a paragraph may be says paragraphs.py, and a page page_words.py; no line
-of README.md is too long for a terminal. Which turns are not plain English says phrases.py. It reads files alone. What is
+anything, and so does a word like NAME. Names of code in the pages about it (CODE) must occur in some source. How long a paragraph may be says paragraphs.py, and a page page_words.py; no line
+of README.md is too long for a terminal. Which turns are not plain English, here and in comments, says phrases.py. It reads files alone. What is
 not there, too long or odd is a line each, and then the status is 1.
 """
 import fnmatch
@@ -14,7 +14,7 @@ import sys
 from checks import ROOT, STARTED
 from checks.gate.page_words import long_pages, pages
 from checks.gate.paragraphs import long_paragraphs
-from checks.gate.phrases import odd_phrases
+from checks.gate.phrases import odd_comments, odd_phrases
 
 BUILT = (".git", "build", "out", "__pycache__")
 PAGES = ("README.md", *sorted("docs/" + name for name in os.listdir(ROOT + "/docs") if name.endswith(".md")))
@@ -26,6 +26,9 @@ IN_CRATE = re.compile(r"(?<![\w/.-])(?:(\w+)/)?((?:src|specs|proofs|must-fail)/[
 ALONE = re.compile(r"(?<![\w/.*-])[\w-]+\.(?:py|rt|antt|case|md|txt)\b(?!/)")
 TARGET = re.compile(r"(?:`|^)make ((?:[a-z_]+ ?)+)", re.M)
 CHECK = re.compile(r"python3 (?:-B )?checks (\w+)")
+CODE = ["docs/%s.md" % it for it in ("ARCHITECTURE", "CHANGING", "DECISIONS", "DEFINITIONS", "GATE", "PROMISES", "TRIALS")]
+SPAN = re.compile(r"`([A-Za-z]\w*(?:::\w+)*)`")
+OUTSIDE = {"collect", "conflicts_with_all", "diff_id"}  # names of std, clap and OCI
 
 
 def listed():
@@ -33,6 +36,14 @@ def listed():
     for folder, folders, names in os.walk(ROOT):
         folders[:] = [name for name in folders if name not in BUILT]
         yield from (os.path.relpath(os.path.join(folder, name), ROOT) for name in names)
+
+
+def words_of(name):
+    """The words of a file and of its path."""
+    try:
+        return re.findall(r"\w+", name + "\n" + read(name))
+    except UnicodeDecodeError:
+        return ()
 
 
 class There:
@@ -46,6 +57,7 @@ class There:
         with open(ROOT + "/Makefile", encoding="utf-8") as makefile:
             self.targets = set(" ".join(re.findall(r"^([a-z_ ]+):", makefile.read(), re.M)).split())
         self.checks = {os.path.basename(path) for path in STARTED}
+        self.words = {word for name in self.files if not name.startswith("docs/") for word in words_of(name)} | OUTSIDE
 
     def has(self, path):
         path = PLACEHOLDER.sub("*", path.rstrip("./"))
@@ -89,6 +101,12 @@ def wrong_names(text, there):
     yield from ("python3 checks %s" % name for name in CHECK.findall(text) if name not in there.checks)
 
 
+def wrong_code(text, there):
+    """The names of code that no source has."""
+    for span in SPAN.findall(text):
+        yield from (word for word in span.split("::") if word not in there.words)
+
+
 def long_lines(page):
     """A line for each line of a page that is too long."""
     for number, line in enumerate(read(page).splitlines(), 1):
@@ -98,11 +116,13 @@ def long_lines(page):
 
 def main():
     there, wrong, long = There(), [], [*long_pages(), *long_lines("README.md")]
-    odd = [line for page in pages() for line in odd_phrases(page)]
+    odd = [line for page in pages() for line in odd_phrases(page)] + [*odd_comments()]
     for page in PAGES:
         text = read(page)
         long += long_paragraphs(page, text)
         wrong += ["%s: %s" % (page, it) for it in [*wrong_links(page, text), *wrong_names(text, there)]]
+        if page in CODE:
+            wrong += ["%s: %s" % (page, it) for it in wrong_code(text, there)]
     wrong += ["checks/__init__.py: %s" % path for path in STARTED if not there.has("checks/%s.py" % path)]
     print("".join("%s is not there\n" % line for line in wrong) + "".join(line + "\n" for line in [*long, *odd])
           + "%d pages, %d names not there, %d pages, paragraphs or lines too long, %d odd phrases" % (

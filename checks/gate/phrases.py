@@ -1,32 +1,76 @@
-"""Sees that README.md, docs/ and the man pages speak plain English; part of `python3 checks links`.
+"""Sees that pages and comments speak plain English; part of `python3 checks links`.
 
-PHRASES are turns that readers stumbled over, each with what to say instead.
+PHRASES are turns that readers stumbled over, each with what to say instead. README.md, docs/ and the
+man pages are held to all of them, comments and docstrings of sources to those of SOURCES.
 """
+import ast
 import re
+import subprocess
+import tokenize
 
 from checks import ROOT
 
 PHRASES = {
-    r"who is not root": "users who are not root, unprivileged users",
+    r"who (is|are) not root": "users who are not root, unprivileged users",
     r"go(es)? by": "depends on",
     r"(is|are) told": "is reported, prints",
     r"reads? whole": "read in full",
     r"(takes?|taken) (it |them |that )?away": "unmount, remove, hide",
-    r"that is there": "existing, or nothing at all",
+    r"that (is|are) there": "existing, or nothing at all",
     r"what a mount asks": "requests of a mount",
     r"of which no": "without",
     r"of whom": "whose",
-    r"is to be had": "is available",
+    r"(is|are) to be had": "is available",
     r"ask(s|ed)? a right": "verify",
+    r"comes only where": "only if",
+    r"want of memory": "lack of memory",
+    r"in whichever": "in any",
+    r"gathered of": "gathered from",
+    r"in (the )?place of": "instead of",
+    r"stands? on": "is on, uses",
 }
+OF_PAGES = r"of which no", r"in (the )?place of", r"stands? on"
+SOURCES = {phrase: better for phrase, better in PHRASES.items() if phrase not in OF_PAGES}
 # what tools print is quoted as it is
 QUOTED = re.compile(r"^\.EX\n.*?^\.EE$|^```.*?^```$|`[^`]*`", re.M | re.S)
+NOT_ROOT = re.compile("users who are not root", re.I)
+LINE = re.compile(r"^[ \t]*(?://[/!]?|--)(?![-|])(.*)$", re.M)
+
+
+def odd_in(text, phrases):
+    """The odd turns in a text, each with what to say instead."""
+    text = NOT_ROOT.sub("", " ".join(QUOTED.sub("", text).split()))
+    for phrase, better in phrases.items():
+        for found in re.finditer(r"\b%s\b" % phrase, text, re.I):
+            yield "'%s': say %s" % (found[0], better)
+
+
+def read(path):
+    with open("%s/%s" % (ROOT, path), encoding="utf-8") as it:
+        return it.read()
 
 
 def odd_phrases(page):
     """A line for each odd turn of a page."""
-    with open("%s/%s" % (ROOT, page), encoding="utf-8") as it:
-        text = QUOTED.sub("", it.read())
-    for phrase, better in PHRASES.items():
-        for found in re.finditer(r"\b%s\b" % phrase, text, re.I):
-            yield "%s: '%s': say %s" % (page, " ".join(found[0].split()), better)
+    yield from ("%s: %s" % (page, it) for it in odd_in(read(page), PHRASES))
+
+
+def comments_of(path):
+    """The comments of a source of Rattle, or the comments and docstrings of one of Python."""
+    text = read(path)
+    if not path.endswith(".py"):
+        return "\n".join(LINE.findall(text))
+    with open("%s/%s" % (ROOT, path), "rb") as it:
+        found = [token.string.lstrip("# ") for token in tokenize.tokenize(it.readline) if token.type == tokenize.COMMENT]
+    documented = (ast.Module, ast.ClassDef, ast.FunctionDef)
+    found += [ast.get_docstring(it) or "" for it in ast.walk(ast.parse(text)) if isinstance(it, documented)]
+    return "\n".join(found)
+
+
+def odd_comments():
+    """A line for each odd turn in the comments of sources."""
+    kinds = "tools/*.py", "checks/*.py", "packaging/*.py"
+    listed = subprocess.run(["git", "ls-files", *kinds], cwd=ROOT, stdout=subprocess.PIPE, text=True, check=True)
+    for path in listed.stdout.split():
+        if path not in ("packaging/launcher.py", "checks/gate/phrases.py"):
+            yield from ("%s: %s" % (path, it) for it in odd_in(comments_of(path), SOURCES))

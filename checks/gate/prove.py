@@ -50,7 +50,7 @@ def say(text):
 
 
 class Proving:
-    """The proof of one crate, under way, by a command in a folder. `keep` is told whether all is proved at its end."""
+    """The proof of one crate, under way, by a command in a folder. `keep` learns whether all is proved at its end."""
 
     def __init__(self, crate, words, folder, is_first, keep):
         self.crate, self.keep, self.begun = crate, keep, time.monotonic()

@@ -13,7 +13,7 @@ batch does not compile, the edit at the place of the error is taken out and the 
 
 Any other edit, and each that no batch shows refused, is tried alone: by a whole check of the crate over what was kept,
 and where that shows nothing by `rt must-fail`, from nothing. "Only at a name" is what fails since a written answer
-names what the edit took away, which tells little of the contract.
+names what the edit removed, which tells little of the contract.
 """
 import argparse
 import glob

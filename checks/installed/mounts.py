@@ -144,7 +144,7 @@ def words(root):
 
 
 def owner(root):
-    """uid= and gid= are whose all files are of which no image says it."""
+    """uid= and gid= own all files for which no image names an owner."""
     root.good("mount", "-t", "strata", STACK, "/srv/made", "-o", "uid=7,gid=4294967295")
     hold("whose a file is", 7, os.stat("/srv/made/etc/hostname").st_uid)
     root.good("umount", "/srv/made")
@@ -214,19 +214,19 @@ def faked(root):
 
 
 def user(root):
-    """The words that start a command as a user who is not root, who may open /dev/fuse, as udev lets all."""
+    """The words that start a command as an unprivileged user, who may open /dev/fuse, as udev lets all."""
     if os.stat("/dev/fuse").st_mode & 0o006 != 0o006:
         os.mknod("/tmp/fuse", 0o20666, os.stat("/dev/fuse").st_rdev)
         os.chmod("/tmp/fuse", 0o666)
         root.good("mount", "--bind", "/tmp/fuse", "/dev/fuse")
     other = ("setpriv", "--reuid=%d" % OTHER, "--regid=%d" % OTHER, "--clear-groups")
     if root.run(*other, "sh", "-c", "exec 3<>/dev/fuse").status != 0:
-        raise LeftOut("a user who is not root can't open /dev/fuse here")
+        raise LeftOut("an unprivileged user cannot open /dev/fuse here")
     return other
 
 
 def for_others(root):
-    """allow_other by a user who is not root, as fuse.conf(5) has it: only with user_allow_other."""
+    """allow_other by an unprivileged user, as fuse.conf(5) has it: only with user_allow_other."""
     root.needs("fusermount3", "setpriv")
     root.install()
     other, third = user(root), ("setpriv", "--reuid=%d" % (OTHER + 1), "--regid=%d" % (OTHER + 1), "--clear-groups")
@@ -247,7 +247,7 @@ def for_others(root):
 
 
 def by_user(root):
-    """A line with `user`: who is not root mounts and takes away, by fusermount3."""
+    """A line with `user`: an unprivileged user mounts and unmounts, by fusermount3."""
     root.needs("fusermount3", "setpriv")
     root.install()
     other = user(root)
@@ -280,7 +280,7 @@ def killed(root, place, *front):
 
 
 def dead(root):
-    """A dead mount is said, by each program, with the command that takes it away; --replace does it."""
+    """A dead mount is reported by each program, with the command that unmounts it; --replace does it."""
     root.install()
     place = "/mnt/dead"
     os.mkdir(place)
@@ -306,7 +306,7 @@ def dead(root):
     root.good("umount", place)
     root.good(*background, "--replace", "/srv/lower.romfs", place)
     root.good("umount", place)
-    return "said by strata-mount and by mount, with the command; --replace takes it away"
+    return "reported by strata-mount and by mount, with the command; --replace unmounts it"
 
 
 def unit_texts():
@@ -336,6 +336,6 @@ def units(root):
     done = root.run("mount", "-t", said["Type"], said["What"], said["Where"], "-o", said["Options"])
     hold("the unit's mount: " + done.err, (0, 1), (done.status, done.err.count("\n")))
     # others are let in to images that keep no modes
-    hold_in("what is told", "without modes and owners", done.err)
+    hold_in("what is reported", "without modes and owners", done.err)
     hold_stack(root, said["Where"])
     return "both units of MOUNTING pass systemd-analyze verify"

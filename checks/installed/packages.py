@@ -1,4 +1,4 @@
-"""The Debian package, the archive of dist, and that what is taken away leaves nothing."""
+"""The Debian package, the archive of dist, and that what is removed leaves nothing."""
 import hashlib
 import os
 import re
@@ -58,7 +58,7 @@ def package(root):
     done = root.run("dpkg", "-P", "strata")
     hold("dpkg -P: %s" % done.err, 0, done.status)
     hold("what is left", {"/etc/fstab"}, root.written() - before)
-    return "installed, mounted by fstab, taken away without a trace; " + linted(root, path)
+    return "installed, mounted by fstab, removed without a trace; " + linted(root, path)
 
 
 def beside(root):

@@ -75,7 +75,7 @@ def alone(root):
 
 
 def other_alone(root, words, env):
-    """The same for who is not root, for whom the helper starts fusermount3."""
+    """The same for an unprivileged user, for whom the helper starts fusermount3."""
     try:
         root.needs("fusermount3", "setpriv")
         other = user(root)
@@ -83,7 +83,7 @@ def other_alone(root, words, env):
         return "; left out for others than root: %s" % missing
     os.chown("/mnt/alone", OTHER, OTHER)
     command = ["/usr/bin/" + other[0], *other[1:], *words]
-    hold("the mount helper, for who is not root", "", root.good(*command, cwd="/tmp/stranger", env=env))
+    hold("the mount helper, for an unprivileged user", "", root.good(*command, cwd="/tmp/stranger", env=env))
     hold("mounts", [("/mnt/alone", STACK)], places())
     root.good(*other, "umount", "/mnt/alone")
     return ", by root and by others"

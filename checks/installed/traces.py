@@ -92,7 +92,7 @@ def stats(root):
 
 def progress(root):
     """Where the images take more than a second, a line on a terminal says how far they are, and of how many bytes where they
-    are read whole. A log has none."""
+    are read in full. A log has none."""
     root.install()
     slow, place = "/tmp/slow", "/mnt/slow"
     os.mkdir(place)
@@ -109,11 +109,11 @@ def progress(root):
     go()
     hold("what a log holds", (b"", 0), (child.communicate()[1], child.returncode))
     root.good("umount", place)
-    return "one line on a terminal, taken away at the end; nothing in a log"
+    return "one line on a terminal, erased at the end; nothing in a log"
 
 
 def hold_progress(words, line):
-    """Holds that a mount on a terminal writes this line and takes it away."""
+    """Holds that a mount on a terminal writes this line and erases it."""
     ours, theirs = pty.openpty()
     child = subprocess.Popen(words, stdin=subprocess.DEVNULL, stderr=theirs)
     os.close(theirs)
@@ -123,7 +123,7 @@ def hold_progress(words, line):
     go()
     text += rest_of(ours)
     hold("the status", 0, child.wait())
-    hold("the line is taken away", b"\r\x1b[K", text[-4:])
+    hold("the line is erased", b"\r\x1b[K", text[-4:])
 
 
 def go():

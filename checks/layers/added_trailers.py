@@ -134,10 +134,10 @@ def test_refused(room):
         status, output, told = added(folder, image)
         expect((status, output, told) == (1, "", [line]), "told %r, and %r is wanted" % (told, line))
         expect(read(image) == data, "the image has changed")
-    refuse("%s: something else than a trailer stands behind its full size" % image, data + bytes(2000) + b"x")
-    refuse("%s: no image of romfs" % image, b"\x1f\x8b" + bytes(100))
-    refuse("%s: no image of romfs" % image, b"")
-    refuse("%s: no image of romfs" % image, data[:100])
+    refuse("%s: something other than a trailer follows its full size" % image, data + bytes(2000) + b"x")
+    refuse("%s: not a romfs image" % image, b"\x1f\x8b" + bytes(100))
+    refuse("%s: not a romfs image" % image, b"")
+    refuse("%s: not a romfs image" % image, data[:100])
     write(folder + "/d/closed/x", b"12")
     refuse("%s: %s/d/closed/x: has 2 bytes, and 700 in the image" % (image, folder))
     write(folder + "/d/closed/x", bytes(700))
@@ -150,7 +150,7 @@ def test_refused(room):
 
 
 def test_lost(room):
-    """Extended attributes are told with the names of the files."""
+    """Extended attributes are reported with the names of the files."""
     folder, image = room.name(), room.name()
     make_folder(folder)
     write(image, laid_out(b"v", items_of(folder)))
@@ -164,7 +164,7 @@ def test_lost(room):
 
 
 def test_no_extended_attributes(room):
-    """A folder whose file system knows no extended attributes, as a mount of strata, has none; another fault is told."""
+    """A folder whose file system knows no extended attributes, as a mount of strata, has none; another fault is reported."""
     folder, image = room.name(), room.name()
     make_folder(folder)
     write(image, laid_out(b"v", items_of(folder)))
@@ -176,11 +176,11 @@ def test_no_extended_attributes(room):
 
 
 def test_more_in_the_folder(room):
-    """What stands in the folder alone is told with its name."""
+    """Files that only the folder has are reported by name."""
     folder, image = room.name(), room.name()
     make_folder(folder)
     write(image, laid_out(b"v", items_of(folder)))
     write(folder + "/d/new", b"")
     status, _, told = added(folder, image)
-    expect((status, told) == (0, ["what stands in the folder alone is not in the image: 1 entry", "  %s/d/new" % folder]),
+    expect((status, told) == (0, ["files that only the folder has are not in the image: 1 entry", "  %s/d/new" % folder]),
            "status %d, told %r" % (status, told))

@@ -110,7 +110,7 @@ def shown_of(image):
 
 
 def image_of(room, *words):
-    """Makes an image; its path, and the lines that were told."""
+    """Makes an image; its path, and the lines that were printed."""
     image = room.name() + " '.romfs"
     status, output, told = run_tool("image", *words, image)
     expect(status == 0, "status %d: %s" % (status, told))
@@ -141,7 +141,7 @@ def test_image_of_a_folder(room):
 
 
 def test_image_is_replaced(room):
-    """The same folder gives the same bytes, in the place of an image that is there."""
+    """The same folder gives the same bytes, instead of an existing image."""
     folder = made_folder(room)
     image, _ = image_of(room, folder)
     before = read(image)
@@ -256,7 +256,7 @@ CHANGES = ((grown, "d1/large"), (shrunk, "d1/large"), (other, "d1"), (link, "non
 
 
 def test_folder_that_changes(room):
-    """What is changed meanwhile is told, and what a link leads to is not read in its place."""
+    """What is changed meanwhile is reported, and what a link leads to is not read instead of it."""
     for change, name in CHANGES:
         folder = made_folder(room)
         line = None
@@ -281,10 +281,10 @@ def test_refused_images(room):
     folder, image, none = made_folder(room), room.name(), room.path + "/none"
     refuse_image(room, (none, image), none + ": no such file or directory")
     refuse_image(room, (folder + "/su", image), "%s/su: not a directory" % folder)
-    refuse_image(room, (folder, folder), "%s: is there, and no file" % folder)
-    refuse_image(room, (folder, "/dev/null"), "/dev/null: is there, and no file")
+    refuse_image(room, (folder, folder), "%s: exists and is not a file" % folder)
+    refuse_image(room, (folder, "/dev/null"), "/dev/null: exists and is not a file")
     refuse_image(room, (folder, none + "/x"), none + ": no such file or directory")
-    line = "an image can't be made within the folder that it is made of"
+    line = "the image must be outside the folder that it is made from"
     refuse_image(room, (folder, folder + "/d1/x.romfs"), line)
     expect({*os.listdir(folder + "/d1")} == {"large", "s", "closed", "su2"}, "something was left")
     if os.geteuid() != 0:
@@ -296,7 +296,7 @@ def test_refused_images(room):
 
 
 def test_what_no_image_holds(room):
-    """Files above 4 GiB, large numbers and deep paths are told by name, or left out."""
+    """Files above 4 GiB, large numbers and deep paths are reported by name, or left out."""
     folder, image = made_folder(room), room.name()
     with open(folder + "/huge", "wb") as out:
         out.truncate(2 ** 32)
@@ -319,7 +319,7 @@ def test_what_no_image_holds(room):
     refuse_image(room, (folder, image), *(line for line in lines if "to nothing" not in line))
     image, told = image_of(room, "--leave-out", folder)
     names = [line.partition(":")[0] for line in lines]
-    wanted = ["what no image holds is left out: %d entries" % len(names)]
+    wanted = ["entries that romfs cannot hold are left out: %d entries" % len(names)]
     expect(told == wanted + ["  " + name for name in names], "told %r" % told)
     shown = shown_of(image)
     expect((b"d",) * 512 in shown, "too much was left out")
@@ -395,7 +395,7 @@ def test_upper_folder(room):
     refuse_image(room, ("--upper", upper, room.name()),
                  ".wh.name: a layer takes a name that begins with .wh. as a whiteout",
                  "a: overlayfs shows another folder of the layers below there, which a layer"
-                 " can't say")
+                 " cannot express")
 
 
 def test_full_disk(room):

@@ -49,7 +49,7 @@ def kept(image):
 
 def test_kept_of_archives(room):
     """Capabilities, lists of rights in each form, labels and users' own come into the image; an overlay's own and what no
-    image holds are told."""
+    image holds are reported."""
     packed = base64.b64encode(CLOSED).decode()
     shuffled = acl((OTHER, 0), (USER, 4, 1234), (MASK, 4), (OWNER, 6), (GROUP, 0))
     rights = {ACCESS.encode(): CLOSED}

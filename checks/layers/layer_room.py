@@ -34,7 +34,7 @@ class Room:
         return run_tool(word, folder)
 
     def taken(self, word, archives):
-        """Holds what the images of a layout show against the plain reading of its archives; the lines that were told."""
+        """Holds what the images of a layout show against the plain reading of its archives; the lines that were printed."""
         folder = self.name()
         status, output, told = self.convert(word, folder)
         expect(status == 0, "status %d: %s" % (status, told))

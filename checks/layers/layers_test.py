@@ -2,7 +2,7 @@
 
 Layouts are made on the spot. Those that must be taken are: their images go through `check --strict` and `list`, all is
 read back through `serve`, and it must be what the plain reading of the same archives says (checks/plain/plain_layers.py); so must
-what the images' trailers say, by the plain reading of these. Those that must be refused are: with the one line that is told,
+what the images' trailers say, by the plain reading of these. Those that must be refused are: with the one line that is printed,
 status 1, and no file left behind. The layout in demo is tried too. Without PROGRAM only the images are looked at. Linux's own
 romfs reads an image with a trailer, where this kernel has it, and in another one where STRATA_KERNEL names its package
 (checks/shared/other_kernel.py). The status is 0 where no test fails.

@@ -1,4 +1,4 @@
-"""Tests of what is lost of extended attributes: that it harms nobody, and is told. A test is a
+"""Tests of what is lost of extended attributes: that it harms nobody, and is reported. A test is a
 function of a room."""
 import base64
 import os
@@ -106,7 +106,7 @@ def test_acls_of_folders(room):
 
 
 def test_counts(room):
-    """What is lost is told in one line with counts, also of a layer that was made before."""
+    """What is lost is reported in one line with counts, also of a layer that was made before."""
     made = [archive([file("ping", mode=0o755, pax_headers={"SCHILY.xattr.security.capability": "1"}),
                      file("l", pax_headers={"RHT.security.selinux": "x", "SCHILY.xattr.trusted.x": "1"})]),
             archive([file("o", pax_headers={"SCHILY.xattr.user.overlay.opaque": "y", "SCHILY.xattr.user.y": "1"})])]
@@ -121,7 +121,7 @@ def test_counts(room):
         status, _, told = run_tool(*words)
         expect((status, told) == (0, whole), "%r: %d, told %r" % (words, status, told))
         whole = [line, own]
-    # a layer that several images have is told of once
+    # a layer that several images have is reported once
     new = layout_of(room.name(), [made[0], made[0]], ("gzip",)).path
     status, _, told = run_tool("convert", "--store", place, new, room.name() + ":1")
     expect(told == [line.replace("3 entries", "2 entries").replace(", 1 user attribute", "")], "told %r" % told)

@@ -22,7 +22,7 @@ def test_packing(room):
     packed = gzip.compress(data)
     for broken in (packed[:-9], packed[:20] + bytes(20) + packed[40:], b"no gzip", packed[:60]):
         parts.index([parts.manifest([parts.blob(LAYER + "+gzip", broken)])])
-        room.refused(parts.path, "layer 0: the packed data are broken: ..")
+        room.refused(parts.path, "layer 0: the compressed data is broken: ..")
     parts.index([parts.manifest([parts.layer(data), parts.blob(LAYER + "+encrypted", data)])])
     room.refused(parts.path, "blob ..: no layer of files, but %s+encrypted" % LAYER)
 
@@ -37,14 +37,14 @@ def test_zstd(room):
     if packing.zstd_module() is None:
         path, os.environ["PATH"] = os.environ["PATH"], ""
         try:
-            room.refused(parts.path, "layer 0: zstd wants the program zstd: install the package zstd ..")
+            room.refused(parts.path, "layer 0: zstd needs the program zstd: install the package zstd ..")
         finally:
             os.environ["PATH"] = path
         if shutil.which("zstd") is None:
             return
     room.taken(parts.path, [data])
     parts.index([parts.manifest([parts.blob(LAYER + "+zstd", frame[:-1])])])
-    room.refused(parts.path, "layer 0: the packed data are broken: ..")
+    room.refused(parts.path, "layer 0: the compressed data is broken: ..")
 
 
 class StoredFrames:
@@ -109,22 +109,22 @@ def test_documents(room):
     room.refused(parts.path, where + ": its digest is ..")
     for value, line in [
             (b"no json", ": no JSON"), (b"[" * 100000, ": no JSON"), (b"[]", ": no JSON object"), (b"\xff", ": no JSON"),
-            ({}, ": no good 'layers'"), ({"layers": 7}, ": no good 'layers'"),
+            ({}, ": no valid 'layers'"), ({"layers": 7}, ": no valid 'layers'"),
             ({"layers": [7]}, ": a descriptor is no object"),
-            ({"layers": [{**good, "size": True}]}, ": no good 'size'"),
+            ({"layers": [{**good, "size": True}]}, ": no valid 'size'"),
             ({"layers": [{**good, "size": -1}]}, ": a size of -1"),
-            ({"layers": [{**good, "digest": 7}]}, ": no good 'digest'"),
+            ({"layers": [{**good, "digest": 7}]}, ": no valid 'digest'"),
             ({"layers": []}, ": 0 layers, allowed 1 to 128"),
             ({"layers": [good] * 129}, ": 129 layers, allowed 1 to 128"),
             ({"layers": [good], "mediaType": "x"}, ": its media type is x")]:
         parts.index([parts.blob(it["mediaType"], value)])
         room.refused(parts.path, "blob .." + line)
     name = parts.path
-    for value, line in [(b"{", "/index.json: no JSON"), ({}, "/index.json: no good 'manifests'"),
+    for value, line in [(b"{", "/index.json: no JSON"), ({}, "/index.json: no valid 'manifests'"),
                         ({"manifests": []}, "/index.json: nothing for linux/..; there is nothing"),
                         ({"manifests": [{**it, "mediaType": "a b"}]}, "/index.json: no image manifest, but a\\20b"),
-                        ({"manifests": [{**it, "annotations": 7}]}, "/index.json: no good 'annotations'"),
-                        ({"manifests": [{**it, "platform": {"os": 7}}]}, "/index.json: no good 'platform'")]:
+                        ({"manifests": [{**it, "annotations": 7}]}, "/index.json: no valid 'annotations'"),
+                        ({"manifests": [{**it, "platform": {"os": 7}}]}, "/index.json: no valid 'platform'")]:
         parts.write("index.json", value)
         room.refused(parts.path, name + line)
     os.remove(os.path.join(name, "index.json"))

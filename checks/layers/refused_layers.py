@@ -19,9 +19,9 @@ def test_refused_entries(room):
             ("layer 0: l: a link's target of 4096 bytes, at most 4095 are held", symlink("l", "t" * 4096)),
             ("layer 0: c: a device of major number 4096, at most 4095 is held", character("c", 4096, 0)),
             ("layer 0: c: a device of minor number 65536, at most 65535 is held", block("c", 0, 65536)),
-            ("layer 0: a: no directory, and something stands below it", file("a"), file("a/b")),
-            ("layer 0: d/l: no directory, and something stands below it", directory("d"), symlink("d/l", "."), file("d/l/b/c")),
-            ("layer 0: h: no directory, and something stands below it", file("a"), hard("h", "a"), directory("h/d")),
+            ("layer 0: a: not a directory, but has files below it", file("a"), file("a/b")),
+            ("layer 0: d/l: not a directory, but has files below it", directory("d"), symlink("d/l", "."), file("d/l/b/c")),
+            ("layer 0: h: not a directory, but has files below it", file("a"), hard("h", "a"), directory("h/d")),
             ("layer 0: h: a hard link to nothing in its layer: lower", hard("h", "lower")),
             ("layer 0: a: a hard link to nothing in its layer: a", hard("a", "a")),
             ("layer 0: h: a hard link to the directory d", directory("d"), hard("h", "d")),
@@ -73,7 +73,7 @@ def test_broken_archives(room):
         room.refuse("layer 0: the archive is truncated", good[:size])
     room.refuse("layer 0: the archive is broken: a header's checksum", good[:10] + b"x" + good[11:])
     room.refuse("layer 0: the archive is broken: a header's checksum", good[:1536] + b"7" * 512 + good[2048:])
-    room.refuse("layer 0: the archive is broken: a header behind its end", bytes(512) + good)
+    room.refuse("layer 0: the archive is broken: a header after its end", bytes(512) + good)
     room.refuse("layer 0: the archive is broken: size 'xyz'", with_field(good, 124, b"xyz".ljust(12, b"\0")))
     room.refuse("layer 0: the archive is broken: size '118'", with_field(good, 124, b"118".ljust(12)))
     room.refuse("layer 0: the archive is broken: a size of -1", with_field(good, 124, b"\xff" * 12))

@@ -160,7 +160,7 @@ def test_stores_of_many_images(room):
     layers = hold_stored(room, other, "z:1", [LOW, HIGH], [0] + [1] * 9)
     expect([it.part for it in layers] == [0, *range(len(layers) - 1)], "parts: %r" % layers)
     good("remove", "--store", other, "y:1")
-    expect(good("prune", "--store", other).startswith("0 layers"), "a layer of an image was taken away")
+    expect(good("prune", "--store", other).startswith("0 layers"), "a layer of an image was removed")
     hold_stored(room, other, "y:2", [LOW, HIGH], [0] + [1] * 9)
 
 
@@ -201,7 +201,7 @@ def test_what_was_left_out(room):
     place = room.name()
     made = archive([file("a", b"1"), character("c", 1, 65536), hard("c2", "c")])
     source = "oci:" + layout_of(room.name(), [made]).path
-    wanted = ["what no image holds is left out: 2 entries", "  layer 0: c", "  layer 0: c2"]
+    wanted = ["entries that romfs cannot hold are left out: 2 entries", "  layer 0: c", "  layer 0: c2"]
     line = "layer 0: c: a device of minor number 65536, at most 65535 is held"
     for words, status, told in ((["--leave-out"], 0, wanted), ([], 1, [line]), (["--leave-out"], 0, wanted[:1])):
         got = run_tool("pull", "--store", place, *words, source, "x:1")

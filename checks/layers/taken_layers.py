@@ -1,4 +1,4 @@
-"""Tests of tools/layers.py: layers that must be taken, and what is told of them. A test is a function of a room."""
+"""Tests of tools/layers.py: layers that must be taken, and what is reported about them. A test is a function of a room."""
 import random
 import struct
 
@@ -112,7 +112,7 @@ def test_ends(room):
 
 
 def test_random(room):
-    """Layers of entries that often meet, some of which no image holds."""
+    """Layers of entries that often meet, some of which romfs cannot hold."""
     rng, refused = random.Random(7), 0
     for _ in range(80):
         made = [random_archive(rng) for _ in range(rng.randrange(1, 5))]

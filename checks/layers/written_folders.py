@@ -11,7 +11,7 @@ from strata_layers import layouts
 
 
 def test_folder(room):
-    """Images that are there are never written over, nor is anything that a name in the folder leads to."""
+    """Existing images are never overwritten, nor is anything that a name in the folder leads to."""
     data = archive([file("a", b"1")])
     parts = layout_of(room.name(), [data])
     folder = room.name()
@@ -21,7 +21,7 @@ def test_folder(room):
     broken = layout_of(room.name(), [data, data[:100]])
     expect(room.convert(broken.path, folder)[2] == ["layer 1: the archive is truncated"], "a broken layer")
     expect(os.listdir(folder) == ["other"], "left: %r" % os.listdir(folder))
-    expect(room.convert(parts.path, folder)[0] == 0, "a folder that is there")
+    expect(room.convert(parts.path, folder)[0] == 0, "an existing folder")
     with open(os.path.join(folder, "00.romfs"), "rb") as it:
         written = it.read()
     status, output, told = room.convert(parts.path, folder)
@@ -83,7 +83,7 @@ def test_command(room):
 
 
 def test_wrong_words(room):
-    """Wrong words are told in one line, which says what is wrong with them, with status 2."""
+    """Wrong arguments are reported in one line, which says what is wrong with them, with status 2."""
     place = layout_of(room.name(), [archive([file("a", b"1")])]).path
     verbs = "neither a directory nor a verb; the verbs are image, convert, pull, images, verify, remove, prune, config, attributes, podman"
     for line, *words in (

@@ -15,7 +15,7 @@ MOST = 2 ** 32 - 1
 
 
 def shown(room, *archives):
-    """What the trailers of the images of some archives show, by path, and the lines that were told."""
+    """What the trailers of the images of some archives show, by path, and the lines that were printed."""
     folder = room.name()
     status, _, told = room.convert(layout_of(room.name(), archives).path, folder)
     expect(status == 0, "status %d: %s" % (status, told))
@@ -86,7 +86,7 @@ def test_times(room):
     hold("told", [], told)
     got, told = shown_far(room)
     hold("far times", [2 ** 63 - 1, -2 ** 63], [got[name][3] for name in "ab"])
-    hold("told", ["times that 64 bits don't hold are kept as the nearest that they hold: 2 entries", "  layer 0: a", "  layer 0: b"],
+    hold("told", ["times beyond 64 bits are kept as the nearest that fit: 2 entries", "  layer 0: a", "  layer 0: b"],
          told)
     for text in ("1e5", "x", "1.5.5", "-", "+1", "1 ", "1.x", "9" * 19, ".5"):
         room.refuse("layer 0: the archive is broken: time '%s'" % text.replace(" ", "\\20"),
@@ -107,12 +107,12 @@ def test_owners(room):
         got, told = shown(room, archive([file("a", uid=MOST, gid=MOST - 1), file("b", uid=MOST + 1, gid=1),
                                          file("c", uid=1, gid=3 << 40), file("d", uid=2097152, gid=2097151)], form))
         hold("owners", [(MOST, MOST - 1), (65534, 1), (1, 65534), (2097152, 2097151)], [got[name][1:3] for name in "abcd"])
-        hold("told", ["owners that are no numbers from 0 to 4294967295 are kept as 65534: 2 entries", "  layer 0: b",
+        hold("told", ["owners that are not numbers from 0 to 4294967295 are kept as 65534: 2 entries", "  layer 0: b",
                       "  layer 0: c"], told)
 
 
 def test_extended_attributes(room):
-    """What no trailer holds is told with the names of the files."""
+    """What no trailer holds is reported with the names of the files."""
     many = [file("f%03d" % number, pax_headers={"LIBARCHIVE.xattr.user.y": "1"}) for number in range(250)]
     _, told = shown(room, archive([
         file("ping", mode=0o755, pax_headers={"SCHILY.xattr.security.capability": "\x01", "SCHILY.xattr.user.x": "1"}),
@@ -124,7 +124,7 @@ def test_extended_attributes(room):
 
 
 def test_hard_links(room):
-    """The names of a file have one row, whatever the entry of a link says, and in whichever order they come."""
+    """The names of a file have one row, whatever the entry of a link says, in any order."""
     got, _ = shown(room, archive([
         file("a", b"1", mode=0o600, uid=3, mtime=4), hard("b", "a", mode=0o777, uid=5, mtime=6), hard("c", "d", uid=9),
         file("d", b"2", mode=0o640, gid=2), file("a", b"new", mode=0o4711), hard("m", ".wh.m"), file(".wh.m", b"3", mode=0o440)]))
@@ -149,7 +149,7 @@ LOW = [directory("./", mode=0o751, uid=1, mtime=11), directory("etc", mode=0o700
 
 
 def test_implied_folders(room):
-    """A folder without an entry is as the layers below show it; one that they don't show, or that is taken away, is a new one."""
+    """A folder without an entry is as the layers below show it; one that they don't show, or that is removed, is a new one."""
     root, etc, deep = (0o040751, 1, 0, 11, 0), (0o040700, 2, 0, 12, 0), (0o041777, 0, 0, 13, 0)
     new = (0o040755, 0, 0, 0, 0)
 
@@ -164,7 +164,7 @@ def test_implied_folders(room):
               archive([directory("etc", mode=0o711, uid=5, mtime=6)]))
     # its own entry may come behind what is in it
     hold_over([file("etc/x"), directory("etc", mode=0o500, mtime=1)], {"etc": (0o040500, 0, 0, 1, 0)})
-    # taken away and made again: in this layer, before or behind, by a marker of what is above; in one between; and by a file
+    # removed and made again: in this layer, before or behind, by a marker of what is above; in one between; and by a file
     for entries in ([file(".wh.etc"), file("etc/deep/x")], [file("etc/deep/x"), file(".wh.etc")]):
         hold_over(entries, {"": root, "etc": new, "etc/deep": new})
     hold_over([file("etc/.wh..wh..opq"), file("etc/deep/x")], {"etc": etc, "etc/deep": new})

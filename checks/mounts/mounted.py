@@ -1,8 +1,8 @@
 """Mounts stacks with the built program and looks at them through the kernel: python3 checks mounted PROGRAM [CHECK..]
 
 What is seen is held against what went into the images, or against the plain reading of stacks. Each check runs in a
-process and a mount namespace of its own and says in a line what it saw, or what is missing here for it. Who is not root
-mounts in a user namespace. A check is a function of a room (checks/shared/mounting.py) that gives its line back, or raises Failed.
+process and a mount namespace of its own and says in a line what it saw, or what is missing here for it. Unprivileged
+users mount in a user namespace. A check is a function of a room (checks/shared/mounting.py) that gives its line back, or raises Failed.
 
 `system` looks at the system's own files, or at the tree that STRATA_TREE in the environment names, as debootstrap makes one.
 

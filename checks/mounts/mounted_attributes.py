@@ -153,7 +153,7 @@ SECRETS = archive([
 
 
 def secrets(room):
-    """Who is not root reads what is theirs or everybody's, and nothing else."""
+    """An unprivileged user reads what is theirs or everybody's, and nothing else."""
     need_root(room)
     image, = layers_of(room, SECRETS)
     mount = room.mount([image], *ALL)
@@ -264,7 +264,7 @@ def slower(*folders):
 
 
 def bytecode(room):
-    """Python takes the bytecode that stands beside modules, since their times are as they were. How long it takes is told alone."""
+    """Python takes the bytecode that stands beside modules, since their times are as they were. How long it takes is only printed."""
     root = room.place()
     for name in MODULES:
         shutil.copy(sys.modules["os"].__file__.replace("os.py", name + ".py"), root)
@@ -312,7 +312,7 @@ def repository(room):
 
 
 def owned(room):
-    """Whose files are of which no image says it: root's, or of whom -o says."""
+    """The owner of files for which no image names one: root, or the one of -o."""
     need_root(room)
     bare = room.layer([file("x", b"1")])
     image, = layers_of(room, archive([entry("y", b"2", uid=5, gid=6, mode=0o600, mtime=9)]))
@@ -331,7 +331,7 @@ def owned(room):
     done = subprocess.run([*room.words(), room.write(broken), at], stdin=subprocess.DEVNULL, stderr=subprocess.PIPE)
     hold("a broken trailer", (3, True), (done.returncode, b"bad attributes" in done.stderr))
     fails("its folder", errno.ENOENT, os.lstat, at + "/y")
-    return "root's, or of whom -o uid=, gid= say; rows stay as they are; a broken trailer is refused"
+    return "root's, or the owner of -o uid=, gid=; rows stay as they are; a broken trailer is refused"
 
 
 CHECKS = (attributes, system, secrets, overlaid, setuid, bytecode, repository, owned)

@@ -15,7 +15,7 @@ from strata_format.system import called, libc
 from strata_mount.device import DEVICE, MNT_DETACH
 
 MS_BIND = 0x1000
-# a user who is not root
+# an unprivileged user
 OTHER = 65534
 
 
@@ -78,7 +78,7 @@ def big_image(room):
 
 
 def killed(room):
-    """The server is killed: the mount says ENOTCONN and can be taken away; mount.py takes it away by itself."""
+    """The server is killed: the mount says ENOTCONN and can be unmounted; mount.py unmounts it by itself."""
     image = big_image(room)
     mount = room.mount([image])
     opened = os.open(mount.path(b"x"), os.O_RDONLY)
@@ -91,7 +91,7 @@ def killed(room):
     os.kill(server_of(process), signal.SIGKILL)
     told = process.communicate()[1]
     hold("mount.py", (128 + signal.SIGKILL, True, False), (process.returncode, b"killed by signal 9" in told, at in places()))
-    return "ENOTCONN, and then taken away: by umount, and by mount.py where it waits"
+    return "ENOTCONN, and then unmounted: by umount, and by mount.py where it waits"
 
 
 def server_of(process):
@@ -125,7 +125,7 @@ def aborted(room):
     at, process = room.start([image])
     abort(folder_of, at)
     hold("mount.py", (b"", 0, False), (process.communicate()[1], process.returncode, at in places()))
-    return "strata and mount.py end with 0, ENOTCONN until it is taken away"
+    return "strata and mount.py end with 0, ENOTCONN until it is unmounted"
 
 
 def abort(folder_of, at):
@@ -134,7 +134,7 @@ def abort(folder_of, at):
 
 
 def lazily(room):
-    """A mount that is taken away while it is read serves what is open, and then ends with 0."""
+    """A mount that is unmounted while it is read serves what is open, and then ends with 0."""
     data = random.Random(6).randbytes(5 * MIB)
     mount = room.mount([big_image(room)])
     opened, top = os.open(mount.path(b"x"), os.O_RDONLY), os.open(mount.at, os.O_RDONLY)
@@ -152,7 +152,7 @@ def lazily(room):
 
 
 def waiting(room):
-    """mount.py in the foreground ends well, however the mount is taken away."""
+    """mount.py in the foreground ends well, however it is unmounted."""
     image = big_image(room)
     for number in (signal.SIGINT, signal.SIGTERM, signal.SIGHUP, None):
         at, process = room.start([image])
@@ -219,7 +219,7 @@ def hide_device():
 def shared(room):
     """Options of the mount: only with allow_other do others get in; max_read."""
     if not room.is_root:
-        raise LeftOut("who is not root can't become another user")
+        raise LeftOut("only root can become another user")
     items = [file("x", random.Random(8).randbytes(MIB + 3)), folder("d"), file("d/y", b"y")]
     image = room.layer(items)
     told = ("mount.py: %s: without modes and owners, so with allow_other everybody can read all files; "
@@ -238,7 +238,7 @@ def shared(room):
 
 
 def as_other(room, function):
-    """Calls a function as a user who is not root; the errno that it ended with, or 0."""
+    """Calls a function as an unprivileged user; the errno that it ended with, or 0."""
     child = os.fork()
     if child == 0:
         number = 255
@@ -276,11 +276,11 @@ def python_of(room):
     for path in (sys.executable, "/usr/bin/python3"):
         if as_other(room, lambda: subprocess.run([path, "-c", ""])) == 0:
             return path
-    raise LeftOut("no python3 that a user who is not root can run")
+    raise LeftOut("no python3 that an unprivileged user can run")
 
 
 def helped(room):
-    """By fusermount3, for a user who is not root."""
+    """By fusermount3, for an unprivileged user."""
     if not shutil.which("fusermount3"):
         raise LeftOut("no fusermount3")
     open_to_all(room)
@@ -310,4 +310,4 @@ def helped(room):
     server, = children()
     hold("fusermount3 -u", 0, subprocess.run(["fusermount3", "-u", at], **who).returncode)
     hold("the server's status", 0, os.waitstatus_to_exitcode(os.waitpid(server, 0)[1]))
-    return "for a user who is not root; taken away by SIGTERM and fusermount3 -u; other users are kept out"
+    return "for an unprivileged user; unmounted by SIGTERM and fusermount3 -u; other users are kept out"

@@ -24,7 +24,7 @@ def items_of(seed):
 
 
 def part(path, offset, size):
-    """Some of a file's bytes, past what the kernel has kept of them; or the error that they are told as."""
+    """Some of a file's bytes, past what the kernel has kept of them; or the error instead."""
     opened = os.open(path, os.O_RDONLY)
     try:
         os.posix_fadvise(opened, 0, 0, os.POSIX_FADV_DONTNEED)
@@ -37,7 +37,7 @@ def part(path, offset, size):
 
 
 def read_until_told(mount, wanted, told):
-    """What one process does: it reads parts of files until it is told to end; each is of those wanted, or EIO."""
+    """What one process does: it reads parts of files until it must end; each is of those wanted, or EIO."""
     rng = random.Random(os.getpid())
     while not os.path.exists(told):
         number, offset = rng.randrange(FILES), rng.randrange(MIB // 4 // PAGE) * PAGE

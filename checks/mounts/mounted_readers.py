@@ -84,7 +84,7 @@ def readers(room):
 
 
 def busy(room):
-    """A mount that is taken away, whose connection is aborted, or whose server is killed while all readers are busy."""
+    """A mount that is unmounted, whose connection is aborted, or whose server is killed while all readers are busy."""
     image, _ = image_of(room)
     for end in (take_away, kill, cut):
         mount = room.mount([image], "-o", "readers=4")
@@ -92,7 +92,7 @@ def busy(room):
         time.sleep(0.3)
         end(room, mount)
         hold("processes that look", {0}, statuses(looking))
-    return "lazily taken away, killed and aborted: no process hangs, and strata ends"
+    return "lazily unmounted, killed and aborted: no process hangs, and strata ends"
 
 
 def take_away(room, mount):

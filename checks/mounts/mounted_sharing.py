@@ -27,7 +27,7 @@ ENDED = os.WEXITED | os.WNOHANG | os.WNOWAIT
 
 
 def own_runtime():
-    """Puts an empty folder in the place of /run, in this namespace."""
+    """Puts an empty folder over /run, in this namespace."""
     called(libc.mount(b"tmpfs", b"/run", b"tmpfs", 0, b"mode=755"))
 
 
@@ -73,7 +73,7 @@ def sharing(room):
     places_of = [share(room, [image]) for _ in range(3)]
     server, = children()
     with open("/run/strata/another", "wb"):
-        pass  # no note of strata's, which nobody takes away
+        pass  # no note of strata's, which nobody removes
     for at in places_of:
         hold_tree("shared", wanted_of([items]), shown(at))
         hold("the file system", device_of(places_of[0]), device_of(at))
@@ -137,7 +137,7 @@ def raced(room):
 
 
 def revived(room):
-    """A server that dies is told by each folder, and made anew by who asks next; who is taken away
+    """A server that dies is reported by each folder, and made anew by the next mount; one that is unmounted
     is not missed."""
     own_runtime()
     items = items_of(b"data")
@@ -206,9 +206,9 @@ def user_words(room):
 
 
 def printed_to_user(room, image):
-    """The same for a user who is not root, who may bind nothing."""
+    """The same for an unprivileged user, who may bind nothing."""
     if not room.is_root:
-        return "left out for others: who is not root can't become another user"
+        return "left out for others: only root can become another user"
     if not shutil.which("fusermount3"):
         return "left out for others: no fusermount3"
     open_to_all(room)
@@ -229,14 +229,14 @@ def printed_to_user(room, image):
     refused = subprocess.run([*words, "--share", "--print", image], **who)
     hold("a folder in which all may write", 1, refused.returncode)
     hold("what is said of it", True, "others may write" in refused.stderr)
-    return "and for a user who is not root"
+    return "and for an unprivileged user"
 
 
 def strangers(room):
     """No stranger's mount is joined, whatever it says of itself, and no stranger's folder or link
     is used for notes."""
     if not room.is_root:
-        raise LeftOut("who is not root can't become another user")
+        raise LeftOut("only root can become another user")
     own_runtime()
     image = room.layer(items_of(b"data"))
     os.mkdir("/run/strata")
@@ -286,7 +286,7 @@ def other_mount(room, image):
 
 
 def occupied(room):
-    """A second mount on one folder is told; --replace takes the first one away, and -o stack mounts
+    """A second mount on one folder is reported; --replace unmounts the first one, and -o stack mounts
     over it."""
     first, second = room.layer([file("x", b"1")]), room.layer([file("x", b"2")])
     at = room.place()

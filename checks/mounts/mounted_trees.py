@@ -278,7 +278,7 @@ def names(room):
     fails("a name of 255 bytes that is not there", errno.ENOENT, os.lstat, mount.path(b"m" * 255))
     for size in (256, 1024, 1025, 4000):
         fails("a name of %d bytes" % size, errno.ENAMETOOLONG, os.lstat, mount.path(b"n" * size))
-    hold("the limit that is told", 255, os.statvfs(mount.at).f_namemax)
+    hold("the limit that is reported", 255, os.statvfs(mount.at).f_namemax)
     mount.end()
     return "255 bytes found, or not there; 256 and more too long"
 
@@ -326,7 +326,7 @@ def read_all(path):
 
 
 def silent(room):
-    """A second walk over a whole tree asks the server for nothing that the first one was told."""
+    """A second walk over a whole tree asks the server for nothing that the first one got."""
     mount = room.mount([room.layer(wide_items()), room.layer(upper_items())])
     reads_before = reads_of(mount.server)
     count = walk(mount.at)

@@ -85,7 +85,7 @@ def main():
     parser.add_argument("--readers", metavar="N", type=int, default=1)
     parser.add_argument("--slower", metavar="N", type=int, default=30)
     parser.add_argument("--processors", metavar="N", type=int, default=2)
-    parser.add_argument("--user", action="store_true", help="by a user who is not root")
+    parser.add_argument("--user", action="store_true", help="by an unprivileged user")
     asked = parser.parse_intermixed_args()
     missing = missing_programs("mke2fs", "tar")
     if missing:

@@ -99,7 +99,7 @@ def init_out(readahead, flags, pages):
 
 
 def version_out():
-    """What a client of a later major version is told."""
+    """What a client of a later major version gets."""
     return struct.pack("<2I", 7, 31) + bytes(56)
 
 

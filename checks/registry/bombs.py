@@ -114,7 +114,7 @@ def check_most_unpacked(room):
             while read := source.read(1 << 16):
                 count += len(read)
         except packing.Refused as refused:
-            hold("the line", "unpacked it has more than %d bytes" % (3 << 20), str(refused))
+            hold("the line", "decompressed it has more than %d bytes" % (3 << 20), str(refused))
             hold("what was read", True, count <= 3 << 20)
             continue
         raise Failed("%d bytes were read" % count)
@@ -141,14 +141,14 @@ def check_shared_names(room):
     it = made.Layout(room.name())
     layers = [it.blob(made.ROMFS, image), it.blob(made.ARCHIVE, top)]
     it.index(made.tagged(it.image_of(layers, [made.digest(image), made.digest(top)]), "1"))
-    room.refused("layer 1: no sound image of romfs: a header stands in many folders", "pull", "oci:" + it.path)
+    room.refused("layer 1: not a valid romfs image: a header is in many folders", "pull", "oci:" + it.path)
 
 
 def check_odd_words(room):
     """Words of JSON that are no text, JSON that is deep, numbers that are large, files that are pipes: a line each."""
     archive = made.archive(made.entry("a"))
-    for run, line in (({"Env": ["A=\ud800"]}, "the image's configuration has no good 'Env'"),
-                      ({"Env": [], "Cmd": ["\0"]}, "the image's configuration has no good 'Cmd'")):
+    for run, line in (({"Env": ["A=\ud800"]}, "the image's configuration has no valid 'Env'"),
+                      ({"Env": [], "Cmd": ["\0"]}, "the image's configuration has no valid 'Cmd'")):
         it = made.Layout(room.name(), run)
         it.index(made.tagged(it.image([archive]), "1"))
         room.layers("pull", "oci:" + it.path, "a:1")
@@ -188,7 +188,7 @@ def check_odd_target(room):
     source, target = made.layout(room.name()), made.Layout(room.name())
     for odd in ({"annotations": ["x"]}, {"annotations": "x"}, ["x"], "x"):
         target.index(odd)
-        room.refused("%s/index.json: no good 'manifests'" % target.path, "convert", source.path, target.path + ":2")
+        room.refused("%s/index.json: no valid 'manifests'" % target.path, "convert", source.path, target.path + ":2")
 
 
 def check_stores_of_others(room):

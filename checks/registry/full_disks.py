@@ -63,7 +63,7 @@ def split_at_status(text):
 
 
 def check_convert_on_a_full_disk(room):
-    """A new layout is not begun, and one that is there stays as it was."""
+    """A new layout is not begun, and an existing one stays as it was."""
     disk, source = os.path.join(room.path, "disk"), layout(room, 4)
     words = ["convert", "--store", room.store, source]
     for packing in ([], ["--compress", "gzip"]):
@@ -71,7 +71,7 @@ def check_convert_on_a_full_disk(room):
         hold("a new layout", (before, True), (after, "./out/index.json" in at_last))
     earlier = "%s -B %s convert --store %s %s %s/out:0" % (sys.executable, LAYERS, room.store, layout(room, 1), disk)
     before, after, _ = on_disk(room, [*words, disk + "/out:1"], earlier)
-    hold("a layout that is there", (True, before), ("./out/index.json" in before, after))
+    hold("an existing layout", (True, before), ("./out/index.json" in before, after))
 
 
 def check_images_on_a_full_disk(room):

@@ -86,8 +86,8 @@ def check_unlike_configuration(room):
         source.index(made.tagged(source.image_of([source.blob(media, blob)], wrong[:1]), "1"))
         room.refused("blob sha256:..: unpacked its digest is %s, and the image's configuration says %s" % (
             made.digest(data), wrong[0]), "pull", "oci:" + source.path)
-    for media, blob, why in ((made.ROMFS, b"no romfs", "no image of romfs"), (made.ROMFS, b"", "no image of romfs"),
-                             (made.ROMFS + "+gzip", gzip.compress(data)[:-9], "the packed data are broken: ..")):
+    for media, blob, why in ((made.ROMFS, b"no romfs", "not a romfs image"), (made.ROMFS, b"", "not a romfs image"),
+                             (made.ROMFS + "+gzip", gzip.compress(data)[:-9], "the compressed data is broken: ..")):
         source.index(made.tagged(source.image_of([source.blob(media, blob)], wrong[:1]), "1"))
         room.refused("layer 0: " + why, "pull", "oci:" + source.path)
     source.index(made.tagged(source.image_of([source.blob(made.ROMFS, data)], []), "1"))
@@ -109,7 +109,7 @@ def escaping(room):
     for name in ("../out", "/../out", "a/../../out"):
         yield made.layout(room.name(), [made.archive(made.entry(name, b"x"))]).path, "no path within a layer"
     through = made.archive(made.link("d", room.path), made.entry("d/out", b"x"))
-    yield made.layout(room.name(), [through]).path, "no directory, and something stands below it"
+    yield made.layout(room.name(), [through]).path, "not a directory, but has files below it"
     for target in ("blob", "index.json", "oci-layout"):
         for line, replace in (("is a symbolic link", lambda place: os.symlink(place + "x", place)), ("no ", os.mkfifo)):
             it = made.layout(room.name())
@@ -160,7 +160,7 @@ def check_links_in_store(room):
 
 
 def check_left_over(room):
-    """What a killed run has left is taken away by the next one, and is no layer meanwhile."""
+    """What a killed run has left is removed by the next one, and is no layer meanwhile."""
     source, new = made.layout(room.name()), os.path.join(room.store, "new")
     room.layers("pull", "oci:" + source.path, "a:1")
     os.makedirs(os.path.join(new, "fetched", "blobs"))
@@ -279,7 +279,7 @@ def check_full_disk(room):
 
 
 def check_progress(room):
-    """A line of progress on a terminal, which is taken away at the end; no word of it elsewhere."""
+    """A line of progress on a terminal, which is erased at the end; no trace of it elsewhere."""
     source = made.layout(room.name(), large_layers(2))
     code = ("import sys; sys.path.insert(0, %r); from strata_format import progress;"
             "progress.FIRST_AFTER = progress.NEXT_AFTER = 0;"

@@ -18,7 +18,7 @@ OWN_MOST = 1 << 22
 
 
 class Answers(http.server.BaseHTTPRequestHandler):
-    """What a client is told, by what the server's `lie` says of a blob."""
+    """What a client gets, by what the server's `lie` says of a blob."""
 
     protocol_version = "HTTP/1.1"
 

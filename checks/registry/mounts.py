@@ -83,7 +83,7 @@ def check_one_file(room):
 
 
 def check_used_layers(room):
-    """prune leaves the layers of a mount, and takes them away when it has ended."""
+    """prune leaves the layers of a mount, and removes them when it has ended."""
     source = made.layout(room.name())
     room.layers("pull", "oci:" + source.path, "a:1")
     at = mounted(room, "a:1")
@@ -160,7 +160,7 @@ def told_of(room, line, *words):
 
 def check_order_of_a_folder(room):
     """The same of images that were made without a store, by the file beside them; also where they
-    lie under other names there, or have gone elsewhere, nothing is told falsely."""
+    lie under other names there, or have gone elsewhere, nothing false is reported."""
     out = room.name()
     room.ran(sys.executable, "-B", LAYERS, made.layout(room.name()).path, out)
     images = ["%s/%02d.romfs" % (out, number) for number in range(5)]

@@ -1,4 +1,4 @@
-"""Checks of whom a sandbox of bwrap runs as, by what its program can read."""
+"""Checks of the user that a sandbox of bwrap runs as, by what its program can read."""
 import os
 import shlex
 import shutil
@@ -77,7 +77,7 @@ def check_users_of_sandboxes(room):
 
 
 def check_users_of_other_callers(room):
-    """A user who is not root is refused another's number, or keeps his own rights under it."""
+    """An unprivileged user is refused another's number, or keeps his own rights under it."""
     needs("bwrap", "setpriv")
     if os.geteuid() != 0:
         raise LeftOut("root makes the mount that all may read")

@@ -271,7 +271,7 @@ def hold_user_by_name(room):
 
 
 def check_lost(room):
-    """What is lost is told with the names of the files; modes, owners and times are not."""
+    """What is lost is reported with the names of the files; modes, owners and times are not."""
     hold("told", "", room.run(*room.words("convert", made.layout(room.name()).path, room.name())).stderr)
     source = made.layout(room.name(), [made.archive(made.entry("ping", mode=0o755, pax_headers={
         "SCHILY.xattr.security.capability": "x"}))])

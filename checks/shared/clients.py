@@ -139,7 +139,7 @@ def received_packets(end, most=None):
             raise Hanging("nothing came for a minute, after %d packets" % len(packets))
         try:
             packet = end.recv(1 << 21)
-        except ConnectionError:  # what was not read is told first, and what had come before follows
+        except ConnectionError:  # what was not read comes first, and what came before follows
             continue
         if not packet:
             break
@@ -262,7 +262,7 @@ class Party:
         return got, runs.ended(self.child)
 
     def served(self):
-        """What each got, as far as they were served; what went wrong is told."""
+        """What each got, as far as they were served; what went wrong is printed."""
         waiting, all_got = [], []
         try:
             for at, client in enumerate(self.clients):

@@ -54,7 +54,7 @@ def fails(what, wanted, function, *words, **named):
 # --- namespaces and processes ---
 
 def enter():
-    """Goes into a mount namespace of its own; who is not root, in a user namespace of its own, in which they are."""
+    """Goes into a mount namespace of its own; unprivileged users also into a user namespace, in which they are root."""
     user, group = os.geteuid(), os.getegid()
     called(libc.unshare(CLONE_NEWNS | (CLONE_NEWUSER if user else 0)))
     if user:
@@ -211,7 +211,7 @@ class Room:
 
 
 class Mount:
-    """Images mounted in the background, of which this is told, and the process that serves them."""
+    """Images mounted in the background, and the process that serves them."""
 
     def __init__(self, room, images, words, told):
         self.at, before = room.place(), children()

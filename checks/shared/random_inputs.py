@@ -112,7 +112,7 @@ def random_stack(rng, others):
 
 
 def long_stack(rng):
-    """One to three layers over a folder of hundreds or thousands of names: some are replaced above, some taken away."""
+    """One to three layers over a folder of hundreds or thousands of names: some are replaced above, some removed."""
     width, here = rng.choice([0, 0, 0, 4, 9, 60, 240]), (b"d",)
     names = [b"%x" % at + b"n" * rng.randrange(width + 1) for at in range(rng.choice([600, 1500, 3000]))]
     layers = []

@@ -69,7 +69,7 @@ class WatchedFile:
         os.waitpid(self.server, 0)
 
     def serve(self):
-        """Answers requests until the mount is taken away."""
+        """Answers requests until the unmount."""
         waiting = []
         while True:
             if select.select([self.device], [], [], 0.002)[0]:

@@ -9,7 +9,7 @@ against the plain reading, while the memory of strata must not grow), `kills` (2
 `readers` (for so many minutes 16 processes that use a mount of four readers, each killed in what it does) and `failing` (as
 long, eight processes in a mount whose image fails, waits, and tells few or other bytes by turns).
 `--quick` takes fewer steps, and some seconds in place of minutes. Each part prints a line, or says what is missing for it
-here: mounts need /dev/fuse, `largest` 10,000 MiB of free memory for what it reads whole. The status is 0 where no
+here: mounts need /dev/fuse, `largest` 10,000 MiB of free memory for what it reads in full. The status is 0 where no
 part fails.
 """
 import argparse
@@ -173,7 +173,7 @@ def available():
 
 
 def largest(soak):
-    """An image of 2^32 - 1 bytes with headers at both ends, left in its file with 105 MiB in all; and read whole with 105
+    """An image of 2^32 - 1 bytes with headers at both ends, left in its file with 105 MiB in all; and in memory with 105
     MiB more."""
     size = write_spread(soak.folder + "/image")
     reads = [(2, size - 2, b"\0\0"), (2, size - 1, b"\0"), (2, size, b""), (2, 2 ** 31, bytes(4096)), (2, 0, bytes(4096)),

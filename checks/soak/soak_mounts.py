@@ -106,7 +106,7 @@ def own_memory(process):
 # --- one after another ---
 
 def again(program, folder, count):
-    """So many mounts one after another, each looked at and taken away."""
+    """This many mounts one after another, each looked at and unmounted."""
     return inside(program, folder, 60 + count, lambda room: mounted_again(room, count))
 
 

@@ -34,7 +34,8 @@ MOST_WORKERS = 3
 # how many times the processor time of a stream through pipes one at a socket may take; how many of the shortest sessions
 MOST_OF_PIPES, SESSIONS = 4, 20000
 HOSTILE = ("check", "stacks", "streams", "pulls")
-# `sockets` comes last: it holds its streams itself, and what a run is told to have had counts what stood when it was forked
+COMMANDS = ("check", "list", "serve")  # what is timed over stacks
+# `sockets` comes last: it holds its streams itself, and the memory reported for a run counts what its parent had at the fork
 PARTS = ("serve", "lookups", *HOSTILE, "workers", "sockets")
 # what the sizes are divided by for the gate
 QUICK = 4
@@ -96,14 +97,16 @@ def apart(function, *arguments):
 
 
 class Bench:
-    """The program, a folder for files, and whether all has been within its bounds."""
+    """The program, a folder for files, and whether all has been within its bounds; figures has what each part measured."""
 
     def __init__(self, program, folder):
-        self.program, self.folder, self.within = program, folder, True
+        self.program, self.folder, self.within, self.figures = program, folder, True, {}
 
-    def held(self, what, taken, honest, beside="honest"):
-        """Prints what a hostile input costs, beside an honest one, or beside another program."""
+    def held(self, kind, name, taken, honest, beside="honest"):
+        """Prints what a hostile input of a kind costs, beside an honest one, or beside another program."""
         ratio = taken.seconds / max(honest.seconds, 0.001)
+        self.figures.setdefault(kind, []).append((ratio, name))
+        what = "  " + kind if kind in COMMANDS else name
         longer = max(1, taken.written / max(honest.written, 1))
         self.within = self.within and ratio <= MOST * longer
         line = taken.line or "for %.1f times the output" % longer * (longer > 1.1)
@@ -120,6 +123,7 @@ class Bench:
             os.path.getsize(requests), os.path.getsize(replies)))
         print("  strata serve %.3f s, %.0f MiB; cat of both %.3f s: %.1f times" % (
             served.seconds, served.memory, copied, served.seconds / copied), flush=True)
+        self.figures["serve"] = served.seconds, served.memory, copied
         self.within = self.within and served.seconds <= MOST_OF_CAT * copied
 
     def lookups(self):
@@ -132,6 +136,7 @@ class Bench:
             times.append(taken - idle)
         print("1,000,000 LOOKUPs in 100,000 files %.3f s, 1,000,000 GETATTRs in 1,000 files %.3f s: %.1f times" % (
             *times, times[0] / times[1]), flush=True)
+        self.figures["lookups"] = times
         self.within = self.within and times[0] <= MOST_OF_GETATTR * times[1]
 
     def sockets(self):
@@ -150,6 +155,7 @@ class Bench:
                      for count in (1, SESSIONS))
         print("  %d sessions of an INIT and a DESTROY: %.1f microseconds each" % (
             SESSIONS, (many - one) / (SESSIONS - 1) * 1e6), flush=True)
+        self.figures["sockets"] = at_socket, pipes
         self.within = self.within and same and at_socket <= MOST_OF_PIPES * pipes
 
     def check(self):
@@ -158,19 +164,19 @@ class Bench:
         for name in inputs.IMAGES:
             taken = cost(self.program, "check", apart(inputs.write_image, name, self.folder))
             honest = honest or taken
-            self.held("check of " + name, taken, honest)
+            self.held("image", "check of " + name, taken, honest)
 
     def stacks(self):
         """Hostile stacks, each against an honest one of as many headers in as many layers."""
         requests = apart(inputs.write_begin, self.folder)
-        commands = (["check"], ["list"], ["serve", "--requests", requests])
+        arguments = {"check": (), "list": (), "serve": ("--requests", requests)}
         for name in inputs.STACKS:
             headers, hostile, honest = apart(inputs.write_stacks, name, self.folder)
             print("%s: %d headers in %d layers" % (name, headers, len(hostile)))
-            for command in commands:
+            for command in COMMANDS:
                 output = self.folder + "/output"
-                words_of = [[self.program, *command, *layers] for layers in (hostile, honest)]
-                self.held("  " + command[0], *costs(*words_of, output=output))
+                words_of = [[self.program, command, *arguments[command], *layers] for layers in (hostile, honest)]
+                self.held(command, name, *costs(*words_of, output=output))
             for path in {*hostile, *honest}:
                 os.remove(path)
 
@@ -180,14 +186,13 @@ class Bench:
             image, *streams = apart(inputs.write_streams, name, self.folder)
             words_of = [[self.program, "serve", "--requests", it, "--replies", os.devnull, image] for it in streams]
             honest, hostile = costs(*words_of)
-            self.held(name, hostile, honest)
+            self.held("stream", name, hostile, honest)
 
     def pulls(self):
         """Requests through a pipe, a byte a read, against cat, which reads them like that too."""
         image, packets = apart(inputs.write_packets, self.folder)
-        self.held("%d pulls of a byte" % os.path.getsize(packets), cost(self.program, "serve", image, packets=packets),
+        self.held("pulls", "%d pulls of a byte" % os.path.getsize(packets), cost(self.program, "serve", image, packets=packets),
                   cost("cat", packets=packets), "cat")
-
 
     def workers(self):
         """Streams of long replies by one worker and by four: the same bytes, and little more processor time in all."""
@@ -197,6 +202,7 @@ class Bench:
             one, four = [cost(self.program, "serve", "--workers", count, "--requests", requests, "--replies", output, image)
                          for count, output in zip("14", outputs)]
             same, ratio = filecmp.cmp(*outputs, shallow=False), four.seconds / max(one.seconds, 0.001)
+            self.figures.setdefault("workers", []).append((name, one.seconds, four.seconds))
             self.within = self.within and same and ratio <= MOST_WORKERS
             print("%-30s %8.3f s %6.0f MiB   one worker %5.3f s %6.0f MiB  %5.2f times  %s" % (
                 name + " by four", four.seconds, four.memory, one.seconds, one.memory, ratio, "same bytes" if same else "OTHER BYTES"),

@@ -2,7 +2,7 @@
 
 Measures `serve` over an empty stream, which is reading, checking and stacking the images, and tells for each size the least
 processor time of N runs (3), user and system, and the most memory at one moment, of which some 18 MiB are not told apart.
-Images are read whole, and once more one kind of them is left in its file. They lie in memory (/dev/shm where it is there).
+Images are read in full, and once more one kind of them is left in its file. They are in memory (/dev/shm if it exists).
 With --drawn it draws what it measured as a picture (SVG), both axes by powers of ten, with the slope of each line of times:
 the exponent of the size that fits its last points best. A slope of 1 is linear, and n log n has one of about 1.1 at these
 sizes. Of memory it tells the bytes a node between the last two points.
@@ -101,7 +101,7 @@ WIDTH, HEIGHT, LEFT, TOP, ACROSS, DOWN = 900, 380, 60, 40, 340, 280
 
 
 def panel(left, title, unit, lines, value, told):
-    """One panel, with its axes by powers of ten, its lines, and what is told of each."""
+    """One panel, with its axes by powers of ten, its lines, and a text for each."""
     sizes = [it.size for line in lines for it in line.points]
     values = [value(it) for line in lines for it in line.points]
     low_x, high_x = math.floor(math.log10(min(sizes))), math.ceil(math.log10(max(sizes)))
@@ -147,17 +147,12 @@ def picture(lines):
                       % (WIDTH, HEIGHT), '<rect width="100%" height="100%" fill="white"/>', *parts, "</svg>", ""])
 
 
-def main(words):
-    parser = argparse.ArgumentParser(description=__doc__.partition("\n")[0])
-    parser.add_argument("program")
-    parser.add_argument("--runs", type=int, default=3)
-    parser.add_argument("--most", type=int, default=max(NODES))
-    parser.add_argument("--drawn")
-    asked = parser.parse_args(words)
-    nodes = [size for size in NODES if size <= asked.most]
+def measure(program, times, most):
+    """Measures all kinds of images, up to so many nodes; prints each line with its slope."""
+    nodes = [size for size in NODES if size <= most]
 
     def line(name, colour, make, sizes, way="--whole"):
-        return line_of([asked.program, "serve", way], name, colour, make, sizes, asked.runs)
+        return line_of([program, "serve", way], name, colour, make, sizes, times)
 
     lines = [line("directories of 1,000 files", "#1f77b4", tree, nodes),
              line("the same, left in the file", "#9467bd", tree, nodes, "--in-files"),
@@ -166,9 +161,24 @@ def main(words):
     lines.append(stacks._replace(points=[it._replace(size=it.size * (EACH + 2)) for it in stacks.points]))
     for it in lines:
         print("%-28s %s, %s" % (it.name, slope_text(it.points), each_text(it.points)))
+    return lines
+
+
+def draw(path, lines):
+    with open(path, "w", encoding="utf-8") as file:
+        file.write(picture(lines))
+
+
+def main(words):
+    parser = argparse.ArgumentParser(description=__doc__.partition("\n")[0])
+    parser.add_argument("program")
+    parser.add_argument("--runs", type=int, default=3)
+    parser.add_argument("--most", type=int, default=max(NODES))
+    parser.add_argument("--drawn")
+    asked = parser.parse_args(words)
+    lines = measure(asked.program, asked.runs, asked.most)
     if asked.drawn:
-        with open(asked.drawn, "w", encoding="utf-8") as file:
-            file.write(picture(lines))
+        draw(asked.drawn, lines)
 
 
 if __name__ == "__main__":

@@ -12,7 +12,7 @@ fuse-overlayfs and the kernel's overlayfs on the folder itself, and bwrap withou
 that are not here are left out, by name.
 
 strata is installed into a folder of its own, so its modules are compiled. What python takes by
-itself is told, too. The tree is FOLDER, or one of N paths (14,496) with 4 KiB a file. It judges
+itself is printed, too. The tree is FOLDER, or one of N paths (14,496) with 4 KiB a file. It judges
 nothing: the status is 0 where all sandboxes print the file. It takes root.
 """
 import argparse

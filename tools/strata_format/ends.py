@@ -1,4 +1,4 @@
-"""What a program finds when it begins, whoever started it, and what it writes to whoever is there to read it."""
+"""What a program finds when it begins, and what it writes for any reader."""
 import _signal as signal  # without enum, which takes longer to load than all of this
 import os
 import sys

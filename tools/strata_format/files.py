@@ -66,7 +66,7 @@ class new_file:
             os.fsync(folder)
 
     def close(self):
-        """Closes the file, and takes it away where it got no name."""
+        """Closes the file, and removes it if it got no name."""
         self.file.close()
         try:
             os.unlink(self.passing, dir_fd=self.folder)

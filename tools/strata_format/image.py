@@ -3,7 +3,7 @@
 The data of a large file go straight to the image when they come; names, kinds, places and few small
 data are held. All else is written at the end, when it is known which header comes next in each
 directory: first directories, links and small files, close together in the order in which they are
-read, then larger files, and the largest last. So whoever looks at headers alone reads few places of
+read, then larger files, and the largest last. So a reader of headers alone reads few places of
 a cold image. A directory begins with `.` and `..`, and its members are in the order in which they
 came. What was replaced may stay in the image, but nothing names it. Behind its full size stands the
 attribute trailer, with a row for each node of which something was said.

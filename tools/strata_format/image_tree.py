@@ -1,7 +1,7 @@
 """The tree of a romfs image that is being made: what stands at which path, until all is known.
 
 A path is a tuple of names; directories that it names and that haven't come are made, executable.
-What comes at a path that is there replaces it, with all below it; but a directory over a directory
+What comes at an existing path replaces it, with all below it; but a directory over a directory
 only sets whether it is executable. What no image holds is NotHeld.
 
 An image of more than 4 GiB is made as several that lie on one another, its parts. A node and the
@@ -107,17 +107,17 @@ class Tree:
                 self.begun(below, path[:depth + 1])
                 self.set_member(node, name, below)
             if not isinstance(below, Directory):
-                raise BadEntry("%s: no directory, and something stands below it"
+                raise BadEntry("%s: not a directory, but has files below it"
                                % path_text(path[:depth + 1]))
             node = below
         self.last, self.last_path = node, path
         return node
 
     def begun(self, directory, path):
-        """Is told of each directory before it gets its place in the tree."""
+        """Called for each directory before it gets its place in the tree."""
 
     def set_member(self, above, name, it):
-        """Puts something into a directory, in the place of what had this name."""
+        """Puts something into a directory, instead of what had this name."""
         if isinstance(above.members.get(name), Directory):
             self.last, self.last_path = self.root, ()
         above.members[name] = it

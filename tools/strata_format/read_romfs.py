@@ -28,10 +28,10 @@ class ReadImage:
         self.opened, self.left = {}, self.full // 16
         name = self.name_at(16)
         if not 16 <= self.full <= size or name is None:
-            raise Refused("no image of romfs")
+            raise Refused("not a romfs image")
         self.root = 16 + len(romfs.padded_name(name))
         if not self.is_folder(self.root):
-            raise Refused("no image of romfs")
+            raise Refused("not a romfs image")
         self.rows = Rows(self.data, self.full)
 
     def name_at(self, at):
@@ -74,7 +74,7 @@ class ReadImage:
                 break
             self.left -= 1
             if self.left < 0:
-                raise Refused("no sound image of romfs: a header stands in many folders")
+                raise Refused("not a valid romfs image: a header is in many folders")
             name = self.name_at(at + 16)
             if at != self.root and name not in (None, b".", b".."):
                 found.setdefault(name, at)

@@ -57,7 +57,7 @@ def trailer_of(rows, lists):
 
 
 def write_trailer(number, full, rows, lists=()):
-    """Writes the trailer of an image of this full size, in the place of what stood behind that. Its letters come last, so that
+    """Writes the trailer of an image of this full size, instead of what followed that. Its letters come last, so that
     one that is written by half is none. The lists of extended attributes are by offset too; each of them has a row."""
     data, place = memoryview(trailer_of(rows, dict(lists))), place_of(full)
     end = place + len(data)

@@ -48,7 +48,7 @@ def common(path, other):
 
 
 def below(folders, name):
-    """The folders of this name in folders that lie on one another: down to one that takes away what lies below."""
+    """The folders of this name in folders that lie on one another: down to one that hides what is below."""
     found = []
     for image, folder in folders:
         members = image.members(folder)

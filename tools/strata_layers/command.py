@@ -100,7 +100,7 @@ def run(words):
 
 def main(words):
     ends.begin()
-    # an end by a signal takes away what was begun
+    # an end by a signal removes what was begun
     signal.signal(signal.SIGTERM, lambda *_: sys.exit(143))
     try:
         return run(words)

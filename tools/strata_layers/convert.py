@@ -63,7 +63,7 @@ class Converter:
         """Writes the blob of a layer; its digits and its size."""
         number = self.store.open_layer(layer.digits)
         if number is None:
-            raise Refused("%s: a layer has gone meanwhile" % self.store.name)
+            raise Refused("%s: a layer was removed meanwhile" % self.store.name)
         try:
             if self.packing:
                 return self.packed_blob(layer, number)
@@ -116,7 +116,7 @@ def new_name(layout, tag, word):
     new_tag = new_tag or own or "latest"
     check_tag(new_tag)
     if new_tag == own and os.path.isdir(folder) and os.path.samefile(folder, layout.folder):
-        raise Refused("%s: is what is to be converted" % shown(os.fsencode(word)))
+        raise Refused("%s: is the layout to convert" % shown(os.fsencode(word)))
     return folder, new_tag
 
 

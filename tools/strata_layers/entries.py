@@ -6,7 +6,7 @@ from strata_format import trailer
 
 FILES, HARD, SYMBOLIC = (b"0", b"\0", b"7"), b"1", b"2"
 CHARACTER, BLOCK_DEVICE, DIRECTORY, FIFO, SOCKET = b"3", b"4", b"5", b"6", b"socket"
-# the whiteouts of layers: what bears such a name takes away what is below
+# the whiteouts of layers: an entry with such a name hides what is below
 MARKER, OPAQUE = b".wh.", b".wh..wh..opq"
 # an owner that no number of 32 bits says, as Linux shows one
 NOBODY = 65534

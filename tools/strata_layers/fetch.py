@@ -1,7 +1,7 @@
 """Fetches an image from a registry by skopeo: only the layers that a store lacks.
 
 skopeo copies the image into a layout in the store's folder of new files. It doesn't fetch a blob
-that is there already; so for each layer that the store has, an empty file of its name and size
+that exists already; so for each layer that the store has, an empty file of its name and size
 stands there.
 """
 import contextlib

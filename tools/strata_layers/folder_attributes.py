@@ -58,7 +58,7 @@ class Reading:
         for name, header in members.items():
             end = self.image.end(header)
             if end is None:
-                raise Refused("no sound image of romfs")
+                raise Refused("not a valid romfs image")
             if name not in names.devices:
                 yield (*path, name), end
 
@@ -87,7 +87,7 @@ def check_behind(number, full):
         return
     for data in iter(lambda: os.pread(number, PIECE, at), b""):
         if data.strip(b"\0"):
-            raise Refused("something else than a trailer stands behind its full size")
+            raise Refused("something other than a trailer follows its full size")
         at += len(data)
 
 

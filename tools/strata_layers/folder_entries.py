@@ -112,7 +112,7 @@ class Folder:
 
     def __init__(self, number, name, own, is_upper=False, heard=unheard):
         if not os.path.isdir(OPEN_FILES):
-            raise Refused("/proc is not mounted, by which extended attributes are read")
+            raise Refused("/proc is not mounted, and extended attributes are read through it")
         self.name, self.is_upper, self.heard = os.fsencode(name), is_upper, heard
         found = os.fstat(own.fileno())
         self.own = found.st_dev, found.st_ino
@@ -216,7 +216,7 @@ class Folder:
 
     def read(self, path, place, name, found):
         if (found.st_dev, found.st_ino) == self.own:
-            raise Refused("an image can't be made within the folder that it is made of")
+            raise Refused("the image must be outside the folder that it is made from")
         there = self.attributes(place, name)
         marks, there = overlay.parted(there) if self.is_upper else ({}, there)
         if self.is_upper:

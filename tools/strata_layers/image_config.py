@@ -20,7 +20,7 @@ def texts(value, name):
     if found is None:
         return []
     if not isinstance(found, list) or not all(is_text(it) for it in found):
-        raise Refused("the image's configuration has no good '%s'" % name)
+        raise Refused("the image's configuration has no valid '%s'" % name)
     return found
 
 
@@ -29,7 +29,7 @@ def one_text(value, name):
     if found is None:
         return ""
     if not is_text(found):
-        raise Refused("the image's configuration has no good '%s'" % name)
+        raise Refused("the image's configuration has no valid '%s'" % name)
     return found
 
 

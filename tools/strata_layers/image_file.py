@@ -14,7 +14,7 @@ LETTERS, FRONT = {"gzip": b"\x1f\x8b", "zstd": b"\x28\xb5\x2f\xfd"}, 512
 
 
 class Heard:
-    """What is read from an open file, of which progress is told; its first bytes were read to see
+    """What is read from an open file, with its progress reported; its first bytes were read to see
     how it is packed."""
 
     def __init__(self, file, progress):
@@ -45,7 +45,7 @@ def check_aim(path):
     """Sees that nothing but a file would be replaced."""
     try:
         if not stat.S_ISREG(os.lstat(path).st_mode):
-            raise Refused("%s: is there, and no file" % shown(os.fsencode(path)))
+            raise Refused("%s: exists and is not a file" % shown(os.fsencode(path)))
     except FileNotFoundError:
         pass
 

@@ -58,7 +58,7 @@ class ImageFolder:
                 os.unlink(BESIDE, dir_fd=self.place)
 
     def close(self):
-        """Takes away what got no name."""
+        """Removes what got no name."""
         self.files.close()
         os.close(self.place)
         if self.is_new:
@@ -121,7 +121,7 @@ class Digests:
 
 
 def write_images(word, path, lost):
-    """Makes the images of a layout's layers; their paths. `lost` is told what they don't hold."""
+    """Makes the images of a layout's layers; their paths. `lost` notes what they don't hold."""
     layout, tag = open_layout(word)
     below = Below()
     descriptors = layout.layers(tag)

@@ -6,7 +6,7 @@
     for line in lost.lines(): ..            what the image doesn't hold
 
 Whiteouts are OCI's files `.wh.NAME` and `.wh..wh..opq`, which stand in the image as they are. What
-an image can't hold is told of up to ten entries, or, where this is asked, left out.
+an image can't hold is reported for up to ten entries, or left out on request.
 """
 from strata_format import romfs
 from strata_format.image import Image
@@ -18,7 +18,7 @@ from strata_layers.attributes import settled
 from strata_layers.entries import MARKER, said_by
 from strata_layers.folder_entries import Folder
 
-# the volume's name of an image of which no digest is known when it begins
+# the volume's name of an image whose digest is not known when it begins
 VOLUME_NAME = b"strata"
 DEVICES = {entries.CHARACTER: romfs.CHARACTER, entries.BLOCK_DEVICE: romfs.BLOCK}
 SPECIALS = {entries.FIFO: romfs.FIFO, entries.SOCKET: romfs.SOCKET}
@@ -70,8 +70,8 @@ def put_node(image, path, entry):
 
 
 class Maker:
-    """Puts entries into an image. `lost` is told what the image doesn't hold of them, each named
-    behind the words `where`; it also has whether what no image holds is left out."""
+    """Puts entries into an image. `lost` gets what the image doesn't hold of them, each named
+    behind the words `where`; it also has whether entries that romfs cannot hold are left out."""
 
     def __init__(self, image, lost, where=""):
         self.image, self.lost, self.where = image, lost, where
@@ -158,7 +158,7 @@ def image_of_archive(source, out, lost):
 
 def image_of_folder(number, out, lost, name=b".", is_upper=False, progress=None):
     """Makes the image of an open folder, which faults call `name`. `is_upper` says that it is the
-    upper one of a mount of overlayfs, whose whiteouts become those of layers. `progress` is told
+    upper one of a mount of overlayfs, whose whiteouts become those of layers. `progress` gets
     how many bytes there are, and of those that are read. Refused where the folder is changed
     meanwhile."""
     image = Image(lambda: out, VOLUME_NAME)

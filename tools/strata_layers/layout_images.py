@@ -46,7 +46,7 @@ def archives_in(config, count, where):
 
 
 def parts_in(manifest):
-    """Of each layer of a manifest which part of a layer it is, from 0 on; what is no image of romfs
+    """Of each layer of a manifest which part of a layer it is, from 0 on; what is not a romfs image
     has no parts."""
     found = notes_in(manifest, PART)
     return [int(it) - 1 if isinstance(it, str) and PARTS.fullmatch(it) else 0 for it in found]

@@ -1,8 +1,8 @@
 """Writes images into an OCI image layout, which is made where it isn't there.
 
 Blobs are written beside their place and renamed; the index, which names them, comes last. What a
-run that fails has brought is taken away, so that no half layout stays. Two runs over one layout
-wait for one another. Nothing is waited for until it is on the disk, as in a store: whoever copies a
+run that fails has brought is removed, so no half layout stays. Two runs over one layout
+wait for one another. Nothing is waited for until it is on the disk, as in a store: a program that copies a
 layout looks at the digests, and it can be written again.
 """
 import contextlib
@@ -36,7 +36,7 @@ def split_new_name(word):
 
 def check_tag(tag):
     if not has_type(tag, str) or not TAG.fullmatch(tag) or len(tag) > 128:
-        raise Refused("%s: no good tag" % shown(str(tag)))
+        raise Refused("%s: not a valid tag" % shown(str(tag)))
 
 
 def copy_file(source, out):
@@ -55,7 +55,7 @@ def take_away(remove, name, above):
 
 class LayoutWriter:
     """A layout that is written to, by one run at a time: from the beginning of a `with` to its end.
-    `brought` takes away what this run has brought; once the index names it, nothing is."""
+    `brought` removes what this run has brought; once the index names it, nothing."""
 
     def __init__(self, folder):
         self.folder, self.name = folder, shown(os.fsencode(folder))
@@ -72,8 +72,8 @@ class LayoutWriter:
         self.brought.close()
 
     def locked_root(self):
-        """The layout's own folder, for this run alone. The run that held it may have taken it
-        away."""
+        """The layout's own folder, for this run alone. The run that held it may have
+        removed it."""
         while True:
             root = self.made_folder(self.folder)
             fcntl.flock(root, fcntl.LOCK_EX)
@@ -82,7 +82,7 @@ class LayoutWriter:
             os.close(root)
 
     def begin(self):
-        """Takes away what an interrupted run has left, and sees that the folder is a layout or
+        """Removes what an interrupted run has left, and sees that the folder is a layout or
         empty."""
         for name in os.listdir(self.root):
             if name.startswith(NEW):
@@ -156,7 +156,7 @@ class LayoutWriter:
     # --- the index ---
 
     def put_index(self, descriptor, tag):
-        """Names an image in the index, in the place of what had this tag."""
+        """Names an image in the index, instead of what had this tag."""
         name = self.name + "/index.json"
         try:
             value = parsed(Layout(self.folder).small_file("index.json"), name)
@@ -167,12 +167,12 @@ class LayoutWriter:
         there = value.get("manifests", [])
         notes = [it.get("annotations") or {} for it in there if has_type(it, dict)] if has_type(there, list) else [None]
         if len(notes) != len(there) or not all(has_type(it, dict) for it in notes):
-            raise Refused("%s: no good 'manifests'" % name)
+            raise Refused("%s: no valid 'manifests'" % name)
         others = [it for it, its_notes in zip(there, notes) if its_notes.get(REFERENCE) != tag]
         named = {**descriptor, "annotations": {REFERENCE: tag}}
         with self.new_file() as new:
             write_all(new.file, json_bytes({**value, "manifests": [*others, named]}))
-            # an index never names what is taken away
+            # an index never names what is removed
             self.brought.pop_all()
             new.keep(self.root, "index.json")
 

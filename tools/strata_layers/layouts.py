@@ -40,7 +40,7 @@ REFERENCE = "org.opencontainers.image.ref.name"
 JSON_MOST, NESTED_MOST, LAYERS_MOST = 4 << 20, 16, 128
 # so deep may JSON be, and so large a file
 DEPTH_MOST, SIZE_MOST = 100, 2 ** 63 - 1
-# so many names are told
+# at most this many names are printed
 TOLD_MOST = 20
 # the machines' names as OCI says them, each with its variants, the best one first
 MACHINES = {
@@ -61,7 +61,7 @@ def field(value, name, kind, where, default=None):
     """A field of an object; it must have this type, and stand there where there is no default."""
     found = value.get(name, default)
     if not has_type(found, kind):
-        raise Refused("%s: no good '%s'" % (where, name))
+        raise Refused("%s: no valid '%s'" % (where, name))
     return found
 
 
@@ -99,7 +99,7 @@ def descriptor_of(value, where):
     own = field(value, "platform", dict, where, {})
     words = [own.get(name, "") for name in ("os", "architecture", "variant")]
     if not all(has_type(word, str) for word in words):
-        raise Refused("%s: no good 'platform'" % where)
+        raise Refused("%s: no valid 'platform'" % where)
     # what a builder attests stands beside the images, under a platform that is none
     is_note = words[0] == "unknown"
     media = field(value, "mediaType", str, where)
@@ -117,7 +117,7 @@ def why_not(fault):
 
 
 class Blob:
-    """The bytes of a blob, which are counted and hashed as they are read; `heard` is told how many."""
+    """The bytes of a blob, which are counted and hashed as they are read; `heard` gets how many."""
 
     def __init__(self, path, it, heard=unheard):
         self.descriptor, self.count, self.heard = it, 0, heard

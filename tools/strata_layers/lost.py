@@ -6,12 +6,12 @@ from strata_layers import attributes
 from strata_layers.entries import HARD, TIME_LEAST, TIME_MOST, is_owner
 
 LOST = {
-    "entries": "what no image holds is left out",
+    "entries": "entries that romfs cannot hold are left out",
     "attributes": "extended attributes are not kept",
     "overlays": "attributes of overlayfs's own are left out",
-    "owners": "owners that are no numbers from 0 to 4294967295 are kept as 65534",
-    "times": "times that 64 bits don't hold are kept as the nearest that they hold",
-    "members": "what stands in the folder alone is not in the image",
+    "owners": "owners that are not numbers from 0 to 4294967295 are kept as 65534",
+    "times": "times beyond 64 bits are kept as the nearest that fit",
+    "members": "files that only the folder has are not in the image",
 }
 NAMED_MOST = 200
 
@@ -21,7 +21,7 @@ def entries_text(count):
 
 
 def line_of(kind, counts):
-    """What is told of a kind of loss."""
+    """The line for a kind of loss."""
     of_kinds = " (%s)" % attributes.counts_text(counts) if kind == "attributes" else ""
     return "%s: %s%s" % (LOST[kind], entries_text(counts[kind]), of_kinds)
 

@@ -25,7 +25,7 @@ def check(path, marks):
     """Refuses what no layer says."""
     for mark, words in ELSEWHERE.items():
         if mark in marks:
-            raise BadEntry("%s: overlayfs shows %s there, which a layer can't say"
+            raise BadEntry("%s: overlayfs shows %s there, which a layer cannot express"
                            % (path_text(path), words))
     if path and path[-1].startswith(MARKER):
         raise BadEntry("%s: a layer takes a name that begins with .wh. as a whiteout"

@@ -22,7 +22,7 @@ UNPACKED_MOST = 1 << 34
 # as Python's own module says it
 CUT_OFF = "Compressed file ended before the end-of-stream marker was reached"
 PACKINGS = ("gzip", "zstd")
-NO_ZSTD = ("zstd wants the program zstd: install the package zstd (this python has no module for it;"
+NO_ZSTD = ("zstd needs the program zstd: install the package zstd (this python has no module for it;"
            " 3.14 and later have)")
 
 
@@ -183,15 +183,15 @@ class Unpacked:
         try:
             data = self.unpacker.piece()
         except (EOFError, zlib.error) as fault:
-            raise Refused("the packed data are broken: %s" % fault) from None
+            raise Refused("the compressed data is broken: %s" % fault) from None
         except Exception as fault:
             # the module's own error has no name where there is no module
             if type(fault).__name__ != "ZstdError":
                 raise
-            raise Refused("the packed data are broken: %s" % fault) from None
+            raise Refused("the compressed data is broken: %s" % fault) from None
         self.left -= len(data)
         if self.left < 0:
-            raise Refused("unpacked it has more than %d bytes" % self.most)
+            raise Refused("decompressed it has more than %d bytes" % self.most)
         if self.hash is not None:
             self.hash.update(data)
         return data

@@ -7,8 +7,8 @@
     STORE/new/                  what is being written; who holds the lock may clear it
     STORE/lock                  held by the one run that writes
 
-Files are written in STORE/new, and renamed when they are whole and on the disk. So whoever reads
-sees whole files alone, and needs no lock.
+Files are written in STORE/new, and renamed when they are complete and on the disk. A reader
+thus sees only complete files, and needs no lock.
 """
 import errno
 import fcntl
@@ -48,7 +48,7 @@ def are_digits(text):
 def digits_of(digest, where):
     """The digits of a digest that a file of the store says."""
     if not isinstance(digest, str) or not digest.startswith(DIGEST) or not are_digits(digest[len(DIGEST):]):
-        raise Refused("%s: no good digest of a layer" % where)
+        raise Refused("%s: not a valid digest of a layer" % where)
     return digest.partition(":")[2]
 
 
@@ -94,7 +94,7 @@ def is_locked_at_once(number):
 
 
 class Locked:
-    """A store in which no other run writes: it is waited for, and what an interrupted one has left is taken away."""
+    """A store in which no other run writes: it is waited for, and what an interrupted one has left is removed."""
 
     def __init__(self, store):
         flags = os.O_RDWR | os.O_CREAT | os.O_NOFOLLOW | os.O_CLOEXEC
@@ -147,7 +147,7 @@ class Store:
 
     def hold_own(self):
         """Sees that nobody else may write in the folder: who may could lead what is written, and
-        what is taken away, elsewhere."""
+        what is removed, elsewhere."""
         found = os.fstat(self.root)
         is_shared = found.st_mode & 0o002 or found.st_mode & 0o020 and found.st_gid != os.getegid()
         if is_shared or found.st_uid not in (0, os.geteuid()):
@@ -172,7 +172,7 @@ class Store:
             raise Refused("%s: no store of layers" % self.name)
 
     def locked(self):
-        """Waits until no other run writes; then takes away what an interrupted one has left."""
+        """Waits until no other run writes; then removes what an interrupted one has left."""
         return Locked(self)
 
     def clear(self):

@@ -81,7 +81,7 @@ def image_in(store, word):
 def image_of_json(value, where):
     layers, config = value.get("layers"), value.get("config")
     if not isinstance(layers, list) or not layers or not isinstance(config, dict):
-        raise Refused("%s: no good description of an image" % where)
+        raise Refused("%s: not a valid description of an image" % where)
     found = [layer_of_json(it, where) for it in layers]
     return StoredImage(str(value.get("source")), str(value.get("manifest")), found, config)
 
@@ -90,7 +90,7 @@ def layer_of_json(value, where):
     said = value if isinstance(value, dict) else {}
     size, part = said.get("size"), said.get("part", 0)
     if not isinstance(size, int) or not isinstance(part, int):
-        raise Refused("%s: no good description of a layer" % where)
+        raise Refused("%s: not a valid description of a layer" % where)
     parent = digits_of(said["parent"], where) if "parent" in said else None
     return StoredLayer(digits_of(said.get("digest"), where), size, part, parent)
 
@@ -135,7 +135,7 @@ def held_layer(store, layer, word, heard):
     try:
         fcntl.flock(number, fcntl.LOCK_SH)
         found = os.fstat(number)
-        # prune may have taken it away before it was locked
+        # prune may have removed it before it was locked
         if found.st_nlink == 0:
             raise Refused(missing)
         if found.st_size != layer.size or heard and file_digits(number, heard) != layer.digits:
@@ -159,13 +159,13 @@ def layers_of(store, word, is_verified=False):
 
 
 def is_file(word):
-    """Whether a word names something that is there, but no folder."""
+    """Whether a word names something that exists, but no folder."""
     return os.path.lexists(word) and not os.path.isdir(word)
 
 
 def image_meant(word, store):
     """The image that a word of a mount means, or None where it is a file. `image:NAME:TAG` always
-    is an image; else a file that is there comes before an image."""
+    is an image; else an existing file comes before an image."""
     if word.startswith("image:"):
         return word.partition(":")[2]
     if store is None or is_file(word):

@@ -163,7 +163,7 @@ class Maker:
         return layer
 
     def fitted(self, it, found, below):
-        """The images of a blob's layer over those below: those that are there, or, where folders
+        """The images of a blob's layer over those below: those that exist, or, where folders
         that it implies have other rows in the layers below, copies with these."""
         read, images = set(), []
         for layer in found.images:
@@ -201,7 +201,7 @@ class Maker:
     def opened(self, layer):
         number = self.store.open_layer(layer.digits)
         if number is None:
-            raise Refused("%s: a layer has gone meanwhile" % self.store.name)
+            raise Refused("%s: a layer was removed meanwhile" % self.store.name)
         return number
 
     def layers(self, layout, image):
@@ -236,7 +236,7 @@ def with_parents(layers, said):
 def layers_said(value, where):
     """The images that a record says."""
     if not isinstance(value, list) or not value:
-        raise Refused("%s: no good images of a layer" % where)
+        raise Refused("%s: not valid images of a layer" % where)
     return [layer_of_json(it, where) for it in value]
 
 
@@ -250,7 +250,7 @@ def counts_said(value, where):
 def paths_said(value, where):
     """The paths of folders that a record says."""
     if not isinstance(value, list) or not all(isinstance(it, str) for it in value):
-        raise Refused("%s: no good paths of folders" % where)
+        raise Refused("%s: not valid paths of folders" % where)
     return [tuple(it.encode("latin-1", "replace").split(b"/")) if it else () for it in value]
 
 
@@ -266,11 +266,11 @@ def write_unpacked(blob, it, file):
     try:
         for data in iter(lambda: source.read(PIECE), b""):
             if size == 0 and not data.startswith(romfs.MAGIC):
-                raise Refused("no image of romfs")
+                raise Refused("not a romfs image")
             size += len(data)
             write_all(file, data)
     finally:
         source.close()
     if size == 0:
-        raise Refused("no image of romfs")
+        raise Refused("not a romfs image")
     return source.digest().partition(":")[2] if is_hashed else it.digits

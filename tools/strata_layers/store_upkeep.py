@@ -81,7 +81,7 @@ def wrong_layer(store, digits, heard):
 
 
 def prune(store):
-    """Takes away layers that no image names or that are set aside, and no mount uses: how many, their bytes, and how many
+    """Removes layers that no image names or that are set aside, and no mount uses: how many, their bytes, and how many
     a mount uses. The store must be locked. Refused where an image can't be read, since what it
     needs is not known then."""
     found, faults = found_images(store)
@@ -111,7 +111,7 @@ def taken_away(store, name):
 
 
 def forget(store):
-    """Takes away the records of layers that are gone."""
+    """Removes the records of layers that are gone."""
     there = {"sha256:" + it for it in store.layers()}
     for name in os.listdir(store.records):
         value = store.small_json(store.records, name)

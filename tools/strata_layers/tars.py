@@ -184,7 +184,7 @@ class Tar:
         block = self.taken(BLOCK)
         if block == bytes(BLOCK):
             if self.taken(BLOCK).strip(b"\0"):
-                raise Refused("the archive is broken: a header behind its end")
+                raise Refused("the archive is broken: a header after its end")
             return None
         if not block:
             return None

@@ -7,11 +7,11 @@ An IMAGE is a file, or else the name of a container image in the store of strata
 It mounts an open /dev/fuse on DIR, by mount(2) where it may and else by fusermount3, and starts
 `strata serve --device` with it as standard input and output: no byte of a request or reply comes by
 here, but with --debug or --stats. The mount is ro, nosuid, nodev and default_permissions; the words
-of -o come after these. It waits until the mount is taken away (umount DIR, fusermount3 -u DIR), or
+of -o come after these. It waits for the unmount (umount DIR, fusermount3 -u DIR), or
 returns once the mount answers (--background). SIGINT and SIGTERM take the mount away, and so does
 strata's end.
 
-Status: 0 where the mount was taken away, 1 where nothing can be mounted, 2 for the words, 130 where
+Status: 0 after an unmount, 1 if nothing can be mounted, 2 for wrong arguments, 130 if
 --background was interrupted before the mount answered; else strata's own, with its line.
 """
 import _signal as signal
@@ -116,7 +116,7 @@ def source_of(names):
 
 
 def main(words, name):
-    # until it mounts there is nothing to take away
+    # until it mounts there is nothing to unmount
     signal.signal(signal.SIGINT, signal.SIG_DFL)
     ends.begin()
     try:

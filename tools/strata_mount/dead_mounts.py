@@ -1,4 +1,4 @@
-"""What is mounted at a folder; mounts whose server has ended, and how they are taken away."""
+"""What is mounted at a folder; mounts whose server has ended, and how they are unmounted."""
 import errno
 import os
 
@@ -28,14 +28,14 @@ def is_dead(folder):
 
 
 def away(place):
-    """What is said of how a mount is taken away."""
+    """How a mount is unmounted, as text."""
     import shlex
     command = ["umount"] if os.geteuid() == 0 else ["fusermount3", "-u"]
     return "`%s` unmounts it" % " ".join([*command, shlex.quote(place)])
 
 
 def is_mount(folder):
-    """Whether something is mounted at a folder that is there."""
+    """Whether something is mounted at an existing folder."""
     return os.lstat(folder).st_dev != os.lstat(os.path.dirname(folder)).st_dev
 
 
@@ -59,7 +59,7 @@ def told(folder, may_replace):
 
 
 def replace(folder, take_away):
-    """Takes away the dead mounts of strata at a folder; whether none is left."""
+    """Unmounts the dead mounts of strata at a folder; whether none is left."""
     for _ in range(sum(it.place == folder for it in mounts())):
         if not is_dead(folder):
             return True

@@ -1,4 +1,4 @@
-"""The kernel's device of FUSE: opened and mounted on a folder, and taken away."""
+"""The kernel's device of FUSE: opened, mounted on a folder, and unmounted."""
 import errno
 import os
 import sys

@@ -177,7 +177,7 @@ def broken(path, rule):
 
 
 def kind_of(path, front, size):
-    """What a file is that is no image of romfs, and what to do; nothing where that isn't known."""
+    """What a file is that is not a romfs image, and what to do; nothing where that isn't known."""
     name = shlex.quote(path if not path.startswith("-") else "./" + path) if path.isprintable() else "FILE"
     if size == 0:
         return None if image_files.read_once(path) else "the file is empty"

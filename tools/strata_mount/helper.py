@@ -128,7 +128,7 @@ def mounted(plan):
 
 
 def main(words, name="mount.strata"):
-    # until it mounts there is nothing to take away
+    # until it mounts there is nothing to unmount
     signal.signal(signal.SIGINT, lambda *_: os._exit(INTERRUPTED))
     ends.begin()
     os.environ.clear()

@@ -15,9 +15,9 @@ def read_by(process):
 
 
 def watch(told, bell, server, images):
-    """Tells how far a server is until it is told whether the mount answers, and the bell rings. Of
-    images that are read whole it is known how many bytes there are; else, with None, how many were
-    read is all that is told."""
+    """Tells how far a server is until it learns whether the mount answers, and the bell rings. Of
+    images that are read in full it is known how many bytes there are; else, with None, how many were
+    read is all that is shown."""
     total = sum(map(size_of, images)) if images else None
     with Progress("images", total) as progress:
         while not told:

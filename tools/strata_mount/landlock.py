@@ -1,7 +1,7 @@
 """Which files a server can open at all: its images, and what a program starts with.
 
 It is Landlock's (linux/landlock.h, Linux 5.13 and later): a process that holds itself to such
-rules, and what it becomes, opens nothing else, whoever its user is. A kernel without it holds
+rules, and what it becomes, opens nothing else, under any user. A kernel without it holds
 nobody to anything.
 """
 import os

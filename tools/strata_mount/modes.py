@@ -1,4 +1,4 @@
-"""Whether images keep modes and owners, which whoever lets others into a mount wants to know."""
+"""Whether images keep modes and owners, which matters to users of allow_other."""
 import os
 
 from strata_format import image_files, romfs, trailer

@@ -40,7 +40,7 @@ def has_lost_server(folder):
 
 def hold_folder(plan):
     """Looks whether a folder is there, and whether a mount of strata stands there. With --replace a
-    dead one is taken away, and one that lives later, when all else is known to be right."""
+    dead one is unmounted, and one that lives later, when all else is known to be right."""
     is_dead, folder = has_lost_server(plan.folder), os.path.realpath(plan.folder)
     if is_dead:
         if not plan.replace or not dead_mounts.replace(folder, take_away):
@@ -60,11 +60,11 @@ def clear(plan):
         take_away(plan.folder)
         found = mount_at(plan.folder)
         if found is not None and found.number == before:
-            raise OSError(0, "the mount that stands here could not be taken away", plan.folder)
+            raise OSError(0, "the mount here could not be unmounted", plan.folder)
 
 
 def find_images(plan):
-    """Puts the layers of images of the store in the place of their names, and says where one lies
+    """Puts the layers of the store's images instead of their names, and says where one lies
     on another than it was made for."""
     parents = {}
     if plan.store is not None or plan.verify or not all(map(os.path.lexists, plan.images)):
@@ -83,7 +83,7 @@ def hold_names(plan):
         try:
             os.fsencode(os.path.abspath(image)).decode("utf-8")
         except UnicodeDecodeError:
-            why = "no name in UTF-8, and strata takes no other; a link with another name will do"
+            why = "the name is not UTF-8, which strata needs; a link with another name will do"
             raise OSError(0, why, image) from None
 
 
@@ -152,8 +152,8 @@ def hold_images(plan):
         images, needed = plan.images, [plan.program, *packages(), *sorted(libraries()), *OPENED]
     for image in images:
         if lies_in(image, plan.folder):
-            raise OSError(0, "this image lies in the folder that it would be mounted on", image)
+            raise OSError(0, "this image is in the directory that it would be mounted on", image)
     for path in needed:
         if lies_in(path, plan.folder):
-            why = "strata needs this file, which lies in the folder that it would mount on"
+            why = "strata needs this file, which is in the directory that it would mount on"
             raise OSError(0, why, path)

@@ -3,7 +3,7 @@ than a mount takes."""
 import _signal as signal
 import os
 
-# what no program can be started with is told as an errno in so many bytes
+# why a program cannot be started comes as an errno in this many bytes
 ERRNO_SIZE = 4
 
 

@@ -4,7 +4,7 @@
 
 Standard input is the open /dev/fuse. The program is started with one end of a socket of packets as its standard input and
 output: a read gives it one whole request, a write takes one whole reply, as at /dev/fuse. Each request and each reply is
-told on standard error (--debug), and counted in the file that is open as NUMBER (--stats), which is written at the
+printed on standard error (--debug), and counted in the file that is open as NUMBER (--stats), which is written at the
 beginning, at SIGUSR1 and at the end. The program's own lines go to the file that is open as NUMBER (--errors). The status
 is the program's.
 """
@@ -62,7 +62,7 @@ class Count:
 
 
 class Book:
-    """What was asked and not answered yet, and what is told of it."""
+    """What was asked and not answered yet, and what is printed about it."""
 
     def __init__(self, is_told, file):
         self.is_told, self.file = is_told, file

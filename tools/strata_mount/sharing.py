@@ -100,7 +100,7 @@ class Note:
             except OSError:
                 os.close(self.file)
                 raise
-            # who swept may have taken it away before it was locked
+            # a sweep may have removed it before it was locked
             if os.fstat(self.file).st_nlink:
                 break
             os.close(self.file)
@@ -123,7 +123,7 @@ class Note:
 
 
 def sweep(folder):
-    """Takes away notes of mounts that are all gone, with the folders that were printed for them."""
+    """Removes notes of mounts that are all gone, with the folders that were printed for them."""
     for name in filter(is_name, os.listdir(folder)):
         try:
             note = Note(folder, name, is_waited_for=False)
@@ -135,7 +135,7 @@ def sweep(folder):
 
 
 def is_removed(folder, name):
-    """Whether a folder below an open one is gone, if it had to be taken away or not."""
+    """Whether a folder below an open one is gone, if it had to be removed or not."""
     try:
         os.rmdir(name, dir_fd=folder)
         return True
@@ -178,7 +178,7 @@ def is_joined(plan, found):
 
 def printed_folder(folder, place, name):
     """The folder that --print tells of a stack, which is made where it isn't there; a dead mount is
-    taken away."""
+    unmounted."""
     try:
         os.mkdir(name + PRINTED, 0o700, dir_fd=folder)
     except FileExistsError:
@@ -195,7 +195,7 @@ def hold_unshared(plan):
     if plan.is_printed:
         for image in plan.images:
             if not stat.S_ISREG(os.stat(image).st_mode):
-                raise OSError(0, "is no file, and cannot be shared", image)
+                raise OSError(0, "is not a file and cannot be shared", image)
 
 
 def attempt(plan):

@@ -39,7 +39,7 @@ class Content:
         self.folder = folder
 
     def find(self, digest):
-        """The path of a blob that is there whole, and its descriptor; None where it isn't."""
+        """The path of a complete blob, and its descriptor; None if there is none."""
         if not is_digest(digest):
             return None
         digits = DIGEST.fullmatch(digest)[1]

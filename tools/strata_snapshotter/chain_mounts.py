@@ -1,7 +1,7 @@
 """The mounts of strata: one for each chain of layers, shared by all that stand on it.
 
 Each is served by a process of its own, which goes on when this one ends. A mount whose server has
-ended is taken away and made anew when it is asked for again.
+ended is unmounted and made anew when it is needed again.
 """
 import collections
 import contextlib
@@ -49,7 +49,7 @@ def is_served(place):
 
 
 def clear(place):
-    """Takes away the mounts that stand at a place. Their servers are not asked: one may hang."""
+    """Unmounts the mounts that stand at a place. Their servers are not asked: one may hang."""
     for _ in range(sum(it.place == place for it in mounts())):
         take_away(place)
 
@@ -65,7 +65,7 @@ class ChainMounts:
 
     @contextlib.contextmanager
     def holding(self, layers):
-        """Keeps the mounts of layers from being taken away as unused."""
+        """Keeps the mounts of layers from being removed as unused."""
         with self.lock:
             self.held.update(layers)
         try:
@@ -89,7 +89,7 @@ class ChainMounts:
         return place
 
     def release(self, used):
-        """Takes away the mounts of all layers but those that are used or held. A server whose mount
+        """Unmounts the mounts of all layers but those that are used or held. A server whose mount
         is still part of a container's root goes on until that is gone, too."""
         with self.lock:
             self.servers = [it for it in self.servers if it.poll() is None]

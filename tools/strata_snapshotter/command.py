@@ -31,11 +31,11 @@ def parser():
     found.add_argument("--socket", metavar="PATH", default=SOCKET,
                        help="where containerd reaches it, unless systemd gives one (%(default)s)")
     found.add_argument("--store", metavar="DIR", default=STORE,
-                       help="the store of strata-layers, whose layers stand ready (%(default)s)")
+                       help="the store of strata-layers, whose layers are used as they are (%(default)s)")
     found.add_argument("--content", metavar="DIR", default=CONTENT,
                        help="containerd's content store, for layers that are fetched (%(default)s)")
     found.add_argument("--strata", metavar="PROGRAM", dest="program", default=None,
-                       help="another program than strata's own")
+                       help="start PROGRAM instead of the installed strata")
     found.add_argument("--debug", action="store_true", help="log each call with its time")
     found.add_argument("--version", action="store_true", help="print the version")
     return found

@@ -178,7 +178,7 @@ class ImageMaker:
         """Commits an image that is checked. The lock must be held."""
         self.snapshots.committable(name, snapshot.name)
         if any(it.form != Form.IMAGE for it in self.chain_of(snapshot.id)[1:]):
-            raise InvalidArgument("snapshot %s: an image can't stand on a folder" % name)
+            raise InvalidArgument("snapshot %s: an image cannot lie on a folder" % name)
         with self.state.transaction():
             self.state.commit(snapshot, name, labels, Form.IMAGE)
             self.places.keep_image(path, snapshot.id)

@@ -123,7 +123,7 @@ class Places:
 
     def set_aside(self, path):
         """Takes a folder away at once; its new path, where it waits to be removed, or None where
-        there is none or it can't be taken away, which is logged."""
+        there is none or it can't be removed, which is logged."""
         aside = self.at("trash", secrets.token_hex(8))
         try:
             os.rename(path, aside)

@@ -275,7 +275,7 @@ class Snapshots:
         with self.lock:
             snapshot = self.found(name)
             if self.state.has_children(snapshot):
-                raise FailedPrecondition("snapshot %s: others stand on it" % name)
+                raise FailedPrecondition("snapshot %s: has children" % name)
             with self.state.transaction():
                 self.state.delete(snapshot)
             aside = None
@@ -287,8 +287,8 @@ class Snapshots:
     # --- what nothing stands on ---
 
     def tidy(self):
-        """Takes away the mounts that nothing stands on, and removes the folders of images. What
-        can't be taken away now is logged, and found at the next start: what was asked for is
+        """Unmounts the mounts that nothing stands on, and removes the folders of images. What
+        can't be removed now is logged, and found at the next start: what was asked for is
         done."""
         try:
             with self.lock:

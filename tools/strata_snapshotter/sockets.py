@@ -25,7 +25,7 @@ def given():
     if not is_ours or count == "0":
         return None
     if count != "1":
-        raise Refused("systemd gives %s sockets, and one is wanted" % shown(count))
+        raise Refused("systemd passes %s sockets instead of one" % shown(count))
     os.set_inheritable(FIRST, False)
     return socket.socket(fileno=FIRST)
 
@@ -47,7 +47,7 @@ def clear(path):
         raise Refused("%s: a socket's path has at most %d bytes" % (shown(path), PATH_MOST))
     with contextlib.suppress(FileNotFoundError):
         if not stat.S_ISSOCK(os.lstat(path).st_mode):
-            raise Refused("%s: is there, and no socket" % shown(path))
+            raise Refused("%s: exists and is not a socket" % shown(path))
         with socket.socket(socket.AF_UNIX) as asking:
             if asking.connect_ex(path) == 0:
                 raise Refused("%s: a service answers there" % shown(path))

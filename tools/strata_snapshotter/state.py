@@ -88,7 +88,7 @@ class State:
         if version == 0:
             self.base.executescript("BEGIN;" + SCHEMA + "COMMIT;")
         elif version != VERSION:
-            raise sqlite3.DatabaseError("of version %d, and %d is wanted" % (version, VERSION))
+            raise sqlite3.DatabaseError("has version %d instead of %d" % (version, VERSION))
 
     def close(self):
         self.base.close()

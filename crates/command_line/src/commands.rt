@@ -1,7 +1,7 @@
-//! The commands of the program, their options and words, as `clap` takes them.
+//! The commands of the program with their options and arguments, as `clap` takes them.
 //!
-//! What adds a command to the program takes it with what its making came to, and gives it back so:
-//! memory that was refused on the way is told once, at the end.
+//! Functions that add a command take and return the program as a `Result`, so refused memory is
+//! handled once, at the end.
 
 ghost use Rattle.std.specs.Prelude.{◌≡◌, false, map, true};
 ghost use Rattle.clap.specs.Simple.{App, with_subcommand};
@@ -13,7 +13,7 @@ use crate::version::VERSION;
 use clap::{Arg, ArgAction, Command};
 use std::alloc::{AllocError, Global};
 
-/// An argument of a command, an option or the words at its end, with what the help says of it.
+/// An option, or the arguments at the end of a command, with its text in the help.
 #[derive(Clone, Copy)]
 pub(crate) struct Argument {
     pub name: &'static str,
@@ -21,116 +21,116 @@ pub(crate) struct Argument {
     pub help: &'static str,
 }
 
-/// How an argument is given, with what the help calls its value.
+/// How an argument is given, with the name of its value in the help.
 #[derive(Clone, Copy)]
 pub(crate) enum Form {
     /// An option without a value.
     Flag,
     /// An option with one value.
     Value(&'static str),
-    /// An option with one value, which is not left out.
+    /// A required option with one value.
     WantedValue(&'static str),
-    /// One word or more.
+    /// One argument or more.
     Words(&'static str),
 }
 
-/// Where mounting is told of.
+/// The page about mounting.
 pub(crate) const MOUNTING: &str = "To mount, see strata-mount(1).";
 
 const WORKERS: Argument = Argument {
     name: "workers",
     form: Form::Value("N"),
-    help: "At most N workers, from 1 to 64 [default: 4]",
+    help: "Use at most N threads for long replies, 1 to 64 [default: 4]",
 };
 
 const BATCH: Argument = Argument {
     name: "batch",
     form: Form::Value("N"),
-    help: "At most N requests a batch, from 1 to 256 [default: 16]",
+    help: "Take at most N requests into a batch, 1 to 256 [default: 16]",
 };
 
 const REQUESTS: Argument = Argument {
     name: "requests",
     form: Form::Value("FILE"),
-    help: "Where requests come from, in place of standard input",
+    help: "Read requests from FILE instead of standard input",
 };
 
 const REPLIES: Argument = Argument {
     name: "replies",
     form: Form::Value("FILE"),
-    help: "Where replies go, in place of standard output",
+    help: "Write replies to FILE instead of standard output",
 };
 
 const BALANCES: Argument = Argument {
     name: "balances",
     form: Form::Value("FILE"),
-    help: "Where the nodes' balances of look-ups go",
+    help: "Write the lookups that the client still holds to FILE at the end",
 };
 
 const DEVICE: Argument = Argument {
     name: "device",
     form: Form::Flag,
-    help: "Standard input and output are one open /dev/fuse",
+    help: "Serve an open /dev/fuse, which is standard input and output",
 };
 
 const READERS: Argument = Argument {
     name: "readers",
     form: Form::Value("N"),
-    help: "How many readers serve the device, from 1 to 64 [default: 1]",
+    help: "Read the device with N threads, 1 to 64 [default: 1]",
 };
 
 const LISTEN: Argument = Argument {
     name: "listen",
     form: Form::WantedValue("PATH"),
-    help: "Where the socket is made",
+    help: "Create the socket at PATH",
 };
 
 const SESSIONS: Argument = Argument {
     name: "sessions",
     form: Form::Value("N"),
-    help: "How many sessions are served, one after another, from 1 to 65535 [default: 1]",
+    help: "Serve N sessions, one after another, 1 to 65535 [default: 1]",
 };
 
 const LASTING: Argument = Argument {
     name: "lasting",
     form: Form::Flag,
-    help: "Tells the client that nothing changes, so that it asks for each thing once",
+    help: "Tell the client that the tree never changes, so that it caches everything",
 };
 
 const STRICT: Argument = Argument {
     name: "strict",
     form: Form::Flag,
-    help: "Holds images to the strict profile",
+    help: "Verify the checksum of every header, too",
 };
 
 const ATTRIBUTES: Argument = Argument {
     name: "attributes",
     form: Form::Flag,
-    help: "Reads owners, modes and times that stand behind images",
+    help: "Read and show owners, modes and times from attribute trailers",
 };
 
 const WHOLE: Argument = Argument {
     name: "whole",
     form: Form::Flag,
-    help: "Reads images whole into memory, in place of leaving them in their files",
+    help: "Read images in full into memory at startup",
 };
 
 const IN_FILES: Argument = Argument {
     name: "in-files",
     form: Form::Flag,
-    help: "Leaves images in their files, however few bytes they have",
+    help: "Leave small images in their files, too",
 };
 
 const OWNER: Argument = Argument {
     name: "owner",
     form: Form::Value("UID:GID"),
-    help: "Whom files belong to of which no image says it [default: 0:0]",
+    help: "Set the owner of files that no trailer describes [default: 0:0]",
 };
 
 const IMAGE: Argument = Argument {
     name: "image",
     form: Form::Words("IMAGE"),
-    help: "The files of romfs images, the lowest layer first",
+    help: "Files of romfs images, lowest layer first",
 };
 
 /// The program, with its commands.
@@ -140,7 +140,7 @@ pub(crate) fn program<'a>(alloc: Global) -> Result<Command<'a>, AllocError>
     let program = Command::new(alloc, "strata")
         .no_binary_name(true)
         .bin_name("strata")?
-        .about("Serves stacked romfs images by the FUSE protocol")
+        .about("Stacks romfs images and serves the tree over FUSE")
         .after_help(MOUNTING)
         .version(VERSION)
         .subcommand_required(true);
@@ -148,19 +148,19 @@ pub(crate) fn program<'a>(alloc: Global) -> Result<Command<'a>, AllocError>
     let program = with_command(program, socket(alloc));
     let program = with_command(
         program,
-        over_images(alloc, "check", "Checks images, and prints their sizes"),
+        over_images(alloc, "check", "Check images and print their sizes"),
     );
     with_command(
         program,
         over_images(
             alloc,
             "list",
-            "Prints the paths that the stacked images show",
+            "Print the visible paths of the stacked images",
         ),
     )
 }
 
-// The program with one more command.
+// Adds a command to the program.
 fn with_command<'a>(
     program: Result<Command<'a>, AllocError>,
     command: Result<Command<'a>, AllocError>,
@@ -177,7 +177,7 @@ fn serve<'a>(alloc: Global) -> Result<Command<'a>, AllocError>
     command_with(
         alloc,
         "serve",
-        "Answers FUSE requests over the stacked images",
+        "Answer a stream of FUSE requests over the stacked images",
         &[
             WORKERS, BATCH, REQUESTS, REPLIES, BALANCES, DEVICE, READERS, LASTING, OWNER, IN_FILES,
             STRICT, ATTRIBUTES, WHOLE, IMAGE,
@@ -191,7 +191,7 @@ fn socket<'a>(alloc: Global) -> Result<Command<'a>, AllocError>
     command_with(
         alloc,
         "socket",
-        "Answers FUSE requests of one client after another at a Unix socket",
+        "Answer the clients of a Unix socket, one after another",
         &[
             WORKERS, BATCH, LISTEN, SESSIONS, LASTING, OWNER, IN_FILES, STRICT, ATTRIBUTES, WHOLE,
             IMAGE,
@@ -199,14 +199,14 @@ fn socket<'a>(alloc: Global) -> Result<Command<'a>, AllocError>
     )
 }
 
-// A command over images alone.
+// A command that takes only images.
 fn over_images<'a>(alloc: Global, name: &'a str, about: &'a str) -> Result<Command<'a>, AllocError>
     ensures { IsApp result (images_command name.entry.now) }
 {
     command_with(alloc, name, about, &[STRICT, ATTRIBUTES, WHOLE, IMAGE])
 }
 
-// The command of this name, with these arguments.
+// The command with this name and these arguments.
 fn command_with<'a>(
     alloc: Global,
     name: &'a str,

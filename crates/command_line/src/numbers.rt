@@ -1,4 +1,4 @@
-//! Numbers as words of the command line.
+//! Numbers on the command line.
 
 ghost use Rattle.std.specs.Prelude.{◌≡◌, IfSome, None};
 ghost use Rattle.std.specs.Str.Parse.{digits_value};
@@ -7,7 +7,7 @@ ghost use Rattle.command_line.specs.Owners.{IsId, IsOwner, owner_in};
 
 use node_attr::Owner;
 
-/// The number that a text of digits alone writes, if it is one from 1 to `most`.
+/// The number in a text of digits alone, if it is from 1 to `most`.
 pub(crate) fn number_to(text: &str, most: u32) -> Option<u32>
     ensures some { IfSome result (λ number.
         IsNumberTo most text.now × (number ≡ digits_value 10 text.now)) }
@@ -19,8 +19,8 @@ pub(crate) fn number_to(text: &str, most: u32) -> Option<u32>
     }
 }
 
-/// The user and the group that a text of two numbers joined by a colon writes, if it is one, and
-/// each number is below 2^32.
+/// The user and the group in a text of two numbers joined by a colon, if it is one and both are
+/// below 2^32.
 pub(crate) fn owner_in(text: &str) -> Option<Owner>
     ensures some { IfSome result (λ owner. IsOwner text.now × (owner ≡ owner_in text.now)) }
     ensures none { result ≡ None → ¬ IsOwner text.now }
@@ -31,7 +31,7 @@ pub(crate) fn owner_in(text: &str) -> Option<Owner>
     Some(Owner { uid, gid })
 }
 
-// The number that a text of digits alone writes, if it is one below 2^32.
+// The number in a text of digits alone, if it is below 2^32.
 fn id_in(text: &str) -> Option<u32>
     ensures some { IfSome result (λ id. IsId text.now × (id ≡ digits_value 10 text.now)) }
     ensures none { result ≡ None → ¬ IsId text.now }

@@ -1,4 +1,4 @@
-//! What the command line says.
+//! The command line, as read.
 
 ghost use Rattle.std.specs.Prelude.{◌≡◌};
 ghost use Rattle.command_line.specs.declared.options.LineFault.TheVariants.{Memory};
@@ -16,71 +16,70 @@ pub const MAX_READERS: u32 = 64;
 /// What the program is asked to do.
 #[derive(Clone, Copy, PartialEq, Eq)]
 pub enum Verb {
-    /// To answer requests over the images.
+    /// To answer a stream of requests over the images.
     Serve,
-    /// To answer the requests of one client after another at a socket.
+    /// To answer the clients of a socket, one after another.
     Socket,
     /// To check the images.
     Check,
-    /// To list the paths that the images show.
+    /// To list the visible paths of the stacked images.
     List,
 }
 
-/// A command line that was read. An option that the command lacks, or that was left out, is `None`,
-/// or has its default.
+/// A command line, as read. Options that the command lacks, or that were left out, are `None` or
+/// have their default.
 #[derive(Drop)]
 pub struct Line<'a> {
     pub verb: Verb,
-    /// Images are held to the strict profile too.
+    /// Images are also checked against the strict profile.
     pub strict: bool,
     /// The attribute trailers of images are read, checked and shown.
     pub attributes: bool,
-    /// Images are read whole into memory, and not left in their files.
+    /// Images are read in full into memory, not left in their files.
     pub whole: bool,
-    /// Images that are served stay in their files, however few bytes they have, if they are not
-    /// read whole.
+    /// Small images stay in their files, too, unless `whole` is set.
     pub in_files: bool,
-    /// Standard input and output are one open `/dev/fuse`. No file is named in place of one of
-    /// them, nor for the balances.
+    /// Standard input and output are one open `/dev/fuse`. No file replaces one of them or takes
+    /// the balances.
     pub device: bool,
-    /// So many readers serve an open `/dev/fuse`, from 1 to 64. The default is 1. Other streams
-    /// have one reader, whatever it says.
+    /// The number of readers of an open `/dev/fuse`, 1 to 64. The default is 1. Other streams
+    /// always have one reader.
     pub readers: u32,
-    /// The client is told that the tree never changes, so that it asks for each thing once.
+    /// The client learns that the tree never changes, and caches everything.
     pub lasting: bool,
-    /// At most so many workers, from 1 to 64. The default is 4.
+    /// The most workers, 1 to 64. The default is 4.
     pub workers: u32,
-    /// At most so many requests in a worker's batch, from 1 to 256. The default is 16.
+    /// The most requests in a worker's batch, 1 to 256. The default is 16.
     pub batch: u32,
-    /// The file that requests are read from, in place of standard input.
+    /// The file that requests are read from instead of standard input.
     pub requests: Option<&'a str>,
-    /// The file that replies are written to, in place of standard output.
+    /// The file that replies are written to instead of standard output.
     pub replies: Option<&'a str>,
-    /// The file that the nodes' balances of look-ups are written to.
+    /// The file that the lookup balances of nodes are written to.
     pub balances: Option<&'a str>,
-    /// The path that the socket is made at. The verb `Socket` has one.
+    /// The path of the socket. The verb `Socket` always has one.
     pub listen: Option<&'a str>,
-    /// So many sessions are served, one after another, from 1 to 65,535. The default is 1.
+    /// The number of sessions, served one after another, 1 to 65,535. The default is 1.
     pub sessions: u32,
-    /// Whom files belong to of which no image says it. The default is user and group 0.
+    /// The owner of files that no trailer describes. The default is user and group 0.
     pub owner: Owner,
-    /// The files of the images, one or more, the lowest layer first.
+    /// The files of the images, one or more, lowest layer first.
     pub images: Vec<&'a str>,
 }
 
 /// Why there is no `Line`.
 #[derive(Drop)]
 pub enum NoLine {
-    /// The words ask for the version of the program.
+    /// The arguments ask for the version of the program.
     Version,
-    /// The words have a fault, or memory ran out.
+    /// The arguments have a fault, or memory ran out.
     Fault(LineFault),
 }
 
-/// What is wrong with the words.
+/// What is wrong with the arguments.
 #[derive(Drop)]
 pub enum LineFault {
-    /// The words say no command of the program, give a number that is none or is out of its range,
+    /// The arguments are no command of the program, have a malformed number or one out of range,
     /// or ask for help. The text is for the user.
     Usage { text: String },
     /// Memory ran out.

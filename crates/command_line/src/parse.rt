@@ -1,6 +1,6 @@
-//! The words of the command line, read by `clap`.
+//! The arguments of the command line, read by `clap`.
 //!
-//! `clap` keeps what it makes in the global allocator, so this module takes that one alone.
+//! `clap` uses the global allocator, so this module takes no other.
 
 ghost use Rattle.std.specs.Prelude.{◌≡◌, ◌≤◌, ◌⊎◌, [], codes, is_some, map, true};
 ghost use Rattle.std.specs.Prelude.{IfOk, IfErr, option_map, unwrap_or, vec_len};
@@ -35,8 +35,7 @@ const DEFAULT_READERS: u32 = 1;
 
 const DEFAULT_SESSIONS: u32 = 1;
 
-/// The words of the command line after the program's name. All of them are text, or it is a `Usage`
-/// fault.
+/// The arguments after the program's name. If one is not UTF-8, it is a `Usage` fault.
 pub fn words<R: Env + AllocGlobal>(rt: &R) -> Result<Vec<String>, LineFault> {
     let arguments = env::args(rt).map_err(|error| not_text(rt.alloc(), &error))?;
     let mut words = Vec::new(rt.alloc());
@@ -46,14 +45,14 @@ pub fn words<R: Env + AllocGlobal>(rt: &R) -> Result<Vec<String>, LineFault> {
     Ok(words)
 }
 
-/// Reads the words after the program's name: the line has their verb, the flag, the first value of
-/// each option or else its default, and all images in order. A number is decimal, in digits alone,
-/// from 1 to 64 (`--workers`, `--readers`), 256 (`--batch`) or 65,535 (`--sessions`), and an owner
-/// two numbers below 2^32 joined by a colon. Of the verb `socket` it has the path of the socket.
+/// Reads the arguments after the program's name: the line has their verb, the flags, the first
+/// value of each option or its default, and all images in order. A number is decimal, in digits
+/// alone, from 1 to 64 (`--workers`, `--readers`), 256 (`--batch`) or 65,535 (`--sessions`), and an
+/// owner is two numbers below 2^32 joined by a colon. For `socket` it has the path of the socket.
 ///
-/// Words that ask for the version have no line, and are `Version`. It is `Usage` only where the
-/// words are no command of the program, as where they ask for help, where they give another number,
-/// or where they name a file beside the device; `Memory` only where memory was refused.
+/// Arguments that ask for the version give `Version`. `Usage` means that the arguments are no
+/// command of the program (a request for help is none), have another number, or name a file beside
+/// the device; `Memory` means that memory was refused.
 pub fn line<'a, S: AsStr>(alloc: Global, words: &'a [S]) -> Result<Line<'a>, NoLine>
     ensures ok { IfOk result (λ line. IsLineOf (map S.text words.now) line) }
     ensures limits { IfOk result (λ line. IsInLimits line) }
@@ -69,7 +68,7 @@ pub fn line<'a, S: AsStr>(alloc: Global, words: &'a [S]) -> Result<Line<'a>, NoL
     }
 }
 
-// What `clap` makes of the words.
+// The result of `clap` for the arguments.
 fn matches_of<'a, S: AsStr>(alloc: Global, words: &'a [S]) -> Result<ArgMatches<'a>, NoLine>
     ensures taken { IfOk result (λ _. IsTaken (map S.text words.now)) }
     ensures command { IfOk result (λ matches.
@@ -82,7 +81,7 @@ fn matches_of<'a, S: AsStr>(alloc: Global, words: &'a [S]) -> Result<ArgMatches<
     }
 }
 
-// The verb of a command's name.
+// The verb with a command's name.
 fn verb_of(name: &str) -> Verb
     requires { (name.now ≡ codes "serve") ⊎ (name.now ≡ codes "socket")
         ⊎ (name.now ≡ codes "check") ⊎ (name.now ≡ codes "list") }
@@ -97,7 +96,7 @@ fn verb_of(name: &str) -> Verb
     }
 }
 
-// The line of a command that was found.
+// The line for a command that was found.
 fn line_of<'a>(alloc: Global, verb: Verb, found: &ArgMatches<'a>) -> Result<Line<'a>, LineFault>
     requires filled { IsFilled (rows_in found.now) }
     requires socket { GivesSocket verb (rows_in found.now) }
@@ -139,14 +138,14 @@ fn flag(found: &ArgMatches<'_>, name: &str) -> bool
     found.get_flag(name)
 }
 
-// The value of an option, where it is given.
+// The value of an option, if it is given.
 fn value<'a>(found: &ArgMatches<'a>, name: &str) -> Option<&'a str>
     ensures { option_map (λ text. text.now) result ≡ first_of name.now (rows_in found.now) }
 {
     found.get_str(name)
 }
 
-// The images, of which there is one at least.
+// The images, at least one.
 fn images<'a>(alloc: Global, found: &ArgMatches<'a>) -> Result<Vec<&'a str>, AllocError>
     requires { IsFilled (rows_in found.now) }
     ensures are { IfOk result (λ images.
@@ -174,7 +173,7 @@ fn named_beside_device(line: &Line<'_>) -> Option<&'static str>
     }
 }
 
-// The number that is given for an option, from 1 to `most`, or `default` where it is left out.
+// The number given for an option, from 1 to `most`, or `default` if it is left out.
 fn number(
     alloc: Global,
     found: &ArgMatches<'_>,
@@ -199,7 +198,7 @@ fn number(
     }
 }
 
-// The owner that is given, or user and group 0 where none is.
+// The owner given, or else user and group 0.
 fn owner(alloc: Global, found: &ArgMatches<'_>) -> Result<Owner, LineFault>
     ensures ok { IfOk result (λ owner.
         IsOwnerOf (first_of (codes "owner") (rows_in found.now)) owner) }
@@ -215,7 +214,7 @@ fn owner(alloc: Global, found: &ArgMatches<'_>) -> Result<Owner, LineFault>
     }
 }
 
-// What `clap` answers in place of matches.
+// The fault for an error of `clap`, or a request for the version.
 fn refusal<S: AsStr>(alloc: Global, words: &[S], error: &Error) -> NoLine
     ensures { TellsKind (kind_of error.now) result }
 {
@@ -230,7 +229,7 @@ fn refusal<S: AsStr>(alloc: Global, words: &[S], error: &Error) -> NoLine
     }
 }
 
-// Whether the first word is `mount`, which is no command.
+// Whether the first argument is `mount`, which is no command.
 fn asks_to_mount<S: AsStr>(words: &[S]) -> bool {
     match words.first() {
         Some(word) => word.as_str() == "mount",
@@ -238,7 +237,7 @@ fn asks_to_mount<S: AsStr>(words: &[S]) -> bool {
     }
 }
 
-// What `mount` is answered, as `clap` words it, with where mounting is told of.
+// The fault for `mount`, in the form of `clap`, with the page about mounting.
 fn no_mount(alloc: Global) -> LineFault {
     let text = format!(in alloc; "error: unrecognized subcommand 'mount'\n\n{MOUNTING}");
     match text {
@@ -247,7 +246,7 @@ fn no_mount(alloc: Global) -> LineFault {
     }
 }
 
-// What another value of an option than a number from 1 to `most` is answered, as `clap` words it.
+// The fault for a value that is not a number from 1 to `most`, in the form of `clap`.
 fn misnumbered(alloc: Global, name: &str, text: &str, most: u32) -> Result<LineFault, AllocError> {
     let text = format!(in alloc;
         "error: invalid value '{text}' for '--{name} <N>': not a number from 1 to {most}\n\n\
@@ -256,7 +255,7 @@ fn misnumbered(alloc: Global, name: &str, text: &str, most: u32) -> Result<LineF
     Ok(LineFault::Usage { text })
 }
 
-// What another text than two numbers joined by a colon is answered, as `clap` words it.
+// The fault for a text that is not two numbers joined by a colon, in the form of `clap`.
 fn no_owner(alloc: Global, text: &str) -> Result<LineFault, AllocError> {
     let text = format!(in alloc;
         "error: invalid value '{text}' for '--owner <UID:GID>': not two numbers from 0 to \
@@ -265,7 +264,7 @@ fn no_owner(alloc: Global, text: &str) -> Result<LineFault, AllocError> {
     Ok(LineFault::Usage { text })
 }
 
-// What the device beside the file of another option is answered, as `clap` words it.
+// The fault for the device beside the file of another option, in the form of `clap`.
 fn crossed(alloc: Global, name: &str) -> Result<LineFault, AllocError> {
     let text = format!(in alloc;
         "error: the argument '--device' cannot be used with '--{name} <FILE>'\n\n\
@@ -278,7 +277,7 @@ fn not_text(alloc: Global, error: &io::Error) -> LineFault {
     if error.kind() == io::ErrorKind::OutOfMemory {
         LineFault::Memory
     } else {
-        usage(alloc, "error: a word of the command line is not text")
+        usage(alloc, "error: a command line argument is not UTF-8")
     }
 }
 

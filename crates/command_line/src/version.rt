@@ -1,8 +1,7 @@
 //! The version of the program.
 
-/// The version, which stands here alone.
+/// The version. It is written nowhere else.
 pub const VERSION: &str = "1.0.0";
 
-/// The logic that the program is proved in, by the beginning of its checksum, as `rt version` says
-/// it.
+/// The logic that the program is proved in: the beginning of the checksum that `rt version` prints.
 pub const LOGIC: &str = "dac8208d650f15bf";

@@ -1,5 +1,5 @@
-//! What standard input is, where requests are to be read from it. No contract can say so: it goes
-//! by what the system tells.
+//! Refuses a standard input that cannot hold requests. No contract covers this: it depends on what
+//! the system reports.
 
 use command_line::{Line, Verb, line};
 use std::alloc::Global;
@@ -14,15 +14,15 @@ const INPUT: &str = "/proc/self/fd/0";
 /// The number of /dev/fuse: major 10, minor 229 (Linux, Documentation/admin-guide/devices.txt).
 const FUSE: u64 = 10 << 8 | 229;
 
-const TERMINAL: &str = "error: requests are read from standard input, and that is a terminal\n\n\
+const TERMINAL: &str = "error: requests are read from standard input, which is a terminal\n\n\
     To mount, see strata-mount(1).";
 
-const NO_DEVICE: &str = "error: standard input is no open /dev/fuse, as '--device' says\n\n\
+const NO_DEVICE: &str = "error: '--device' needs an open /dev/fuse as standard input\n\n\
     To mount, see strata-mount(1).";
 
-/// The fault of words that want requests from a terminal, or that say `--device` where standard
-/// input is neither an open `/dev/fuse` nor a socket, which may stand in for one. It is none where
-/// the system does not tell, and where the words have a fault, which is told elsewhere.
+/// The fault of arguments that want requests from a terminal, or that have `--device` if standard
+/// input is neither an open `/dev/fuse` nor a socket, which may replace one. None if the system
+/// cannot tell, or if the arguments have a fault, which is reported elsewhere.
 pub fn unfit_input<R: Files>(
     rt: &R,
     alloc: Global,
@@ -65,7 +65,7 @@ fn unfit_for<R: Files>(rt: &R, line: &Line<'_>, is_terminal: bool) -> Option<&'s
     }
 }
 
-// Whether standard input may be a device of FUSE: it is one, or a socket, or nobody knows.
+// Whether standard input may be a FUSE device: it is one, or a socket, or the system cannot tell.
 fn may_be_device<R: Files>(rt: &R) -> bool {
     match fs::metadata(rt, INPUT) {
         Ok(input) => {

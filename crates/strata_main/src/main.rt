@@ -1,4 +1,4 @@
-//! The program `strata`, over the process's own words and streams.
+//! The program `strata`, with the process's own arguments and streams.
 #![tactic(auto)]
 
 mod input;
@@ -12,21 +12,20 @@ use std::io::IsTerminal;
 use std::process::ExitCode;
 use strata::{Fault, command};
 
-/// Freed blocks of up to this size are kept for whoever asks next.
+/// Freed blocks of up to this size are kept for later allocations.
 const KEPT: usize = 0x40_0000;
 
-// Takes a block and gives it back untouched. The C library returns each freed block of 128 KiB and
-// more to the kernel, which then clears new pages for the next one, until it has seen a larger one
-// freed: from then on it keeps those of up to that size. Where the block is refused nothing is
-// lost.
+// Allocates a block and frees it untouched. The C library returns each freed block of 128 KiB and
+// more to the kernel, which then clears new pages for the next one. Once a larger block was freed,
+// it keeps those of up to that size. If the block is refused, nothing is lost.
 fn keep_freed_blocks<A: Allocator>(alloc: A) {
     let block: Result<Vec<u8, A>, _> = Vec::with_capacity(alloc, KEPT);
     drop(block);
 }
 
-// Opens a file that has nothing three times, to be held while the program runs. The system gives
-// the next file the lowest number that is free, so none that the words name takes that of a
-// standard stream that is closed: to read from it then gives nothing, and to write to it fails.
+// Opens an empty file three times, to be held while the program runs. The system gives the next
+// file the lowest free number, so no file of the command line takes that of a closed standard
+// stream, which reads as empty and fails on write.
 fn stand_ins<R: Files>(rt: &R) -> [Option<R::File>; 3] {
     [stand_in(rt), stand_in(rt), stand_in(rt)]
 }
