@@ -67,7 +67,7 @@ def images(root):
     hold("129 images", (3, "layers: 129, allowed 1 to 128"), (done.status, done.err.splitlines()[0]))
     hold_in("129 images", "strata-mount: 129 images were named, and at most 128 can be stacked", done.err)
     done = root.run("strata-mount", "/srv/lower.romfs", "/srv")
-    hold("an image below the folder", (1, "strata-mount: /srv/lower.romfs: this image lies in the folder that it would be mounted "
+    hold("an image below the folder", (1, "strata-mount: /srv/lower.romfs: this image is in the directory that it would be mounted "
                                           "on\n"), (done.status, done.err))
     return ("missing, no image of the store, a folder, cut off, empty, too many open, 129 images, one below the folder; by "
             "strata-mount and by mount")

@@ -69,7 +69,8 @@ def alone(root):
     hold_stack(root, "/mnt/alone")
     server, = servers()
     with open("/proc/%d/environ" % server, "rb") as it:
-        hold("the server's environment", [b"PATH", b""], [part.partition(b"=")[0] for part in it.read().split(b"\0")])
+        names = [part.partition(b"=")[0] for part in it.read().split(b"\0")]
+        hold("the server's environment", [b"MALLOC_MMAP_THRESHOLD_", b"PATH", b""], names)
     root.good("umount", "/mnt/alone")
     return "modules and programs of strangers in the working folder, PYTHONPATH and PATH are not met" + other_alone(root, words, env)
 

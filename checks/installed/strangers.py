@@ -119,7 +119,7 @@ def names(root):
         done = held_refused(root, "a missing one", NOT_MOUNTED, "", HELPER, "/srv/no/" + name, PLACE)
         hold("lines", (2, True), (done.err.count("\n"), done.err.replace("\n", "").isprintable()))
     os.link(LOWER, b"/srv/\xff")
-    held_refused(root, "no UTF-8", NOT_MOUNTED, "no name in UTF-8", HELPER, b"/srv/\xff", PLACE)
+    held_refused(root, "no UTF-8", NOT_MOUNTED, "the name is not UTF-8", HELPER, b"/srv/\xff", PLACE)
     held_refused(root, "a long name", NOT_MOUNTED, "file name too long", HELPER, "/" + "a" * 4000, PLACE)
     held_refused(root, "a longer one", WRONG_WORDS, "bytes together", HELPER, "/" + "a" * 5000, PLACE)
     os.mkdir("/tmp/gone")
@@ -195,10 +195,10 @@ def over_itself(root):
                           ("/etc", "/etc/ld.so."), ("/dev", "/dev/null"), ("/proc", "/proc/self/fd"),
                           ("/sys", "/sys/devices/system/cpu/online"), ("/lib64", "/lib64/ld-linux-x86-64.so.2")):
         held_refused(root, place, NOT_MOUNTED, "%s" % needed, HELPER, LOWER, place)
-        held_refused(root, place, NOT_MOUNTED, "strata needs this file, which lies in the folder", HELPER, LOWER, place)
+        held_refused(root, place, NOT_MOUNTED, "strata needs this file, which is in the directory", HELPER, LOWER, place)
     link = PLACE + "/link"
     os.symlink(LOWER, link)
-    held_refused(root, "a link to an image", NOT_MOUNTED, link + ": this image lies in the folder", HELPER, link, PLACE)
+    held_refused(root, "a link to an image", NOT_MOUNTED, link + ": this image is in the directory", HELPER, link, PLACE)
     return "a mount over strata's program, modules or libraries, /etc, /dev, /proc, /sys, or over a link to its image is refused"
 
 

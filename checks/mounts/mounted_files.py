@@ -8,8 +8,10 @@ import time
 from checks.mounts.mounted_readers import statuses
 from checks.mounts.mounted_trees import MIB, file, folder
 from checks.shared.images import Item, laid_out, write_spread
-from checks.shared.mounting import MOUNT_READERS, READER_SIZE, SECONDS, hold, wait_until
+from checks.shared.mounting import MOUNT_READERS, READER_SIZE, SECONDS, LeftOut, hold, wait_until
 from checks.shared.watched_file import CUT, FAIL, SERVE, TURN, WAIT, WatchedFile, turned
+from strata_format.trailer import said, trailer_of
+from strata_mount import read_ahead
 
 PAGE = 4096
 READERS = 8
@@ -228,7 +230,7 @@ def fifty(room):
     data = random.Random(7).randbytes(64 * MIB)
     items = [file("big", data), *[file("%03d" % number, b"x") for number in range(NODES)]]
     image = room.write(laid_out(b"v", items))
-    most = 6 * MIB + 300 * (NODES + 2) + (MOUNT_READERS - 1) * READER_SIZE
+    most = 3 * MIB // 2 + 250 * (NODES + 2) + (MOUNT_READERS - 1) * READER_SIZE
     mounts = [room.mount([image]) for _ in range(50)]
     for mount in mounts:
         hold("data", data[MIB:MIB + PAGE], part(mount.path(b"big"), MIB, PAGE))
@@ -254,4 +256,51 @@ def spread(room):
     return "an image of 2^32 - 1 bytes with headers at both ends holds names alone"
 
 
-CHECKS = (cut, overwritten, deleted, kept, failing, lying, stalled, fifty, spread)
+def is_cached(number, at):
+    """Whether the page cache has the byte at a place of an open file."""
+    try:
+        return os.preadv(number, [bytearray(1)], at, os.RWF_NOWAIT) == 1
+    except BlockingIOError:
+        return False
+
+
+def uncached(path):
+    """The same file, open, without pages in the cache if requested."""
+    number = os.open(path, os.O_RDONLY)
+    os.fsync(number)
+    os.posix_fadvise(number, 0, 0, os.POSIX_FADV_DONTNEED)
+    try:
+        cached = is_cached(number, 0)
+    except OSError:
+        cached = True
+    if cached:
+        raise LeftOut("this file system does not give up pages, or does not tell")
+    return number
+
+
+def ahead(room):
+    """The headers of an image that is in no cache are asked for at once, and nothing between them;
+    what is no such image is left alone."""
+    names = [b"%02d" % number for number in range(FILES)]
+    data = laid_out(b"v", [file(name.decode(), bytes(MIB)) for name in names])
+    places = [data.index(name + b"\0") - 16 for name in names]
+    rows = trailer_of({at: said(0o644, 0, 0, 0, 0) for at in places})
+    image = room.write(data + bytes(-len(data) % 16) + rows)
+    number = uncached(image)
+    fifo = os.path.join(room.folder, "fifo")
+    os.mkfifo(fifo)
+    short = room.write(b"-rom1fs-")
+    cold = read_ahead.cold_ones([image, room.folder, fifo, short, image + ".none"])
+    hold("images in no cache", 1, len(cold))
+    hold("headers", sorted(places), list(cold[0].places()))
+    cold[0].ask()
+    wait_until("all headers", lambda: all(is_cached(number, at) for at in places))
+    hold("data", [False] * FILES, [is_cached(number, at + MIB // 2) for at in places])
+    mount = room.mount([image])
+    hold("a file", bytes(PAGE), part(mount.path(b"00"), 0, PAGE))
+    mount.end()
+    hold("images in no cache", 0, len(read_ahead.cold_ones([image])))
+    return "the headers of an image in no cache are asked for, and none of its data"
+
+
+CHECKS = (cut, overwritten, deleted, kept, failing, lying, stalled, fifty, spread, ahead)

@@ -127,7 +127,7 @@ def moved_layout(room, read, manifest, order, **notes):
 
 def check_order(room):
     """A mount says in one line which image lies on another than it was made for: of a layout's files, and of an image of the
-    store. What is in order, or not known, is not told."""
+    store. Nothing is printed about what is in order, or not known."""
     out = room.name()
     room.layers("convert", made.layout(room.name()).path, out)
     read = made.Read(out, "1")
@@ -160,7 +160,7 @@ def told_of(room, line, *words):
 
 def check_order_of_a_folder(room):
     """The same of images that were made without a store, by the file beside them; also where they
-    lie under other names there, or have gone elsewhere, nothing false is reported."""
+    lie under other names there, or have gone elsewhere, no report is false."""
     out = room.name()
     room.ran(sys.executable, "-B", LAYERS, made.layout(room.name()).path, out)
     images = ["%s/%02d.romfs" % (out, number) for number in range(5)]

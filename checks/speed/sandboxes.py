@@ -1,13 +1,15 @@
 """From the command to a sandbox's first output, one and fifty at once: python3 checks sandboxes
 PROGRAM [WORDS..]
 
-    python3 checks sandboxes PROGRAM [--tree FOLDER] [--paths N] [--count N] [--runs N]
+    python3 checks sandboxes PROGRAM [--tree FOLDER] [--paths N] [--count N] [--runs N] [--rounds N]
 
 A sandbox is `bwrap` with a mount at /image, of which it prints a file. For each kind of mount, in
 turns: the clock from the mount command to that output and the processor time of all that was
-started, servers included, for one sandbox (the median of N runs, 9); the clock for N at once (50),
-each with a mount of its own, in the median and for the last one; and the memory of their servers
-(PSS). Beside strata, and strata with --share: squashfuse_ll on an image that mksquashfs makes,
+started, servers included, for one sandbox (the median of N runs, 9); for N at once (50), each with a
+mount of its own, the clock in the median and for the last one, the processor time and the memory of
+their servers (PSS), each the median of N rounds (3). On a machine that does other work the clock
+says little: then compare processor time, which, by the number of processors, is also the least that
+the last sandbox can take. Beside strata, and strata with --share: squashfuse_ll on an image that mksquashfs makes,
 fuse-overlayfs and the kernel's overlayfs on the folder itself, and bwrap without a mount. Those
 that are not here are left out, by name.
 
@@ -144,6 +146,15 @@ def sandboxes(scratch, kind, source, count):
     return Measured(clock, used() - before, memory)
 
 
+def in_turns(scratch, every, source, count, runs):
+    """What so many sandboxes at once take of each kind, run by run."""
+    found = {kind.name: [] for kind in every}
+    for _ in range(runs):
+        for kind in every:
+            found[kind.name].append(sandboxes(scratch, kind, source, count))
+    return found
+
+
 def python_alone(count):
     """The same of python without a module, started by a shell as well."""
     before, start = used(), time.monotonic()
@@ -155,11 +166,15 @@ def python_alone(count):
 
 
 def told(name, ones, many):
-    first = statistics.median(it.clock[0] for it in ones)
-    processor = statistics.median(it.processor for it in ones)
-    middle = statistics.median(many.clock)
-    return ROW % (name, "%.0f" % (first * 1e3), "%.0f" % (processor * 1e3), "%.2f" % middle,
-                  "%.2f" % many.clock[-1], "%.2f" % many.processor, "%.1f" % many.memory)
+    def middle(figure, runs=many):
+        return statistics.median(map(figure, runs))
+
+    first = middle(lambda it: it.clock[0], ones)
+    processor = middle(lambda it: it.processor, ones)
+    return ROW % (name, "%.0f" % (first * 1e3), "%.0f" % (processor * 1e3),
+                  "%.2f" % middle(lambda it: statistics.median(it.clock)),
+                  "%.2f" % middle(lambda it: it.clock[-1]), "%.2f" % middle(lambda it: it.processor),
+                  "%.1f" % middle(lambda it: it.memory))
 
 
 def measure(scratch, asked):
@@ -171,15 +186,12 @@ def measure(scratch, asked):
     for kind in every:
         if kind.missing:
             print("%s: left out: no %s" % (kind.name, ", ".join(kind.missing)))
-    ones = {kind.name: [] for kind in here}
-    for _ in range(asked.runs):
-        for kind in here:
-            ones[kind.name].append(sandboxes(scratch, kind, folder, 1))
+    ones = in_turns(scratch, here, folder, 1, asked.runs)
+    many = in_turns(scratch, here, folder, asked.count, asked.rounds)
     middle = "%d: median" % asked.count
     print(ROW % ("", "first ms", "cpu ms", middle, "last s", "cpu s", "MiB"))
     for kind in here:
-        many = sandboxes(scratch, kind, folder, asked.count)
-        print(told(kind.name, ones[kind.name], many), flush=True)
+        print(told(kind.name, ones[kind.name], many[kind.name]))
     one = [python_alone(1) for _ in range(asked.runs)]
     clock, processor = (statistics.median(column) * 1e3 for column in zip(*one))
     print("python3 -I -S -c pass: %.0f ms, %.0f ms of processor; %d at once %.2f s, %.2f s" % (
@@ -194,6 +206,7 @@ def main():
     parser.add_argument("--paths", metavar="N", type=int, default=14_496)
     parser.add_argument("--count", metavar="N", type=int, default=50)
     parser.add_argument("--runs", metavar="N", type=int, default=9)
+    parser.add_argument("--rounds", metavar="N", type=int, default=3)
     asked = parser.parse_args()
     missing = [it for it in ("bwrap", "genromfs") if shutil.which(it) is None]
     if missing or os.geteuid() != 0:

@@ -1,5 +1,5 @@
-"""Extended attributes of entries: as the records of archives say them, and by what kind they are
-reported.
+"""Extended attributes of entries: as the records of archives say them, and the kind by which they
+are reported.
 
 An entry has them by their names. A list of rights in its text has the name of its record, since it
 may stand beside one in its binary form, and may name users without their numbers.
@@ -20,7 +20,7 @@ UNREAD = b"acl."
 TEXTS = {ACCESS_TEXT: ACCESS, b"acl.default": DEFAULT}
 # whether images keep extended attributes: from when on strata reads version 2 of the trailer
 KEEPS = False
-# how an attribute is reported, by the front of its name, in the singular and the plural
+# what is reported about an attribute, by the front of its name, in the singular and the plural
 KINDS = {
     b"security.capability": ("capability", "capabilities"),
     b"system.posix_acl_": ("ACL", "ACLs"),

@@ -121,7 +121,7 @@ class Digests:
 
 
 def write_images(word, path, lost):
-    """Makes the images of a layout's layers; their paths. `lost` notes what they don't hold."""
+    """Makes the images of a layout's layers; their paths. `lost` gets what they don't hold."""
     layout, tag = open_layout(word)
     below = Below()
     descriptors = layout.layers(tag)

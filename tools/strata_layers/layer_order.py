@@ -100,7 +100,7 @@ class Known:
         return layer if layer and os.path.getsize(path) == layer.size else None
 
     def name_of(self, digits):
-        """How an image is reported: by its name in a folder, or else by its digest."""
+        """How an image is named: by its name in a folder, or else by its digest."""
         names = (name for it in self.folders.values() for name, layer in it.items()
                  if layer.digits == digits)
         return next(names, "sha256:%s.." % digits[:12])

@@ -21,7 +21,7 @@ def entries_text(count):
 
 
 def line_of(kind, counts):
-    """The line for a kind of loss."""
+    """What is reported about a kind of loss."""
     of_kinds = " (%s)" % attributes.counts_text(counts) if kind == "attributes" else ""
     return "%s: %s%s" % (LOST[kind], entries_text(counts[kind]), of_kinds)
 

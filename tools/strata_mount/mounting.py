@@ -7,11 +7,15 @@ import sys
 
 from strata_format import ends
 from strata_format.refused import one_line
-from strata_mount import preconditions, privileges
+from strata_mount import preconditions, privileges, read_ahead
 from strata_mount.device import DEVICE, answers, mounted, take_away
 from strata_mount.options import Options
 from strata_mount.processes import Bell, found_program, hold_descriptors, start
 
+# The C library keeps freed memory for what it is asked for next, until the end. A block of this many
+# bytes and more it gives back, so that a server keeps what it needs to serve, and not what it needed
+# to begin.
+MEMORY = {"MALLOC_MMAP_THRESHOLD_": str(1 << 17)}
 RELAY = os.path.join(os.path.dirname(os.path.realpath(__file__)), "relay.py")
 INTERRUPTED = 130
 
@@ -59,7 +63,8 @@ def served(plan, device, errors, counts, confinement):
         ends = [device, device, 2 if plan.debug else errors.fileno()]
         shown = None if plan.is_relayed() else shown_name(plan)
         words += serve_words(plan)
-        return start(words, ends, numbers, lambda: prepare(confinement), shown)
+        environment = {**MEMORY, **os.environ}
+        return start(words, ends, numbers, lambda: prepare(confinement), shown, environment)
     finally:
         os.close(device)
 
@@ -161,9 +166,11 @@ def run(plan, counts=None, heard=None):
     signal.pthread_sigmask(signal.SIG_BLOCK, stopping())
     hear(interrupt)
     bell, confinement = Bell(), confinement_of(plan)
+    cold = [] if plan.whole else read_ahead.cold_ones(plan.images)
     device = mounted(plan)
     try:
         server = served(plan, device, errors, counts, confinement)
+        read_ahead.ask(cold)
         status = waited(plan, server, errors, bell)
         if status == 0 and plan.background and heard is not None:
             heard(server)

@@ -1,3 +1,4 @@
 pub mod Search
 pub mod Kept
 pub mod Rising
+pub mod Slices

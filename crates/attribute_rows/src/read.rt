@@ -1,16 +1,16 @@
 //! The trailer of an image, and its rows.
 
-ghost use Rattle.std.specs.Prelude.{◌≡◌, ◌+◌, ◌<◌, ◌≤◌, ◌%◌, ◌^◌, false, length, take, drop, MatchOption};
+ghost use Rattle.std.specs.Prelude.{◌≡◌, ◌+◌, ◌<◌, ◌≤◌, ◌%◌, ◌^◌, false, length, take, drop, ℕ, List, IfSome, MatchOption};
 ghost use Rattle.romfs_format.specs.declared.limits.TheConstants.{HEAD_SIZE, ROW_SIZE};
 ghost use Rattle.romfs_format.specs.Fields.{word as word_of, word_sum};
 ghost use Rattle.romfs_format.specs.Trailer.{has_trailer, long_word as long_word_of, row_of, row_start};
 ghost use Rattle.attribute_rows.specs.Faults.{IsTrailerPlace};
 
 use held_image::Held;
-use held_image::read::{long_word, stand_at, sum, word};
-use romfs_format::AttributeRow;
+use held_image::read::{long_word, slice_at, stand_at, sum, word};
 use romfs_format::limits::{ROW_SIZE, TRAILER_HEAD_SIZE};
 use romfs_format::read::padded;
+use romfs_format::{AttributeRow, read as fields};
 use std::marker::Model;
 
 /// Where the trailer of an image begins, if it has one.
@@ -89,6 +89,14 @@ impl<'t> Trailer<'t> {
         long_word(self.image, self.place as usize + at)
     }
 
+    /// So many bytes from such a place on, if they are at hand in one piece.
+    pub(crate) fn slice(&self, at: usize, len: usize) -> Option<&'t [u8]>
+        requires { at + len ≤ length self.now }
+        ensures { IfSome result (λ part. part.now ≡ take len (drop at self.now)) }
+    {
+        slice_at(self.image, self.place as usize + at, len)
+    }
+
     /// The sum of the whole words of so many bytes.
     pub(crate) fn sum(&self, len: usize) -> u32
         requires { len ≤ length self.now }
@@ -108,6 +116,33 @@ pub(crate) fn row_start(number: u32) -> usize
 
 /// What a row says.
 pub(crate) fn row_of(trailer: &Trailer<'_>, number: u32) -> AttributeRow
+    requires { row_start number + ROW_SIZE ≤ length trailer.now }
+    ensures { result ≡ row_of trailer.now number }
+{
+    match trailer.slice(row_start(number), ROW_SIZE) {
+        Some(bytes) => row_in(bytes),
+        None => row_by_words(trailer, number),
+    }
+}
+
+/// What a row of these bytes says.
+fn row_in(bytes: &[u8]) -> AttributeRow
+    requires { length bytes.now ≡ ROW_SIZE }
+    ensures { (t : List ℕ) (number : ℕ) → bytes.now ≡ take ROW_SIZE (drop (row_start number) t) →
+        result ≡ row_of t number }
+{
+    AttributeRow {
+        place: fields::word(bytes, 0),
+        mode: fields::word(bytes, 4),
+        uid: fields::word(bytes, 8),
+        gid: fields::word(bytes, 12),
+        seconds: fields::long_word(bytes, 16),
+        nanoseconds: fields::word(bytes, 24),
+    }
+}
+
+/// The same, field by field.
+fn row_by_words(trailer: &Trailer<'_>, number: u32) -> AttributeRow
     requires { row_start number + ROW_SIZE ≤ length trailer.now }
     ensures { result ≡ row_of trailer.now number }
 {

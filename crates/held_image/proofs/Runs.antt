@@ -98,6 +98,18 @@ module _ (blocks bytes : List ℕ) (kept : IsKept blocks bytes) (at : ℕ) where
         ]
       ]
 
+  -- the byte of a block that is not kept, and of one that is
+  pub byte_zero : (rank : ℕ) → IsRank blocks (at / 16) rank → (rank < length blocks → get_or blocks rank 0 ≢ at / 16)
+      → byte_of blocks bytes at ≡ 0
+  byte_zero rank r n =
+      ap (byte_of blocks bytes) (let e : at ≡ at + 0 = omega arith in e) ∙ (no_run rank r n).stops (omega arith)
+
+  pub byte_here : (k : ℕ) → k < length blocks → get_or blocks k 0 ≡ at / 16
+      → byte_of blocks bytes at ≡ get_or bytes (k * 16 + at % 16) 0
+  byte_here k l e =
+      byte_kept blocks bytes at k kept.rises l e
+      ∙ ap (λ i. get_or bytes i 0) (let g : 16 * k + at % 16 ≡ k * 16 + at % 16 = omega arith in g)
+
   -- what is left of a block that stands at a position
   pub block_is : (k n : ℕ) → k < length blocks → get_or blocks k 0 ≡ at / 16 → n ≡ 16 - at % 16 → (i : ℕ)
       → i < length (take n (drop (k * 16 + at % 16) bytes))

@@ -83,6 +83,7 @@ fn run<'a>(blocks: &Numbers<'_>, bytes: &'a [u8], at: u32) -> &'a [u8]
 }
 
 /// The kept bytes from a place on, up to the end of its block; none where that is not kept.
+#[inline(always)]
 fn rest_of_block<'a>(blocks: &Numbers<'_>, bytes: &'a [u8], at: u32) -> &'a [u8]
     requires { IsKept blocks.now.all.now bytes.now }
     ensures { (i : ℕ) → i < length result.now →
@@ -103,10 +104,16 @@ fn byte_in(blocks: &Numbers<'_>, bytes: &[u8], at: u32) -> u8
     requires { IsKept blocks.now.all.now bytes.now }
     ensures { result ≡ byte_of blocks.now.all.now bytes.now at }
 {
-    match run(blocks, bytes, at).first() {
-        Some(byte) => *byte,
-        None => 0,
+    let block = at / 16;
+    let position = blocks.rank(block);
+    let all = blocks.all;
+    if position == all.len() {
+        return 0;
     }
+    if all[position] != block {
+        return 0;
+    }
+    bytes[position * BLOCK_SIZE + at as usize % BLOCK_SIZE]
 }
 
 /// The big-endian word at a place.
@@ -319,19 +326,40 @@ pub(crate) fn name_of_blocks<'a>(
     }
 }
 
-/// The sum of the whole words of so many bytes from a place on, of an image of this size.
+/// So many bytes from a place on, of an image of this size, where they are kept without a gap and
+/// are no more than a header and its name can have.
 #[tactic(auto, using(crate::proofs::Sums::run_part))]
+pub(crate) fn slice_of_blocks<'a>(
+    blocks: &Numbers<'_>,
+    bytes: &'a [u8],
+    size: u32,
+    at: u32,
+    len: usize,
+) -> Option<&'a [u8]>
+    requires kept { IsKept blocks.now.all.now bytes.now }
+    requires within { at + len ≤ size }
+    ensures { IfSome result (λ part.
+        part.now ≡ take len (drop at (filled size blocks.now.all.now bytes.now))) }
+{
+    let near = run(blocks, bytes, at);
+    if len <= near.len() {
+        Some(&near[..len])
+    } else {
+        None
+    }
+}
+
+/// The sum of the whole words of so many bytes from a place on, of an image of this size.
 pub(crate) fn sum_in(blocks: &Numbers<'_>, bytes: &[u8], size: u32, at: u32, len: u32) -> u32
     requires kept { IsKept blocks.now.all.now bytes.now }
     requires within { at + len ≤ size }
     ensures { result
         ≡ word_sum (take len (drop at (filled size blocks.now.all.now bytes.now))) % 2 ^ 32 }
 {
-    let near = run(blocks, bytes, at);
-    if near.len() >= len as usize {
-        return word_sum(&near[..len as usize]);
+    match slice_of_blocks(blocks, bytes, size, at, len as usize) {
+        Some(part) => word_sum(part),
+        None => sum_of_words(blocks, bytes, size, at, len),
     }
-    sum_of_words(blocks, bytes, size, at, len)
 }
 
 /// The same, word by word.

@@ -69,7 +69,8 @@ impl<A: Allocator> Kept<A> {
         Held::sparse(self.size, self.stretches.beside(&self.blocks), &self.bytes)
     }
 
-    /// The first bytes alone, so many. The blocks behind them are let go.
+    /// The first bytes alone, so many. The blocks behind them are let go, with their memory where
+    /// less is granted.
     #[tactic(auto, using(crate::proofs::Fronts::filled_long, crate::proofs::Views::first_filled))]
     pub fn first(self, count: u32) -> Kept<A>
         requires { count ≤ length self }
@@ -83,6 +84,8 @@ impl<A: Allocator> Kept<A> {
             ..
         } = self;
         cut(&stretches, &mut blocks, &mut bytes, count);
+        blocks.shrink_to_fit();
+        bytes.shrink_to_fit();
         Kept {
             size: count,
             blocks,
@@ -135,6 +138,7 @@ fn add_row<A: Allocator>(blocks: &mut Vec<u32, A>, first: u32, count: u32) -> Re
     requires { first + count ≤ 2 ^ 28 }
     ensures { OnOk result (HasNumbers blocks.old.items first count blocks.new.items) }
 {
+    blocks.reserve_exact(count as usize)?;
     for number in 0..count {
         blocks.push(first + number)?;
     }
@@ -146,6 +150,7 @@ fn add_padded<A: Allocator>(bytes: &mut Vec<u8, A>, tail: &[u8]) -> Result<(), A
     requires { length bytes.old.items % 16 ≡ 0 }
     ensures { OnOk result (IsPadded bytes.old.items tail.now bytes.new.items) }
 {
+    bytes.reserve_exact(tail.len() + BLOCK_SIZE)?;
     bytes.extend_from_slice(tail)?;
     let whole = bytes.len().div_ceil(BLOCK_SIZE) * BLOCK_SIZE;
     bytes.resize(whole, 0)?;

@@ -4,13 +4,14 @@
 //! which have as many numbers that are kept. For each it is noted how many are kept before it. So a
 //! block is sought by halves among those of its stretch alone, which are few where they lie evenly.
 //! Where small files lie beside huge ones most stretches have none and a few have very many: one
-//! that has many is cut once more, into parts that have some eight. What is noted is a guess: it is
+//! that has many is cut once more, into parts that have some four. What is noted is a guess: it is
 //! held against the numbers at its ends, and where it is wrong, or there is none, all are searched.
 //! It takes some 4 bytes for every four blocks, at most 8 where they do not lie evenly, and is made
 //! in one step for each of them and one for each stretch.
 //!
-//! Most blocks are found before: where all up to one are kept, it stands where its number says, and
-//! of a stretch the first eight numbers are looked at one by one.
+//! Most blocks are found before: where all up to one, or all from one on, are kept, as those of a
+//! trailer are, it stands where its number says, and of a stretch or part the first sixteen numbers
+//! are looked at one by one.
 
 ghost use Rattle.std.specs.Prelude.{◌≡◌, ◌<◌, ◌≤◌, ◌^◌, length, slice_index, IsTrue, IfSome};
 ghost use Rattle.held_image.specs.Blocks.{Rises, IsRank, HoldsRank};
@@ -21,10 +22,10 @@ use std::alloc::{AllocError, Allocator};
 const FEW: usize = 4;
 
 /// How many numbers a stretch has at least that is cut into parts.
-const MANY: usize = 32;
+const MANY: usize = 4 * FEW;
 
 /// How many numbers from the first of a stretch on are looked at one by one.
-const NEAR: usize = 2 * FEW;
+const NEAR: usize = 4 * FEW;
 
 /// The numbers of blocks, rising, with what is noted of them.
 #[derive(Clone, Copy)]
@@ -41,7 +42,20 @@ pub(crate) struct Numbers<'a> {
 
 impl<'a> Numbers<'a> {
     /// How many blocks have a number below this one.
+    #[inline(always)]
     pub(crate) fn rank(&self, block: u32) -> usize
+        requires { Rises self.now.all.now }
+        ensures { IsRank self.now.all.now block result }
+    {
+        match at_an_end(self.all, block) {
+            Some(position) => position,
+            None => self.rank_between(block),
+        }
+    }
+
+    // The same, of a block that is sought by what is noted.
+    #[inline(never)]
+    fn rank_between(&self, block: u32) -> usize
         requires { Rises self.now.all.now }
         ensures { IsRank self.now.all.now block result }
     {
@@ -52,17 +66,13 @@ impl<'a> Numbers<'a> {
         rank_within(self.all, within, block)
     }
 
-    // Where the block stands, if all up to it are kept, or it is among the first of its stretch.
+    // Where the block stands, if it is among the first of its stretch.
     #[inline(always)]
     fn found_soon(&self, block: u32) -> Option<usize>
         ensures { IfSome result (λ at. (at < length self.now.all.now)
             × (slice_index self.now.all.now at ≡ block)) }
     {
         let all = self.all;
-        let first = block as usize;
-        if first < all.len() && all[first] == block {
-            return Some(first);
-        }
         let low = self.noted(block)?.low;
         let high = all.len().min(low.saturating_add(NEAR));
         for position in low..high {
@@ -124,7 +134,9 @@ impl<A: Allocator> Stretches<A> {
         self.starts.clear();
         note_starts(&mut self.starts, numbers, self.shift)?;
         self.parts = self.starts.len();
-        note_parts(&mut self.starts, numbers, self.shift)
+        note_parts(&mut self.starts, numbers, self.shift)?;
+        self.starts.shrink_to_fit();
+        Ok(())
     }
 
     /// Numbers, with what is noted.
@@ -170,7 +182,7 @@ impl Parts {
     // The parts of a stretch whose numbers have these positions. What is noted of them begins at a
     // fourth of how many numbers stand before, so there is room for as many.
     fn of(parts: usize, found: Within, shift: u32) -> Parts {
-        let digits = 63u32.saturating_sub((found.count() / (2 * FEW)).leading_zeros());
+        let digits = 63u32.saturating_sub((found.count() / FEW).leading_zeros());
         Parts {
             first: parts.saturating_add(found.low / FEW),
             last: 1usize.checked_shl(digits).unwrap_or(1).saturating_sub(1),
@@ -182,6 +194,24 @@ impl Parts {
     fn of_number(&self, number: u32) -> usize {
         self.first
             .saturating_add(without(number, self.shift) & self.last)
+    }
+}
+
+// Where a block stands, if all up to it are there, or all from it on.
+#[inline(always)]
+fn at_an_end(all: &[u32], block: u32) -> Option<usize>
+    ensures { IfSome result (λ at. (at < length all.now) × (slice_index all.now at ≡ block)) }
+{
+    let first = block as usize;
+    if first < all.len() && all[first] == block {
+        return Some(first);
+    }
+    let behind = all.last()?.checked_sub(block)? as usize;
+    let before = all.len().checked_sub(behind + 1)?;
+    if all[before] == block {
+        Some(before)
+    } else {
+        None
     }
 }
 

@@ -12,7 +12,7 @@ ghost use Rattle.held_image.specs.Blocks.{CopiesSome};
 
 use crate::blocks::{
     byte_of_blocks, copy_some_of_blocks, head_in_blocks, head_of_blocks, long_word_in,
-    name_of_blocks, sum_in, text_of_blocks, word_in,
+    name_of_blocks, slice_of_blocks, sum_in, text_of_blocks, word_in,
 };
 use crate::held::{Form, Held};
 use romfs_format::limits::HEAD_SIZE;
@@ -192,8 +192,10 @@ pub fn name_of<'a>(image: &Held<'a>, at: u32, name_len: u32) -> &'a [u8]
     }
 }
 
-/// So many bytes from a place on, where all bytes of the image are held; else none.
+/// So many bytes from a place on, where all bytes of the image are held, or these without a gap and
+/// no more than a header and its name can have; else none.
 #[inline(always)]
+#[tactic(auto, using(crate::proofs::Fronts::filled_long))]
 pub fn slice_at<'a>(image: &Held<'a>, at: usize, len: usize) -> Option<&'a [u8]>
     requires { at + len ≤ length image.now }
     ensures { IfSome result (λ bytes. bytes.now ≡ take len (drop at image.now)) }
@@ -203,7 +205,11 @@ pub fn slice_at<'a>(image: &Held<'a>, at: usize, len: usize) -> Option<&'a [u8]>
             let rest = &bytes[at..];
             Some(&rest[..len])
         }
-        Form::Sparse { .. } => None,
+        Form::Sparse {
+            size,
+            blocks,
+            bytes,
+        } => slice_of_blocks(&blocks, bytes, size, at as u32, len),
     }
 }
 

@@ -154,7 +154,7 @@ pub fn load<S: Contents, A: Allocator>(
     ensures held { OnOk result (IsHeld (S.contents source.now) at bytes.new.items) }
     ensures err { IfErr result (IsCause (S.contents source.now)) }
 {
-    bytes.clear();
+    // those that are there already are not cleared, since they are read over
     bytes.resize(count, 0)?;
     load_room(source, &mut bytes[..], at as u64)
 }
