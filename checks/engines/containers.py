@@ -5,16 +5,13 @@ import os
 import random
 import signal
 import subprocess
-import sys
 import threading
 import time
 
-from checks import TOOLS
-from checks.engines import images
-from checks.engines.layers import without_links
-from checks.engines.machine import wait_until
-from checks.registry import made
-from checks.registry.tree import shape
+from checks.engines import cri, images
+from checks.engines.layers import REFERENCE, run_layers, without_links
+from checks.engines.machine import HOST, wait_until
+from checks.registry.tree import shape, tree
 from checks.shared.mounting import hold
 
 # what runc makes in a container's root, where the image hasn't it
@@ -45,18 +42,19 @@ def attributes(place):
     return [(name, os.getxattr(place, name, follow_symlinks=False)) for name in names]
 
 
-def image_of(machine, name, odd=False):
-    path = machine.at(name)
+def image_of(machine, kind):
+    """The name of an image of a kind, and the path of its archive."""
+    path = machine.at(kind)
     if os.path.exists(path):
-        return "docker.io/test/%s:1" % name, path + ".tar"
-    image = images.Image(path, "docker.io/test/%s:1" % name, images.layers(odd))
+        return "docker.io/test/%s:1" % kind, path + ".tar"
+    image = images.Image(path, "docker.io/test/%s:1" % kind, images.layers(kind))
     return image.name, image.archive
 
 
 def check_the_same_trees(machine):
     """A container sees what it sees with containerd's own overlayfs, path by path."""
-    for name, odd in (("plain", False), ("odd", True)):
-        image, archive = image_of(machine, name, odd)
+    for kind in (images.PLAIN, images.ODD, images.LINKED):
+        image, archive = image_of(machine, kind)
         found = {}
         for snapshotter in ("strata", "overlayfs"):
             machine.bring(archive, snapshotter)
@@ -64,35 +62,45 @@ def check_the_same_trees(machine):
                                     snapshotter=snapshotter)
             found[snapshotter] = seen(process)
             machine.end("c-" + snapshotter)
-        hold("paths", sorted(found["overlayfs"]), sorted(found["strata"]))
-        for path, it in found["overlayfs"].items():
-            hold(path, it, found["strata"][path])
+        hold_same(found["overlayfs"], found["strata"])
         colour = found["strata"]["usr/sudo"][-1]
-        hold("an attribute", [("user.colour", b"green")] * odd, colour)
+        hold("an attribute", [("user.colour", b"green")] * (kind == images.ODD), colour)
         machine.forget(image)
 
 
+def hold_same(wanted, found):
+    hold("paths", sorted(wanted), sorted(found))
+    for path, it in wanted.items():
+        hold(path, it, found[path])
+
+
 def check_images_as_layers(machine):
-    """An image whose layers are archives of one romfs image each: containerd unpacks them as any
-    others, and a container sees what is in them."""
-    image, archive = image_of(machine, "plain")
-    folder, given = machine.at("romfs"), "docker.io/test/given:1"
-    subprocess.run([sys.executable, "-B", TOOLS + "/layers.py", machine.at("plain"), folder],
-                   check=True, stdin=subprocess.DEVNULL, stdout=subprocess.DEVNULL,
-                   stderr=subprocess.DEVNULL)
-    layers = []
-    for name in sorted(os.listdir(folder)):
-        with open(os.path.join(folder, name), "rb") as file:
-            layers.append(made.archive(images.entry(".strata.romfs", file.read())))
-    machine.bring(images.Image(machine.at("given"), given, layers).archive)
+    """An image whose layers are archives of one romfs image each, as strata-layers writes it, in a
+    registry: containerd pulls it as any other one, and a container sees what is in it. By CRI the
+    images are taken from the blobs."""
+    image, archive = image_of(machine, images.PLAIN)
+    folder, given = machine.at("given"), HOST + "/given:1"
+    run_layers("convert", "--store", machine.at("converted"), "--tar", "--compress", "gzip",
+               machine.at(images.PLAIN), folder + ":1")
+    images.push(folder, HOST, "given:1")
+    machine.ctr("images", "pull", "--plain-http", "--snapshotter", "strata", given)
     machine.bring(archive, "overlayfs")
     found = []
     for name, which, snapshotter in (("g", given, "strata"), ("p", image, "overlayfs")):
         found.append(seen(machine.begin(name, which, "sleep", "1000", snapshotter=snapshotter)))
         machine.end(name)
-    hold("paths", sorted(found[1]), sorted(found[0]))
-    for path, it in found[1].items():
-        hold(path, it, found[0][path])
+    hold_same(found[1], found[0])
+    runtime = cri.Runtime(machine.at("c.sock"))
+    runtime.pull(given)
+    named = 'labels."%s"' % REFERENCE
+    every = machine.snapshotter.call("List", filters=[named])
+    hold("layers that are not unpacked", 3, len(every))
+    top, = {it.name for it in every} - {it.parent for it in every}
+    shown = tree(machine.snapshotter.view("all", top))
+    hold("paths of the image", sorted(it for it in found[0] if it.partition("/")[0] not in MADE),
+         sorted(it for it in shown if it.partition("/")[0] not in (*MADE, ".")))
+    machine.snapshotter.call("Remove", key="all")
+    runtime.remove_image(given)
     machine.forget(image, given)
 
 
@@ -114,7 +122,7 @@ def written(machine, name, image):
 
 def check_many_at_once(machine):
     """Fifty containers at once on one mount: each sees the image and its own changes alone."""
-    image, archive = image_of(machine, "plain")
+    image, archive = image_of(machine, images.PLAIN)
     machine.bring(archive)
     first, said = written(machine, "first", image), {}
 
@@ -135,7 +143,7 @@ def check_many_at_once(machine):
 
 def check_one_mount(machine):
     """Containers on one chain have one mount and one server; it ends with the last of them."""
-    image, archive = image_of(machine, "plain")
+    image, archive = image_of(machine, images.PLAIN)
     machine.bring(archive)
     for name in ("a", "b", "c"):
         machine.begin(name, image, "sleep", "1000")
@@ -175,7 +183,7 @@ def runs(machine, image):
 def check_daemons_killed(machine):
     """The snapshotter and containerd are killed under a container, which goes on; new ones
     start."""
-    image, archive = image_of(machine, "plain")
+    image, archive = image_of(machine, images.PLAIN)
     machine.bring(archive)
     begin_writing(machine, "long", image)
     machine.snapshotter.stop(signal.SIGKILL)
@@ -187,15 +195,14 @@ def check_daemons_killed(machine):
     machine.start_containerd()
     hold("after containerd", True, works(machine, "long"))
     machine.end("long")
-    for line in machine.ctr("container", "ls", "-q").split():
-        machine.ctr("container", "rm", line)
+    remove_containers(machine)
     machine.forget(image)
 
 
 def check_servers_killed(machine):
     """strata is killed under a container: what that hasn't read yet is gone, and the next
     container has a new mount."""
-    image, archive = image_of(machine, "plain")
+    image, archive = image_of(machine, images.PLAIN)
     machine.bring(archive)
     begin_writing(machine, "old", image)
     os.kill(machine.snapshotter.servers()[0], signal.SIGKILL)
@@ -211,7 +218,7 @@ def check_servers_killed(machine):
 
 def check_a_reboot(machine):
     """State without mounts: a container that was stopped starts again with what it had written."""
-    image, archive = image_of(machine, "plain")
+    image, archive = image_of(machine, images.PLAIN)
     machine.bring(archive)
     begin_writing(machine, "kept", image)
     machine.tried("task", "kill", "-s", "KILL", "kept")
@@ -231,11 +238,42 @@ def check_a_reboot(machine):
     machine.forget(image)
 
 
+# --- random kills ---
+
+def kill_snapshotter(machine, _):
+    machine.snapshotter.stop(signal.SIGKILL)
+    machine.snapshotter.start()
+
+
+def kill_containerd(machine, _):
+    machine.kill("containerd")
+    machine.start_containerd()
+
+
+def kill_server(machine, spared):
+    for it in set(machine.snapshotter.servers()) - spared:
+        os.kill(it, signal.SIGKILL)
+
+
+KILLS = (kill_snapshotter, kill_snapshotter, kill_containerd, kill_server)
+
+
+def remove_containers(machine):
+    for name in machine.ctr("container", "ls", "-q").split():
+        machine.tried("task", "rm", "-f", name)
+        machine.ctr("container", "rm", name)
+    # a client of a containerd that was killed keeps what it was about to make for a day
+    for lease in machine.ctr("leases", "ls", "-q").split():
+        machine.ctr("leases", "rm", "--sync", lease)
+
+
 def check_random_kills(machine, count=8):
-    """The snapshotter is killed at random moments of imports, containers and removals: afterwards
-    all works, and nothing is left."""
-    image, archive = image_of(machine, "plain")
-    draw = random.Random(94)
+    """The snapshotter, containerd and servers are killed at random moments of imports, containers
+    and removals: a container goes on meanwhile, afterwards all works, and nothing is left."""
+    (kept, other), (image, archive) = (image_of(machine, it) for it in (images.ODD, images.PLAIN))
+    machine.bring(other)
+    begin_writing(machine, "kept", kept)
+    spared, draw = set(machine.snapshotter.servers()), random.Random(94)
     for number in range(count):
         work = threading.Thread(target=lambda: [
             machine.tried("images", "import", "--snapshotter", "strata", archive),
@@ -243,19 +281,24 @@ def check_random_kills(machine, count=8):
             machine.tried("images", "rm", "--sync", image)])
         work.start()
         time.sleep(draw.random() * 1.5)
-        machine.snapshotter.stop(signal.SIGKILL)
-        machine.snapshotter.start()
+        draw.choice(KILLS)(machine, spared)
         work.join()
-    for line in machine.ctr("container", "ls", "-q").split():
-        machine.tried("task", "rm", "-f", line)
-        machine.ctr("container", "rm", line)
+        hold("the container that stays", True, works(machine, "kept"))
     # containerd waits for a while before it connects again
     wait_until("an import", lambda: machine.tried("images", "import", "--snapshotter", "strata",
                                                   archive).returncode == 0)
     machine.run("last", image, "grep", "-q", "^below$", "/etc/issue")
-    machine.forget(image)
+    machine.end("kept")
+    remove_containers(machine)
+    machine.forget(image, kept)
+    wait_until("no server", lambda: not machine.snapshotter.servers())
+
+
+def check_hundreds_of_kills(machine):
+    check_random_kills(machine, 300)
 
 
 CHECKS = (check_the_same_trees, check_images_as_layers, check_one_mount, check_many_at_once,
-          check_daemons_killed,
-          check_servers_killed, check_a_reboot, check_random_kills)
+          check_daemons_killed, check_servers_killed, check_a_reboot, check_random_kills)
+# only where they are asked for
+LONG = (check_hundreds_of_kills,)

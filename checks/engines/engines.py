@@ -1,4 +1,7 @@
-"""Checks with containerd, runc and a registry: python3 checks engines PROGRAM [--measure]
+"""Checks with containerd, runc and a registry: python3 checks engines PROGRAM [NAME..]
+
+A NAME is that of a check, as `many_at_once`; `hundreds_of_kills` runs only by its name. With
+--measure [STARGZ] it measures (checks/engines/measure.py).
 
 All runs in namespaces of its own, which end with it. It needs root, and Debian's packages
 containerd, runc, docker-registry, skopeo, busybox-static, python3-grpcio and python3-protobuf.
@@ -10,6 +13,7 @@ import sys
 import tempfile
 import time
 
+from checks.engines import stargz
 from checks.engines.machine import PROGRAMS, Machine, begin_loopback
 from checks.engines.snapshotters import python_with_grpc
 from checks.shared.mounting import Failed, LeftOut
@@ -66,11 +70,13 @@ def main(words):
         print("engines: left out: no %s here" % ", no ".join(lacking))
         return True
     if INSIDE not in os.environ:
+        if words[1:2] == ["--measure"] and len(words) > 2:
+            words[2] = stargz.built(words[2])
         return go_inside([program, *words[1:]])
     folder = os.environ.pop(INSIDE)
     for place in ("/run", folder):
         # in memory, so that the disk decides nothing
-        subprocess.run(["mount", "-t", "tmpfs", "tmpfs", place], check=True)
+        subprocess.run(["mount", "-t", "tmpfs", "-o", "mode=755", "tmpfs", place], check=True)
     return inside(Machine(program, folder), words)
 
 
@@ -78,12 +84,16 @@ def inside(machine, words):
     from checks.engines import containers, measure, others, pods
     begin_loopback()
     try:
-        machine.start()
         if "--measure" in words:
-            measure.measure(machine)
+            measure.install(machine)
+            machine.start()
+            measure.measure(machine, words[2] if len(words) > 2 else None)
             return True
-        every = [it for it in (*containers.CHECKS, *pods.CHECKS, *others.CHECKS)
-                 if it.__name__[len("check_"):] in words[1:] or not words[1:]]
+        machine.start()
+        every = [*containers.CHECKS, *pods.CHECKS, *others.CHECKS]
+        if words[1:]:
+            every = [it for it in (*every, *containers.LONG)
+                     if it.__name__[len("check_"):] in words[1:]]
         failed = run(every, machine)
         print("engines: %d failed" % failed)
         return failed == 0

@@ -45,6 +45,10 @@ def check_mounts_that_are_gone(snapshotter):
     snapshotter.layer("one", "", fill)
     snapshotter.call("Prepare", key="c", parent="one")
     place = snapshotter.root + "/mounts/1"
+    # one at which nobody has looked, so that the kernel keeps nothing of it
+    os.kill(snapshotter.servers()[0], signal.SIGKILL)
+    wait_until("the mount is dead", lambda: is_dead(place))
+    hold_mount(snapshotter, "c")
     subprocess.run(["umount", place], check=True)
     hold_mount(snapshotter, "c")
     wait_until("one server", lambda: len(snapshotter.servers()) == 1)
@@ -162,7 +166,8 @@ def check_many_at_once(snapshotter):
     """Fifty are prepared and removed at once on one layer: each has a folder of its own, and there
     is one mount."""
     snapshotter.layer("one", "", fill)
-    found = {}
+    snapshotter.settled("one")
+    found, files = {}, snapshotter.open_files()
 
     def one(key):
         mount, = snapshotter.call("Prepare", key=key, parent="one").mounts
@@ -173,6 +178,7 @@ def check_many_at_once(snapshotter):
     hold("mounts", 1, len([it for it in places() if it.startswith(snapshotter.root)]))
     run_all(lambda key: snapshotter.call("Remove", key=key), list(found))
     hold("mounts", 0, len([it for it in places() if it.startswith(snapshotter.root)]))
+    wait_until("open files are as before", lambda: snapshotter.open_files() == files)
 
 
 def run_all(function, keys):
@@ -249,6 +255,9 @@ def check_the_socket_of_systemd(snapshotter):
         snapshotter.connect()
         snapshotter.call("Prepare", key="a")
         hold("names", ["a"], snapshotter.names())
+        # a client that is connected all the time, as containerd is
+        kept = snapshotter.channel
+        snapshotter.connect()
         hold("status", 0, snapshotter.stop())
         hold("told", b"STOPPING=1", ready.recv(100))
         names = []
@@ -258,6 +267,9 @@ def check_the_socket_of_systemd(snapshotter):
         snapshotter.process = start()
         asking.join()
         hold("names", ["a"], names)
+        snapshotter.channel, kept = kept, snapshotter.channel
+        hold("names, by an earlier connection", ["a"], snapshotter.names())
+        kept.close()
 
 
 CHECKS = (check_killed_and_restarted, check_mounts_that_are_gone, check_what_a_killed_one_left,

@@ -54,10 +54,15 @@ def lowest():
         made.entry("dev/fifo", kind=tarfile.FIFOTYPE, mode=0o640)]
 
 
-def layers(odd=False):
-    """Archives of three layers; the odd one has a capability in its second layer, which no image
-    holds."""
-    more = {"SCHILY.xattr.user.colour": "green"} if odd else {}
+# what images are made of beside the plain one: its second layer has an attribute that no image of
+# romfs holds; its third one has hard links over those of the lowest (containerd itself refuses links
+# to files of lower layers alone)
+PLAIN, ODD, LINKED = "plain", "odd", "linked"
+
+
+def layers(kind=PLAIN):
+    """Archives of three layers."""
+    more = {"SCHILY.xattr.user.colour": "green"} if kind == ODD else {}
     second = [
         folder("opt/o", 0o711), entry("opt/o/.wh..wh..opq"), entry("opt/o/new", b"2"),
         folder("etc"),
@@ -70,6 +75,9 @@ def layers(odd=False):
         folder("kind/file"),
         entry("kind/file/now", b"n"), entry("kind/folder", b"a file"),
         entry("kind/link", b"no link")]
+    if kind == LINKED:
+        third += [entry("etc/third", b"anew\n"), hard("home/u/again", "etc/third"),
+                  entry("usr/sudo", b"two names\n", mode=0o4711), hard("etc/passwd", "usr/sudo")]
     return [made.archive(*it) for it in (lowest(), second, third)]
 
 
@@ -87,5 +95,10 @@ class Image:
                 tar.add(os.path.join(path, it), it)
 
     def push(self, host, name):
-        subprocess.run(["skopeo", "copy", "-q", "--dest-tls-verify=false", "oci:%s:1" % self.path,
-                        "docker://%s/%s" % (host, name)], check=True, stdin=subprocess.DEVNULL)
+        push(self.path, host, name)
+
+
+def push(path, host, name):
+    """Copies the image of a layout into a registry."""
+    subprocess.run(["skopeo", "copy", "-q", "--dest-tls-verify=false", "oci:%s:1" % path,
+                    "docker://%s/%s" % (host, name)], check=True, stdin=subprocess.DEVNULL)

@@ -1,12 +1,13 @@
 """Checks of layers: what becomes an image, what a mount of it shows, and what stays a folder."""
 import os
+import shutil
 import subprocess
 import sys
 
 from checks import TOOLS
 from checks.registry import made
 from checks.registry.tree import tree
-from checks.shared.mounting import hold
+from checks.shared.mounting import hold, wait_until
 
 REFERENCE, BLOB = "containerd.io/snapshot.ref", "containerd.io/snapshot/cri.layer-digest"
 # which of the facts of checks/registry/tree.py tells how many names a file has
@@ -204,9 +205,9 @@ def chain_digests(digests):
     return found
 
 
-def hold_ready(snapshotter, blobs):
+def hold_ready(snapshotter, blobs, wanted=None):
     """Holds that layers are committed by Prepare alone, and what they show."""
-    wanted = chain_digests([made.digest(it) for it in archives()])
+    wanted = wanted or chain_digests([made.digest(it) for it in archives()])
     parent = ""
     for chain, blob in zip(wanted, blobs):
         labels = {REFERENCE: chain, **({BLOB: blob} if blob else {})}
@@ -222,14 +223,22 @@ def hold_ready(snapshotter, blobs):
     snapshotter.remove_all()
 
 
+def run_layers(*words):
+    subprocess.run([sys.executable, "-B", TOOLS + "/layers.py", *words], check=True,
+                   stdin=subprocess.DEVNULL, stdout=subprocess.DEVNULL, stderr=subprocess.DEVNULL)
+
+
+def pulled(snapshotter, found):
+    """A store into which an image of these archives is pulled."""
+    layout = made.layout(snapshotter.folder + "/layout", found)
+    run_layers("pull", "--store", snapshotter.folder + "/store", "oci:" + layout.path, "app:1")
+    return snapshotter.folder + "/store"
+
+
 def check_layers_of_a_store(snapshotter):
     """Layers that strata-layers has pulled are neither fetched nor unpacked, also while others use
     the store."""
-    layout = made.layout(snapshotter.folder + "/layout", archives())
-    store = snapshotter.folder + "/store"
-    subprocess.run([sys.executable, "-B", TOOLS + "/layers.py", "pull", "--store", store,
-                    "oci:" + layout.path,
-                    "app:1"], check=True, stdin=subprocess.DEVNULL, stdout=subprocess.DEVNULL)
+    store = pulled(snapshotter, archives())
     hold_ready(snapshotter, [None, None])
     # a store in which others may write is none
     os.chmod(store, 0o777)
@@ -272,15 +281,65 @@ def check_lying_labels(snapshotter):
         snapshotter.call("Remove", key="extract-x")
 
 
+def check_shared_servers(snapshotter):
+    """What stands on layers of the store, and a mount of the store's image by strata-mount --share,
+    have one server, which lasts until the last of them is gone."""
+    store = pulled(snapshotter, archives())
+    parent = ""
+    for chain in chain_digests([made.digest(it) for it in archives()]):
+        snapshotter.fails("ALREADY_EXISTS", "Prepare", key="extract-" + chain, parent=parent,
+                          labels={REFERENCE: chain})
+        parent = snapshotter.names('labels."%s"==%s' % (REFERENCE, chain))[0]
+    place = snapshotter.folder + "/mine"
+    os.mkdir(place)
+    shown = [snapshotter.view(name, parent) for name in ("v", "w")] + [place]
+    subprocess.run([sys.executable, "-B", TOOLS + "/mount.py", "--share", "--strata",
+                    snapshotter.program, "-o", "suid,dev,allow_other,readers=4", "--store", store,
+                    "image:app:1", place], check=True, stdin=subprocess.DEVNULL)
+    hold("servers", 1, len(snapshotter.servers()))
+    for it in shown:
+        hold("paths", [".", "a", "a/two"], sorted(tree(it)))
+    for name in ("v", "w"):
+        snapshotter.call("Remove", key=name)
+    hold("paths", [".", "a", "a/two"], sorted(tree(place)))
+    subprocess.run(["umount", place], check=True)
+    wait_until("no server", lambda: not snapshotter.servers())
+
+
+def image_data(snapshotter, found):
+    """The bytes of the images of archives."""
+    layout = made.layout(snapshotter.folder + "/layout", found)
+    run_layers(layout.path, snapshotter.folder + "/images")
+    data = []
+    for name in sorted(os.listdir(snapshotter.folder + "/images")):
+        with open(os.path.join(snapshotter.folder, "images", name), "rb") as file:
+            data.append(file.read())
+    return data
+
+
+def check_blobs_that_are_images(snapshotter):
+    """Blobs that are archives of one image, at hand and in the store: the image is taken as it is.
+    One that is none, or is not alone, is unpacked."""
+    import gzip
+    first, second = (made.archive(made.entry(".strata.romfs", it))
+                     for it in image_data(snapshotter, archives()))
+    wanted = chain_digests([made.digest(it) for it in (first, second)])
+    blobs = [put_blob(snapshotter, gzip.compress(first)), put_blob(snapshotter, second)]
+    hold_ready(snapshotter, blobs, wanted)
+    for wrong in (made.entry(".strata.romfs", b"no image"),
+                  made.entry(".strata.romfs", b"-rom1fs-" + bytes(100))):
+        archive = made.archive(wrong)
+        labels = {REFERENCE: made.digest(archive), BLOB: put_blob(snapshotter, archive)}
+        snapshotter.call("Prepare", key="extract-1", labels=labels)
+        snapshotter.call("Remove", key="extract-1")
+    shutil.rmtree(snapshotter.folder + "/layout")
+    pulled(snapshotter, [first, second])
+    hold_ready(snapshotter, [None, None], wanted)
+
+
 def check_given_images(snapshotter):
     """A layer of one file that is an image is checked, and taken as it is."""
-    layout = made.layout(snapshotter.folder + "/layout", archives()[:1])
-    subprocess.run([sys.executable, "-B", TOOLS + "/layers.py", layout.path,
-                    snapshotter.folder + "/images"],
-                   check=True, stdin=subprocess.DEVNULL, stdout=subprocess.DEVNULL)
-    image = snapshotter.folder + "/images/00.romfs"
-    with open(image, "rb") as file:
-        data = file.read()
+    data, = image_data(snapshotter, archives()[:1])
     snapshotter.layer("given", "", lambda folder: put(folder, ".strata.romfs", data))
     hold("paths", [".", "a", "a/one"], sorted(tree(snapshotter.view("v", "given"))))
     for wrong in (b"", b"no image", data[:100], data[:40] + b"\xff" * 8 + data[48:]):
@@ -292,4 +351,5 @@ def check_given_images(snapshotter):
 
 CHECKS = (check_a_tree, check_whiteouts_of_all_forms, check_what_images_do_not_hold,
           check_many_layers,
-          check_layers_of_a_store, check_blobs_at_hand, check_lying_labels, check_given_images)
+          check_layers_of_a_store, check_shared_servers, check_blobs_at_hand,
+          check_blobs_that_are_images, check_lying_labels, check_given_images)

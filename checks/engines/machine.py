@@ -31,6 +31,9 @@ state = "{at}/state"
   [proxy_plugins.strata]
     type = "snapshot"
     address = "{at}/s.sock"
+  [proxy_plugins.stargz]
+    type = "snapshot"
+    address = "{at}/z.sock"
 """
 HOST = "127.0.0.1:5000"
 SECONDS = 60

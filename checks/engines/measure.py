@@ -1,8 +1,8 @@
-"""Measures the snapshotter beside containerd's overlayfs: python3 checks engines PROGRAM --measure
+"""Measures the snapshotter beside others: python3 checks engines PROGRAM --measure [STARGZ]
 
-The image is Python of this machine, in four layers. Each figure is of one run; what is compared
-runs by
-turns.
+It prints the table of docs/ENGINES.md. The image is Python of this machine, in four layers. What is
+compared runs by turns; each figure is the median of three rounds. STARGZ is a folder for stargz's
+snapshotter, which is built there if it isn't yet (checks/engines/stargz).
 """
 import os
 import re
@@ -13,16 +13,17 @@ import tarfile
 import threading
 import time
 
-from checks import TOOLS
-from checks.engines import cri, images
-from checks.engines.machine import HOST
+from checks import ROOT
+from checks.engines import cri, images, stargz
+from checks.engines.layers import run_layers
+from checks.engines.machine import HOST, wait_until
 from checks.registry import made
 
 IMAGE = "docker.io/test/python:1"
 # what is put into each layer over busybox's
 LAYERS = (("usr/lib/python3.11", "usr/bin/python3.11"), ("usr/lib/python3",),
           ("usr/share/perl", "usr/lib/git-core"))
-ROUNDS = 5
+ROUNDS, TURNS = 5, 3
 CODE = "import json, email, http.client, xml.dom.minidom, asyncio; print('ok')"
 
 
@@ -59,10 +60,9 @@ def timed(function, *words, **more):
     return time.monotonic() - begin
 
 
-def at_once(machine, count, snapshotter):
+def at_once(machine, count, its):
     """The time until so many containers have run."""
-    threads = [threading.Thread(target=machine.run, args=("m%d" % number, IMAGE, "true"),
-                                kwargs={"snapshotter": snapshotter}) for number in range(count)]
+    threads = [threading.Thread(target=its.run, args=("m%d" % number,)) for number in range(count)]
     begin = time.monotonic()
     for it in threads:
         it.start()
@@ -81,33 +81,96 @@ def disk(path):
                               text=True).stdout.split()[0])
 
 
-def figures(machine, snapshotter, image):
-    found = {}
-    found["import, s"] = timed(machine.bring, image.archive, snapshotter)
-    found["first container after it, s"] = timed(machine.run, "first", IMAGE, "true",
-                                                 snapshotter=snapshotter)
-    machine.begin("stay", IMAGE, "sleep", "1000", snapshotter=snapshotter)
-    starts = [timed(machine.run, "s%d" % number, IMAGE, "true",
-                    snapshotter=snapshotter) for number in range(10)]
-    found["a container, s"] = statistics.median(starts)
-    found["ten at once, s"] = at_once(machine, 10, snapshotter)
-    found["fifty at once, s"] = at_once(machine, 50, snapshotter)
-    for name, words in (("find", ("find", "/usr")),
-                        ("python", ("/usr/bin/python3.11", "-c", CODE))):
+# --- what is compared ---
+
+class Compared:
+    """A snapshotter of a machine, with the image as it takes it."""
+
+    name, image, reference, processes = "overlayfs", IMAGE, HOST + "/python:1", ()
+
+    def __init__(self, machine, archive):
+        self.machine, self.archive = machine, archive
+
+    def root(self):
+        return self.machine.at("containerd/io.containerd.snapshotter.v1.overlayfs")
+
+    def bring(self):
+        self.machine.bring(self.archive, self.name)
+
+    def run(self, name):
+        self.machine.run(name, self.image, "true", snapshotter=self.name)
+
+    def memory(self):
+        """What its processes take, in MiB."""
+        return 0
+
+
+class Strata(Compared):
+    name = "strata"
+
+    def root(self):
+        return self.machine.snapshotter.root
+
+    def memory(self):
+        found = self.machine.snapshotter
+        return sum(map(resident, [*found.servers(), found.process.pid]))
+
+
+class Stargz(Compared):
+    """It mounts what is read on demand of the registry; layers must be of a form of its own."""
+
+    name, image, reference = "stargz", HOST + "/python:lazy", HOST + "/python:lazy"
+
+    def __init__(self, machine, archive, program):
+        super().__init__(machine, archive)
+        os.mkdir(self.root())
+        machine.daemon("stargz", program, self.root(), machine.at("z.sock"), HOST)
+        wait_until("stargz answers", lambda: os.path.exists(machine.at("z.sock")))
+        self.convert()
+
+    def root(self):
+        return self.machine.at("stargz-root")
+
+    def remote(self, *words):
+        subprocess.run(["ctr-remote", "-a", self.machine.at("c.sock"), "images", *words], check=True,
+                       stdin=subprocess.DEVNULL, stdout=subprocess.DEVNULL)
+
+    def convert(self):
+        """Pushes the image in its form."""
+        self.machine.bring(self.archive, "overlayfs")
+        self.remote("convert", "--estargz", "--oci", IMAGE, self.image)
+        self.machine.ctr("images", "push", "--plain-http", self.image)
+        self.machine.ctr("images", "rm", "--sync", IMAGE, self.image)
+
+    def bring(self):
+        self.remote("rpull", "--plain-http", "--snapshotter", self.name, self.image)
+
+    def memory(self):
+        return resident(self.machine.daemons["stargz"].pid)
+
+
+# --- figures ---
+
+def figures(machine, its):
+    found = {"`ctr images import`, s": timed(its.bring)}
+    found["first container after it, s"] = timed(its.run, "first")
+    machine.begin("stay", its.image, "sleep", "1000", snapshotter=its.name)
+    starts = [timed(its.run, "s%d" % number) for number in range(10)]
+    found["a container that runs `true`, s"] = statistics.median(starts)
+    found["ten at once, s"] = at_once(machine, 10, its)
+    found["fifty at once, s"] = at_once(machine, 50, its)
+    for name, words in (("`find /usr` in a container", ("find", "/usr")),
+                        ("Python with five modules", ("/usr/bin/python3.11", "-c", CODE))):
         runs = []
         for number in range(ROUNDS):
-            runs.append(timed(machine.ctr, "task", "exec", "--exec-id", "%s%d" % (name, number),
-                              "stay", *words))
-        found["%s first, s" % name] = runs[0]
-        found["%s again, s" % name] = statistics.median(runs[1:])
-    if snapshotter == "strata":
-        found["memory of servers, MiB"] = sum(map(resident, machine.snapshotter.servers()))
-        found["memory of the snapshotter, MiB"] = resident(machine.snapshotter.process.pid)
-    root = machine.snapshotter.root if snapshotter == "strata" else \
-        machine.at("containerd/io.containerd.snapshotter.v1.overlayfs")
-    found["disk, MiB"] = disk(root)
+            runs.append(timed(machine.ctr, "task", "exec", "--exec-id", "x%d" % number, "stay",
+                              *words))
+        found["%s, first, s" % name] = runs[0]
+        found["the same again, s" + " " * (words[0] == "find")] = statistics.median(runs[1:])
+    found["memory that stays, MiB"] = its.memory()
+    found["disk, MiB"] = disk(its.root())
     machine.end("stay")
-    machine.ctr("images", "rm", "--sync", IMAGE)
+    machine.ctr("images", "rm", "--sync", its.image)
     return found
 
 
@@ -122,45 +185,78 @@ def use(machine, snapshotter):
     machine.start_containerd()
 
 
-def pull(machine):
+def pull(machine, its):
     """The time of a pull by CRI; the image is removed again, with all that was made of it."""
     runtime = cri.Runtime(machine.at("c.sock"))
-    found = timed(runtime.pull, HOST + "/python:1")
-    runtime.remove_image(HOST + "/python:1")
+    found = timed(runtime.pull, its.reference)
+    runtime.remove_image(its.reference)
     machine.forget()
     return found
 
 
-def pulls(machine, image):
-    """Prints the times of pulls by CRI, the last ones with the layers in the store."""
-    image.push(HOST, "python:1")
-    found = {"overlayfs": [], "strata": []}
-    for _ in range(3):
-        for snapshotter, times in found.items():
-            use(machine, snapshotter)
-            times.append(pull(machine))
-    subprocess.run([sys.executable, "-B", TOOLS + "/layers.py", "pull", "--store",
-                    machine.at("store"),
-                    "oci:%s:1" % image.path, "python:1"], check=True, stdin=subprocess.DEVNULL)
-    ready = statistics.median(pull(machine) for _ in range(3))
-    first, other = (statistics.median(it) for it in found.values())
-    print("| pull by CRI, s | %.2f | %.2f | %.2f |" % (first, other, other / first))
-    print("| the same from the store, s | | %.2f | %.2f |" % (ready, ready / first), flush=True)
+def pulls(machine, compared, image):
+    """The times of pulls by CRI, and of those with the layers in the store, by snapshotters."""
+    found = {it.name: [] for it in compared}
+    for _ in range(TURNS):
+        for it in compared:
+            use(machine, it.name)
+            found[it.name].append(pull(machine, it))
+    strata, = (it for it in compared if it.name == Strata.name)
+    use(machine, strata.name)
+    run_layers("pull", "--store", machine.at("store"), "oci:%s:1" % image.path, "python:1")
+    ready = [pull(machine, strata) for _ in range(TURNS)]
+    first = {name: statistics.median(it) for name, it in found.items()}
+    return {"pull by CRI, s": first,
+            "the same with the layers in the store, s": {
+                "overlayfs": first["overlayfs"], strata.name: statistics.median(ready)}}
 
 
-def measure(machine):
+def print_row(title, cells, names):
+    """A row of the table; its last cell says how strata's figure is to that of overlayfs."""
+    values = [cells.get(it) for it in names]
+    ratio = cells["strata"] / cells["overlayfs"] if cells.get("overlayfs") else None
+    print("| %s |" % " | ".join([title.strip(), *map(rounded, values), rounded(ratio)]), flush=True)
+
+
+def rounded(value):
+    """A figure with two digits that count."""
+    if not value:
+        return ""
+    return "%.*f" % (2 if value < 1 else 1 if value < 10 else 0, value)
+
+
+def measure(machine, place):
     image = made_image(machine)
+    image.push(HOST, "python:1")
+    compared = [Compared(machine, image.archive), Strata(machine, image.archive)]
+    if place is not None:
+        compared.append(Stargz(machine, image.archive, place))
     print("image: %d layers, %d MiB packed" % (len(image.layers),
-                                               os.path.getsize(image.archive) >> 20), flush=True)
-    pulls(machine, image)
-    runs = {"overlayfs": [], "strata": []}
-    for _ in range(3):
-        for snapshotter, found in runs.items():
-            found.append(figures(machine, snapshotter, image))
-    for key in runs["strata"][0]:
-        cells = [statistics.median(it[key] for it in found) if key in found[0] else None
-                 for found in runs.values()]
-        ratio = "" if None in cells else "%.2f" % (cells[1] / cells[0])
-        print("| %s | %s | %s |" % (key,
-                                    " | ".join("" if it is None else "%.2f" % it for it in cells),
-                                    ratio))
+                                               os.path.getsize(image.archive) >> 20))
+    names = [it.name for it in compared]
+    print_head(names)
+    for title, cells in pulls(machine, compared, image).items():
+        print_row(title, cells, names)
+    runs = {it.name: [] for it in compared}
+    for _ in range(TURNS):
+        for it in compared:
+            runs[it.name].append(figures(machine, it))
+    for title in runs["strata"][0]:
+        print_row(title, {name: statistics.median(it[title] for it in found)
+                          for name, found in runs.items()}, names)
+
+
+def print_head(names):
+    print("| | %s | strata / overlayfs |" % " | ".join(names))
+    print("|%s" % ("---|" * (len(names) + 2)), flush=True)
+
+
+# --- the machine ---
+
+def install(machine):
+    """Lets the machine run the snapshotter as it is installed, with its modules compiled."""
+    found, place = machine.snapshotter, machine.at("installed")
+    subprocess.run([sys.executable, "-B", ROOT + "/packaging/install.py", found.program, "", place, ""],
+                   check=True, stdin=subprocess.DEVNULL, stdout=subprocess.DEVNULL)
+    found.words = [place + "/bin/strata-snapshotter", *found.words[3:]]
+    found.words.remove("--debug")

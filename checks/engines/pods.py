@@ -27,14 +27,14 @@ def pushed(machine):
     return box
 
 
-def fetched(machine):
-    """The digests of the blobs of `box` that the registry has sent so far."""
+def fetched(machine, name):
+    """The digests of the blobs of an image that the registry has sent so far."""
     found = set()
     with open(machine.at("registry.log"), "rb") as log:
         for line in log:
             it = json.loads(line) if line.startswith(b"{") else {}
             uri = it.get("http.request.uri", "")
-            if it.get("http.request.method") == "GET" and uri.startswith("/v2/box/blobs/"):
+            if it.get("http.request.method") == "GET" and uri.startswith("/v2/%s/blobs/" % name):
                 found.add(uri.rpartition("/")[2])
     return found
 
@@ -80,7 +80,7 @@ def check_layers_in_the_store(machine):
     os.truncate(machine.at("registry.log"), 0)
     runtime = cri.Runtime(machine.at("c.sock"))
     image = runtime.pull(BOX)
-    hold("blobs", 1, len(fetched(machine)))
+    hold("blobs", 1, len(fetched(machine, "box")))
     hold_a_pod(machine, runtime, image)
     for it in (BOX, PAUSE):
         runtime.remove_image(it)

@@ -49,7 +49,9 @@ class Snapshotter:
 
     def connect(self):
         import grpc
-        self.channel = grpc.insecure_channel("unix:" + self.socket)
+        # one that has failed to connect before, and waits for a second, is not taken up
+        self.channel = grpc.insecure_channel("unix:" + self.socket,
+                                             [("grpc.use_local_subchannel_pool", 1)])
 
     def listens(self):
         if self.process.poll() is not None:
@@ -152,6 +154,10 @@ class Snapshotter:
             if words[1:2] == [b"serve"] and words[-2].startswith(os.fsencode(self.root)):
                 found.append(int(name))
         return found
+
+    def open_files(self):
+        """How many files the service has open."""
+        return len(os.listdir("/proc/%d/fd" % self.process.pid))
 
     def left(self):
         """What is left on disk and mounted, but for the state."""

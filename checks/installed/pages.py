@@ -20,7 +20,7 @@ MAN = "/usr/local/share/man/"
 SHARE = "/usr/local/share/"
 SUBCOMMANDS = ("check", "list", "serve", "socket")
 VERBS = ("image", "convert", "pull", "images", "verify", "remove", "prune", "config", "attributes",
-         "podman")
+         "seal", "podman")
 NARROW = 60
 OPTION = re.compile(r"(?<![\w-])(--[a-z][a-z-]*|-[A-Za-z])(?![\w-])")
 COMPLETED = {"bash": SHARE + "bash-completion/completions/%s", "zsh": SHARE + "zsh/site-functions/_%s",

@@ -85,7 +85,7 @@ def test_command(room):
 def test_wrong_words(room):
     """Wrong arguments are reported in one line, which says what is wrong with them, with status 2."""
     place = layout_of(room.name(), [archive([file("a", b"1")])]).path
-    verbs = "neither a directory nor a verb; the verbs are image, convert, pull, images, verify, remove, prune, config, attributes, podman"
+    verbs = "neither a directory nor a verb; the verbs are image, convert, pull, images, verify, remove, prune, config, attributes, seal, podman"
     for line, *words in (
             ("a verb or LAYOUT[:TAG] FOLDER is missing",),
             ("FOLDER for the images of %s is missing" % place, place),

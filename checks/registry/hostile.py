@@ -23,7 +23,7 @@ def hold_nothing(room, what):
 def check_digests(room):
     """A blob with a flipped byte is refused, whichever it is, and the store has no image."""
     good = made.layout(room.name())
-    for packing in ([], ["--compress", "gzip"]):
+    for packing in ([], ["--compress", "gzip"], ["--tar"]):
         romfs = room.name()
         room.layers("convert", *packing, good.path, romfs, store=room.name())
         for place in (good.path, romfs):

@@ -1,5 +1,6 @@
 """Checks of convert and of a store, which need no other program."""
 import gzip
+import io
 import json
 import os
 import re
@@ -7,6 +8,7 @@ import shlex
 import shutil
 import stat
 import subprocess
+import tarfile
 
 from checks import ROOT
 from checks.plain import plain
@@ -88,6 +90,43 @@ def check_compress(room):
         hold("the same bytes", files_of(out), files_of(again))
         room.layers("convert", out, back, store=room.name())
         hold("back", files_of(plain), files_of(back))
+
+
+def hold_archives(layout, images, packed):
+    """Holds that layers are archives of images, each of one file, by another reader of archives."""
+    manifest = layout.json(layout.top)
+    hold("media types", [made.ARCHIVE + packed] * len(images), [it["mediaType"] for it in manifest["layers"]])
+    archives = [unpacked(layout.blob(it), packed) for it in manifest["layers"]]
+    hold("digests of layers", [made.digest(it) for it in archives],
+         layout.json(manifest["config"])["rootfs"]["diff_ids"])
+    for archive, image in zip(archives, images):
+        with tarfile.open(fileobj=io.BytesIO(archive)) as tar:
+            member, = tar.getmembers()
+            hold("name, mode, time", (".strata.romfs", 0o644, 0), (member.name, member.mode, member.mtime))
+            hold("the image", image, tar.extractfile(member).read())
+
+
+def check_archives(room):
+    """With --tar each layer is an archive of its image alone; pull takes the image out of it. An
+    archive of one that isn't one, or of more, is refused."""
+    source, plain = made.layout(room.name()), room.name()
+    room.layers("convert", source.path, plain)
+    images = hold_converted(room, plain, "1", source, "")
+    for packed in ("", "+gzip"):
+        out, again, elsewhere = room.name(), room.name(), room.name()
+        words = ["--tar", *(["--compress", packed[1:]] if packed else [])]
+        room.layers("convert", *words, source.path, out)
+        hold_archives(made.Read(out, "1"), images, packed)
+        room.layers("convert", *words, source.path, again, store=room.name())
+        hold("the same bytes", files_of(out), files_of(again))
+        room.layers("pull", "oci:" + out, "taken:1", store=elsewhere)
+        hold("images", list(map(made.digest, images)),
+             ["sha256:" + os.path.basename(it) for it in mounted_layers(room, "taken:1", elsewhere)])
+    for line, more in (("no image of romfs", [b"text"]), ("no image of romfs", [b""]),
+                       (".strata.romfs is not alone in its archive", [images[0], b"other"])):
+        names = (".strata.romfs", "other")
+        wrong = made.layout(room.name(), [made.archive(*map(made.entry, names, more))])
+        room.refused("layer 0: " + line, "pull", "oci:" + wrong.path, "wrong:1", store=room.name())
 
 
 def check_platforms(room):
@@ -326,5 +365,5 @@ def check_version(room):
     hold("version", "strata-layers %s\n" % version, room.ran("python3", "-B", LAYERS, "--version"))
 
 
-CHECKS = [check_convert, check_compress, check_platforms, check_pull, check_shared, check_rows_of_the_layers_below, check_names,
+CHECKS = [check_convert, check_compress, check_archives, check_platforms, check_pull, check_shared, check_rows_of_the_layers_below, check_names,
           check_config, check_lost, check_other_forms, check_examples_of_the_page, check_version]

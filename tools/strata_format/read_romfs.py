@@ -99,6 +99,17 @@ class ReadImage:
         start = at + 16 + len(romfs.padded_name(self.name_at(at + 16) or b""))
         return self.data[start:min(start + min(found[3], most), self.full)]
 
+    def pieces(self, at, most):
+        """The data of the file, or the target of the link, whose header stands there, in pieces of
+        `most` bytes at most."""
+        start = at + 16 + len(romfs.padded_name(self.name_at(at + 16) or b""))
+        end = min(start + self.header(at)[3], self.full)
+        for here in range(start, end, most):
+            yield self.data[here:min(here + most, end)]
+
+    def is_executable(self, at):
+        return self.data[at + 3] & romfs.EXECUTABLE != 0
+
     def end(self, at):
         """The header that a hard link leads to in the end, or None; any other header itself."""
         seen = set()

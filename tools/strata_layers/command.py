@@ -23,7 +23,7 @@ from strata_format.version import command, version
 from strata_format.words import quoted
 
 VERBS = ("image", "convert", "pull", "images", "verify", "remove", "prune", "config", "attributes",
-         "podman")
+         "seal", "podman")
 HELP_WIDTH = 100
 # what may stand before a layout, by the fields of Lost
 OPTIONS = {"--fail-on-lost": "fails", "--no-xattrs": "bare"}

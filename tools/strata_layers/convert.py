@@ -1,9 +1,11 @@
-"""`convert`: a layout whose layers are images of romfs, made of one whose layers are archives."""
+"""`convert`: a layout whose layers are images of romfs, made of one whose layers are archives. Each
+may stand in an archive of its own, so that any engine pulls it."""
 import hashlib
 import os
 
 from strata_format.progress import Progress
 from strata_format.refused import Refused, shown
+from strata_layers.image_archive import archive_pieces
 from strata_layers.layout_images import PACKED_ROMFS, PARENT, PART, ROMFS, all_images, image_of
 from strata_layers.layout_writer import LayoutWriter, check_tag, split_new_name
 from strata_layers.layouts import INDEXES, MANIFESTS, digest_of
@@ -12,8 +14,16 @@ from strata_layers.store import pieces_of
 from strata_layers.store_layers import Maker
 
 CONFIG = "application/vnd.oci.image.config.v1+json"
+ARCHIVE = "application/vnd.oci.image.layer.v1.tar"
 # what a layer was made of stands in its annotations under this key
 SOURCE = "vnd.strata.layer.source"
+
+
+def hashed(pieces, found):
+    """Pieces that pass by a hash."""
+    for data in pieces:
+        found.update(data)
+        yield data
 
 
 def checked_pieces(layer, number, where, heard):
@@ -29,48 +39,63 @@ def checked_pieces(layer, number, where, heard):
 
 
 class Converter:
-    """Writes images of one layout into another, over a store that is locked."""
+    """Writes images of one layout into another, over a store that is locked. `options` has how
+    layers are packed, and whether each stands in an archive."""
 
-    def __init__(self, maker, target, packing):
-        self.maker, self.target, self.packing, self.store = maker, target, packing, maker.store
+    def __init__(self, maker, target, options):
+        self.maker, self.target, self.store = maker, target, maker.store
+        self.packing, self.is_archive = options.packing, options.tar
+        self.media = ARCHIVE if options.tar else ROMFS
 
     def image(self, image, layers):
         """Writes an image with its layers of the store, a list of images each; the descriptor of
         its manifest."""
-        each = [(it, number) for number, found in enumerate(layers) for it in found]
-        rootfs = {**image.config["rootfs"], "diff_ids": ["sha256:" + it.digits for it, _ in each]}
+        each = [self.layer(it, source_of(image, number)) for number, found in enumerate(layers)
+                for it in found]
+        rootfs = {**image.config["rootfs"], "diff_ids": ["sha256:" + digits for _, digits in each]}
         described = self.target.document(CONFIG, {**image.config, "rootfs": rootfs})
-        found = [self.layer(it, source_of(image, number)) for it, number in each]
         value = {"schemaVersion": 2, "mediaType": MANIFESTS[0], "config": described,
-                 "layers": found}
+                 "layers": [it for it, _ in each]}
         if isinstance(image.manifest.get("annotations"), dict):
             value["annotations"] = image.manifest["annotations"]
         return self.target.document(MANIFESTS[0], value, **platform_of(image))
 
     def layer(self, layer, source):
-        """Writes a layer; its descriptor."""
-        digits, size = self.blob(layer)
-        media = ROMFS + ("+" + self.packing if self.packing else "")
+        """Writes a layer; its descriptor, and the digits of what it is unpacked."""
+        digits, size, unpacked = self.blob(layer)
+        media = self.media + ("+" + self.packing if self.packing else "")
         notes = {SOURCE: source}
         if layer.part:
             notes[PART] = str(layer.part + 1)
         if layer.parent:
             notes[PARENT] = "sha256:" + layer.parent
         return {"mediaType": media, "digest": "sha256:" + digits, "size": size,
-                "annotations": notes}
+                "annotations": notes}, unpacked
 
     def blob(self, layer):
-        """Writes the blob of a layer; its digits and its size."""
+        """Writes the blob of a layer; its digits, its size, and the digits of what it is
+        unpacked."""
         number = self.store.open_layer(layer.digits)
         if number is None:
             raise Refused("%s: a layer was removed meanwhile" % self.store.name)
         try:
+            if self.is_archive:
+                return self.archive_blob(layer, number)
             if self.packing:
-                return self.packed_blob(layer, number)
+                return (*self.packed_blob(layer, number), layer.digits)
             self.target.copy_of(number, layer.digits, layer.size)
-            return layer.digits, layer.size
+            return layer.digits, layer.size, layer.digits
         finally:
             os.close(number)
+
+    def archive_blob(self, layer, number):
+        """The same of a layer that stands in an archive."""
+        found = hashlib.sha256()
+        with Progress("packed", layer.size) as progress:
+            pieces = checked_pieces(layer, number, self.store.name, progress.add)
+            pieces = hashed(archive_pieces(layer.size, pieces), found)
+            digits, size = self.target.blob(packed_pieces(pieces, self.packing))
+        return digits, size, found.hexdigest()
 
     def packed_blob(self, layer, number):
         """The same packed; where it was packed once, and is in the layout still, it is not packed
@@ -122,8 +147,8 @@ def new_name(layout, tag, word):
 
 def convert(store, layout, tag, word, options, lost):
     """Writes the images of a layout that a tag and a platform mean into the layout of a word,
-    `LAYOUT[:TAG]`; its folder and tag. `options` has `platform` (None: this machine's) and
-    `packing`."""
+    `LAYOUT[:TAG]`; its folder and tag. `options` has `platform` (None: this machine's), `packing`
+    and `tar`."""
     folder, new_tag = new_name(layout, tag, word)
     images = images_asked(layout, tag, options.platform)
     with store.locked():
@@ -134,7 +159,7 @@ def convert(store, layout, tag, word, options, lost):
             layers = [maker.layers(layout, image) for image in images]
         lost.settle()
         with LayoutWriter(folder) as target:
-            converter = Converter(maker, target, options.packing)
+            converter = Converter(maker, target, options)
             made = [converter.image(*both) for both in zip(images, layers)]
             if options.platform == "all":
                 value = {"schemaVersion": 2, "mediaType": INDEXES[0], "manifests": made}

@@ -79,18 +79,14 @@ class Maker:
         # what was settled last: of which mode and attributes, and what came of it
         self.settled = (None, None), None
 
-    def put_archive(self, source):
-        """All that is in an archive of tar, which is read to the end of the source."""
-        from strata_layers import tars  # a folder needs none of it
+    def put_archive(self, entries):
+        """All entries of an archive of tar."""
         try:
-            for entry in tars.Tar(source).entries():
+            for entry in entries:
                 self.put_named(entry)
         except Refused as refused:
             self.faults.note(refused)
         self.faults.settle()
-        # what stands behind the archive says nothing, but a packed one has its checksum at the end
-        while source.read(tars.PIECE):
-            pass
 
     def put_named(self, entry):
         """An entry of an archive, whose path its name says."""
@@ -152,7 +148,8 @@ def image_of_archive(source, out, lost):
     """Makes the image of an archive of tar; `source.read(n)` gives at most n bytes of it, and none
     at its end."""
     image = Image(lambda: out, VOLUME_NAME)
-    Maker(image, lost).put_archive(source)
+    Maker(image, lost).put_archive(tars.Tar(source).entries())
+    tars.read_rest(source)
     image.finish()
 
 

@@ -5,10 +5,12 @@ import re
 from strata_format import trailer
 from strata_format.image import Image
 from strata_format.refused import Refused, shown
+from strata_layers import image_archive
 from strata_layers.below import implied
 from strata_layers.image_maker import Maker, is_about_layers_below
 from strata_layers.layouts import PACKED, digest_of
 from strata_layers.packing import Unpacked
+from strata_layers.tars import read_rest
 
 # a volume's name is the digest of the layer's archive, as far as Linux's romfs reads names
 VOLUME_NAME_MOST = 127
@@ -78,17 +80,30 @@ class LayerWriter:
         said = known or (self.archive if is_good else None)
         is_hashed = known is None and (self.is_checked or said is None)
         source = Unpacked(blob, packing, is_hashed)
-        image = Image(new_file, volume_name(said or NO_DIGEST), IMAGE_MOST, is_about_layers_below)
         try:
-            Maker(image, lost, "layer %d: " % self.number).put_archive(source)
+            image = self.write_archive(source, new_file, volume_name(said or NO_DIGEST), lost)
+            read_rest(source)
         finally:
             source.close()
         digest = source.digest() if is_hashed else known
         if self.is_checked and digest != self.archive:
             raise Refused("its archive's digest is %s, and the image's configuration says %s"
                           % (digest, shown(self.archive)))
+        if image is None:
+            return []
         if said is None:
             image.name_volume(volume_name(digest))
         found = filled(implied(image.root), below)
         image.finish()
         return found
+
+    def write_archive(self, source, new_file, name, lost):
+        """Writes what is in an archive; the image that is to be finished, or None where the archive
+        is one of an image, which is whole."""
+        entries, is_image = image_archive.opened(source)
+        if is_image:
+            image_archive.write_image(entries, new_file())
+            return None
+        image = Image(new_file, name, IMAGE_MOST, is_about_layers_below)
+        Maker(image, lost, "layer %d: " % self.number).put_archive(entries)
+        return image

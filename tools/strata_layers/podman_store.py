@@ -39,8 +39,8 @@ def data_name(name):
 class ImageStore:
     """The store of one image in a new or an empty folder."""
 
-    def __init__(self, folder, name, image):
-        self.folder, self.image = folder, image
+    def __init__(self, folder, name, image, store):
+        self.folder, self.word, self.image, self.store = folder, name, image, store
         self.name = "%s%s:%s" % (NAMED, *split_image(name))
         layers = "".join(it.digits for it in image.layers).encode()
         self.layer = digits_of(layers)
@@ -76,7 +76,8 @@ class ImageStore:
             os.close(number)
 
     def write(self):
-        """Writes all but what the mount shows; images.json comes last."""
+        """Writes all but what the mount shows, images.json last; the image, and where it is to be
+        mounted."""
         if os.path.isdir(self.folder) and os.listdir(self.folder):
             raise Refused("%s: is not empty" % shown(self.folder))
         short = base64.b32encode(bytes.fromhex(self.layer)).decode()[:SHORT_MOST]
@@ -91,6 +92,7 @@ class ImageStore:
             self.put("overlay-images/%s/%s" % (image, data_name(name)), data)
         self.put("overlay-images/images.lock", b"")
         self.put("overlay-images/images.json", json.dumps([self.image_said(image)]).encode())
+        return [(["--store", self.store.place, "image:" + self.word], self.mount_place())]
 
     def data(self):
         return {"manifest": self.manifest,

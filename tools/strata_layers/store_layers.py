@@ -5,11 +5,12 @@ import contextlib
 import json
 import os
 
-from strata_format import romfs, trailer
+from strata_format import trailer
 from strata_format.files import copy_front, write_all
 from strata_format.read_romfs import ReadImage
 from strata_format.refused import Refused, shown
 from strata_layers.below import Below
+from strata_layers.image_archive import image_pieces
 from strata_layers.layer_images import LayerWriter, read_blob
 from strata_layers.layout_images import PACKED_ROMFS
 from strata_layers.layouts import LAYERS_MOST, PACKED, digest_of
@@ -262,15 +263,10 @@ def unpack_layer(layout, number, it, file):
 def write_unpacked(blob, it, file):
     # what is not packed is hashed as the blob
     is_hashed = PACKED_ROMFS[it.media] != "" or it.algorithm != "sha256"
-    source, size = Unpacked(blob, PACKED_ROMFS[it.media], is_hashed, UNPACKED_MOST), 0
+    source = Unpacked(blob, PACKED_ROMFS[it.media], is_hashed, UNPACKED_MOST)
     try:
-        for data in iter(lambda: source.read(PIECE), b""):
-            if size == 0 and not data.startswith(romfs.MAGIC):
-                raise Refused("not a romfs image")
-            size += len(data)
+        for data in image_pieces(iter(lambda: source.read(PIECE), b"")):
             write_all(file, data)
     finally:
         source.close()
-    if size == 0:
-        raise Refused("not a romfs image")
     return source.digest().partition(":")[2] if is_hashed else it.digits

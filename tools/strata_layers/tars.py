@@ -110,6 +110,13 @@ def pax_records(data):
         at = end
 
 
+def read_rest(source):
+    """Reads what stands behind an archive: it says nothing, but what is packed has its checksum at
+    the end."""
+    while source.read(PIECE):
+        pass
+
+
 class Tar:
     """An archive that is read from a source."""
 

@@ -30,8 +30,11 @@ HELP = {
               " with these options of bwrap; or arguments for podman run.",
     "attributes": "Adds the modes, owners and times of all files in FOLDER to the image that"
                   " genromfs made of it, or replaces those that were added before.",
+    "seal": "Writes the fs-verity tree of each image to IMAGE.verity, as"
+            " fsverity digest --out-merkle-tree does, and prints the image's fs-verity digest.",
     "podman": "Makes DIR, which must be new or empty, an additional image store for podman, with one"
-              " image of the store; prints the command that mounts its files there.",
+              " image of the store; prints the command that mounts its files there. With --layers it"
+              " becomes an additional layer store, with a mount for each layer.",
 }
 
 # options of one field: of these at most one may be said

@@ -34,6 +34,9 @@ WORDS = {
         "metavar": "PLATFORM", "type": platform_or_all, "help": PLATFORM + "; all for every one"}),
         ("--compress", {"dest": "packing", "choices": ("gzip", "zstd"), "default": "",
                         "help": "compress layers; pull decompresses them once"}),
+        ("--tar", {"action": SWITCH,
+                   "help": "write each layer as a tar archive of its image, which containerd pulls"
+                           " and strata-snapshotter takes"}),
         ("layout", {"metavar": "LAYOUT[:TAG]"}), ("new_layout", {"metavar": "LAYOUT2[:TAG2]"})],
     "pull": [STORE, LEAVE_OUT, FAIL_ON_LOST, NO_XATTRS, ("--platform", {
         "metavar": "PLATFORM", "type": platform_asked, "help": PLATFORM}),
@@ -52,9 +55,15 @@ WORDS = {
                      "help": "an option of bwrap, such as --ro-bind /mnt /"})],
     "attributes": [FAIL_ON_LOST, NO_XATTRS, ("folder", {"metavar": "FOLDER"}),
                    ("image", {"metavar": "IMAGE"})],
-    "podman": [STORE, NAME, ("folder", {"metavar": "DIR"})],
+    "seal": [("--hash-alg", {
+        "dest": "algorithm", "choices": ("sha256", "sha512"), "default": "sha256",
+        "help": "the algorithm of the digests (default: %(default)s)"}),
+        ("images", {"metavar": "IMAGE", "nargs": "+"})],
+    "podman": [STORE, NAME, ("folder", {"metavar": "DIR"}), ("--layers", {
+        "action": SWITCH, "help": "make an additional layer store: podman pull then fetches no layer"
+                                  " of the image"})],
 }
-REST, MAYBE = "...", "?"
+SEVERAL, MAYBE = ("...", "+"), "?"
 
 
 def field_of(name, how):
@@ -80,7 +89,7 @@ def read(verb, words):
     least = sum(how.get("nargs") != MAYBE for _, how in others)
     try:
         reader = Reader(flags, valued).read(words)
-        if any(how.get("nargs") == REST for _, how in others):
+        if any(how.get("nargs") in SEVERAL for _, how in others):
             return None
         if not least <= len(reader.names) <= len(others):
             return None

@@ -1,5 +1,5 @@
 """The verbs of strata-layers: image, convert, pull, images, verify, remove, prune, config,
-attributes, podman."""
+attributes, seal, podman."""
 import os
 
 from strata_format import ends
@@ -122,21 +122,30 @@ def run_attributes(asked):
     return 0
 
 
+def run_seal(asked):
+    from strata_layers.seal import seal_image
+    for image in asked.images:
+        print_line("%s %s" % (seal_image(image, asked.algorithm), image))
+    return 0
+
+
 def run_podman(asked):
+    from strata_layers.podman_layers import LayerStore
     from strata_layers.podman_store import ImageStore
     from strata_layers.store_images import full_name, image_in
     store = store_of(asked)
     name = full_name(store, asked.name)
-    made = ImageStore(os.path.abspath(asked.folder), name, image_in(store, name))
-    made.write()
-    words = [command("mount"), "--background", "-o", "allow_other,suid,dev", "--store", store.place]
-    print_line(quoted([*words, "image:" + name, made.mount_place()]))
+    kind = LayerStore if asked.layers else ImageStore
+    made = kind(os.path.abspath(asked.folder), name, image_in(store, name), store)
+    for images, place in made.write():
+        words = [command("mount"), "--background", "-o", "allow_other,suid,dev", *images, place]
+        print_line(quoted(words))
     return 0
 
 
 RUNS = {"image": run_image, "convert": run_convert, "pull": run_pull, "images": run_images,
         "verify": run_verify, "remove": run_remove, "prune": run_prune, "config": run_config,
-        "attributes": run_attributes, "podman": run_podman}
+        "attributes": run_attributes, "seal": run_seal, "podman": run_podman}
 
 
 def run(verb, words):

@@ -10,6 +10,8 @@ import os
 import stat
 import struct
 
+from strata_format.image_files import LOOKING, read_once
+
 MAGIC, HEAD_SIZE = b"-attr01-", 16
 SIZE, ROW = struct.Struct(">8xI"), struct.Struct(">I28x")
 # so many rows are read at once, and of a trailer at most so many that a stranger's takes no time
@@ -70,11 +72,13 @@ class Trailer:
 
 def cold_ones(images):
     """The trailers of those images, open, that the page cache does not hold. Whatever is no file is
-    left out."""
+    left out; a pipe is not even opened, since its writer would take that for its reader."""
     found = []
     for image in images:
         try:
-            number = os.open(image, os.O_RDONLY | os.O_NONBLOCK | os.O_CLOEXEC)
+            if read_once(image) is not None:
+                continue
+            number = os.open(image, LOOKING)
         except OSError:
             continue
         trailer = Trailer(number) if stat.S_ISREG(os.fstat(number).st_mode) else None

@@ -31,8 +31,8 @@ ANY_PLACE = os.O_PATH | os.O_DIRECTORY | os.O_NOFOLLOW | os.O_CLOEXEC
 
 def identity_of(plan):
     """What a plan would show, as bytes: the images' files, by device, inode, size and times, and
-    all options; None where an image is no file, or is missing. A layer of a store never changes, so
-    that its file stands for its digest."""
+    all options, whatever the images are called; None where an image is no file, or is missing. A
+    layer of a store never changes, so that its file stands for its digest."""
     files = []
     for image in plan.images:
         try:
@@ -43,7 +43,7 @@ def identity_of(plan):
             return None
         files.append((it.st_dev, it.st_ino, it.st_size, it.st_mtime_ns, it.st_ctime_ns))
     program = os.stat(plan.program)
-    options = mounting.option_words(plan), plan.words, plan.source, plan.keeps_privileges
+    options = mounting.option_words(plan), plan.words, plan.keeps_privileges
     return repr((files, options, program.st_dev, program.st_ino, program.st_mtime_ns)).encode()
 
 
@@ -149,8 +149,7 @@ def joinable(plan, note):
     """The mounts in this namespace that show what a plan would show."""
     devices = [device for device, _ in note.live()]
     for it in mounts(KIND) if devices else ():
-        is_alike = it.root == "/" and it.source == plan.source
-        if is_alike and it.is_of(os.geteuid()) and it.device in devices:
+        if it.root == "/" and it.is_of(os.geteuid()) and it.device in devices:
             yield it
 
 

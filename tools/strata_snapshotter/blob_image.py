@@ -9,11 +9,13 @@ import os
 import re
 
 from strata_format.image import Image
+from strata_layers import image_archive
 from strata_layers.below import Below, implied
 from strata_layers.image_maker import Maker
 from strata_layers.layer_images import filled, volume_name
 from strata_layers.layouts import Blob, Descriptor, digest_of
 from strata_layers.packing import Unpacked
+from strata_layers.tars import read_rest
 from strata_snapshotter.whole import Nothing
 
 DIGEST = re.compile(r"sha256:([0-9a-f]{64})")
@@ -59,21 +61,31 @@ def packing_of(number):
 
 def write_blob_image(path, descriptor, out, lowers):
     """Writes the image of a blob to an open file, as the layer over those in open files `lowers`,
-    the lowest first; the digest of its archive. Refused where the blob is damaged, or an image does
-    not hold all of the layer."""
-    below = Below()
-    for number in lowers:
-        below.add(number)
-    blob, image = Blob(path, descriptor), Image(lambda: out, volume_name(digest_of(descriptor)))
+    the lowest first; the digest of its archive, and whether that is one of an image, which is taken
+    as it is. Refused where the blob is damaged, or an image does not hold all of the layer."""
+    blob = Blob(path, descriptor)
     try:
         source = Unpacked(blob, packing_of(blob.file.fileno()), True)
         try:
-            Maker(image, Nothing()).put_archive(source)
+            entries, is_image = image_archive.opened(source)
+            if is_image:
+                image_archive.write_image(entries, out)
+            else:
+                write_entries(entries, digest_of(descriptor), out, lowers)
+            read_rest(source)
         finally:
             source.close()
         blob.settle()
     finally:
         blob.close()
+    return source.digest(), is_image
+
+
+def write_entries(entries, digest, out, lowers):
+    """Writes the image of an archive's entries."""
+    below, image = Below(), Image(lambda: out, volume_name(digest))
+    for number in lowers:
+        below.add(number)
+    Maker(image, Nothing()).put_archive(entries)
     filled(implied(image.root), below)
     image.finish()
-    return source.digest()

@@ -1,47 +1,40 @@
 """The mounts of strata: one for each chain of layers, shared by all that stand on it.
 
-Each is served by a process of its own, which goes on when this one ends. A mount whose server has
-ended is unmounted and made anew when it is needed again.
+strata-mount makes them, by --share: chains of the same images have one server, and so has whoever
+else shares these images with the same options. The server is a process of its own, which goes on
+when this one ends. A mount whose server has ended is unmounted and made anew when it is needed
+again.
 """
 import collections
 import contextlib
 import os
 import subprocess
+import sys
 import threading
 
-from strata_mount.device import answers, mounted_by_kernel, take_away
+from strata_format.version import TOP
+from strata_mount.device import answers, take_away
 from strata_mount.mount_table import mounts
-from strata_mount.mounting import serve_words
-from strata_mount.plan import Plan
 from strata_snapshotter.faults import Unavailable
 
-WORDS = ("ro", "suid", "dev", "default_permissions", "allow_other")
-READERS = min(4, os.cpu_count() or 1)
+# as strata-mount is called, from the folder of its modules
+MOUNT = ("import sys; sys.path.insert(0, sys.argv.pop(1)); from strata_mount.command import main; "
+         "sys.exit(main(sys.argv[1:], 'strata-mount'))")
+# fixed, so that whoever says the same shares the server: as many readers as most machines can use
+WORDS = "suid,dev,allow_other,modeless,readers=4"
 
 
 def mount_chain(program, images, place):
-    """Mounts images, the lowest first, at a place; the process that serves them. Unavailable with
-    strata's own line where it doesn't."""
-    plan = Plan(program=program, images=images, folder=place, words=WORDS, readers=READERS)
-    with open(os.memfd_create("errors"), "w+b", 0) as errors:
-        device = mounted_by_kernel(plan)
-        if device is None:
-            raise Unavailable("nothing may be mounted here: %s" % place)
-        try:
-            server = subprocess.Popen(serve_words(plan), stdin=device, stdout=device, stderr=errors,
-                                      start_new_session=True, cwd="/", env={})
-        except OSError:
-            take_away(place)
-            raise
-        finally:
-            os.close(device)
-        if answers(place):
-            return server
-        take_away(place)
-        server.wait()
-        errors.seek(0)
-        said = errors.read().decode(errors="replace").strip()
-        raise Unavailable("strata doesn't serve %s: %s" % (images[-1], said or server.returncode))
+    """Shows images, the lowest first, at a place. Unavailable with strata's own line where that
+    can't be."""
+    words = [sys.executable, "-IBS", "-c", MOUNT, TOP, "--share", "-o", WORDS, "--strata", program,
+             *images, place]
+    done = subprocess.run(words, stdin=subprocess.DEVNULL, stdout=subprocess.DEVNULL,
+                          stderr=subprocess.PIPE, cwd="/", env={}, start_new_session=True)
+    # what an earlier snapshotter has begun may have come first
+    if done.returncode != 0 and not is_served(place):
+        said = done.stderr.decode(errors="replace").strip() or done.returncode
+        raise Unavailable("strata doesn't serve %s: %s" % (images[-1], said))
 
 
 def is_served(place):
@@ -59,7 +52,7 @@ class ChainMounts:
 
     def __init__(self, places, program):
         self.places, self.program = places, program
-        self.lock, self.servers = threading.Lock(), []
+        self.lock = threading.Lock()
         # who is about to stand on a mount holds it: until then nothing says that it is used
         self.held, self.locks = collections.Counter(), collections.defaultdict(threading.Lock)
 
@@ -80,19 +73,17 @@ class ChainMounts:
         with self.lock:
             own = self.locks[layer]
         with own:
-            os.makedirs(place, 0o700, exist_ok=True)
+            with contextlib.suppress(FileExistsError):
+                os.mkdir(place, 0o700)
             if not is_served(place):
                 clear(place)
-                server = mount_chain(self.program, images, place)
-                with self.lock:
-                    self.servers.append(server)
+                mount_chain(self.program, images, place)
         return place
 
     def release(self, used):
         """Unmounts the mounts of all layers but those that are used or held. A server whose mount
         is still part of a container's root goes on until that is gone, too."""
         with self.lock:
-            self.servers = [it for it in self.servers if it.poll() is None]
             unused = self.places.numbers("mounts") - used - {*+self.held}
             owns = [(it, self.locks[it]) for it in unused]
         for layer, own in owns:

@@ -57,19 +57,21 @@ def serve(words):
     path = words.socket if given is None else held.at("grpc.sock")
     os.makedirs(os.path.dirname(path) or ".", 0o700, exist_ok=True)
     sockets.clear(path)
-    ready = ReadyLayers(held, StoreLayers(words.store), Content(words.content))
-    snapshots = Snapshots(held, words.program or version.program(), ready)
+    program = os.path.abspath(words.program or version.program())
+    ready = ReadyLayers(held, StoreLayers(words.store), Content(words.content), program)
+    snapshots = Snapshots(held, program, ready)
     server = service.server_of(snapshots)
     try:
         server.add_insecure_port("unix:" + os.path.abspath(path))
     except RuntimeError as fault:
         raise Refused("%s: %s" % (path, fault)) from None
     server.start()
-    if given is not None:
-        sockets.pass_all_on(given, path)
+    passing = None if given is None else sockets.Passing(given, path)
     sockets.tell("READY=1")
     done.wait()
     sockets.tell("STOPPING=1")
+    if passing is not None:
+        passing.stop()
     server.stop(GRACE).wait()
     snapshots.close()
     # threads that wait for an image would be waited for

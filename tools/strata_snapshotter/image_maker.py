@@ -10,18 +10,16 @@ import logging
 import os
 import secrets
 import sqlite3
-import stat
-import subprocess
 import threading
 
 from strata_format.refused import Refused
 from strata_snapshotter import places
 from strata_snapshotter.faults import InvalidArgument, Unavailable
 from strata_snapshotter.folder_image import write_folder_image
+from strata_snapshotter.given_image import given_image, hold_image
 from strata_snapshotter.state import Form
 
 LAYERS_MOST = 128
-GIVEN = ".strata.romfs"
 # seconds until it is looked whether who waits is still there, and until a fault is tried again
 LOOKING, AGAIN = 1, 5
 
@@ -142,14 +140,6 @@ class ImageMaker:
 
     # --- layers that are given as images ---
 
-    def given_image(self, snapshot):
-        """The path of the image that a snapshot holds alone, or None."""
-        files = self.places.files(snapshot.id)
-        if os.listdir(files) != [GIVEN]:
-            return None
-        path = os.path.join(files, GIVEN)
-        return path if stat.S_ISREG(os.lstat(path).st_mode) else None
-
     def take_given(self, snapshot, given, name, labels):
         """Commits the image that a snapshot holds at a path, once it is checked."""
         if snapshot.parent is not None:
@@ -165,12 +155,10 @@ class ImageMaker:
 
     def hold_checked(self, path, name):
         """Sees that a file is an image that strata mounts, and puts it on the disk."""
-        done = subprocess.run([self.program, "check", "--attributes", path],
-                              stdin=subprocess.DEVNULL, stdout=subprocess.DEVNULL,
-                              stderr=subprocess.PIPE)
-        if done.returncode != 0:
-            why = done.stderr.decode(errors="replace").strip().replace(path, GIVEN)
-            raise InvalidArgument("snapshot %s: %s" % (name, why or done.returncode))
+        try:
+            hold_image(self.program, path)
+        except Refused as refused:
+            raise InvalidArgument("snapshot %s: %s" % (name, refused)) from None
         with open(path, "rb", 0) as file:
             os.fsync(file.fileno())
 

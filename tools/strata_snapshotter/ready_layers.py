@@ -9,6 +9,7 @@ import os
 
 from strata_format.refused import Refused
 from strata_snapshotter.blob_image import chain_digest, is_digest, write_blob_image
+from strata_snapshotter.given_image import hold_image
 
 REFERENCE = "containerd.io/snapshot.ref"
 BLOB = "containerd.io/snapshot/cri.layer-digest"
@@ -24,8 +25,9 @@ def chain_of(snapshot):
 class ReadyLayers:
     """The layers of a store and of a content store, for a snapshotter's places."""
 
-    def __init__(self, held, store, content):
+    def __init__(self, held, store, content, program):
         self.places, self.store, self.content = held, store, content
+        self.program = program
 
     def is_there(self, labels):
         """Whether a layer is in the store, or its blob at hand."""
@@ -46,10 +48,10 @@ class ReadyLayers:
             finally:
                 os.close(number)
             return True
-        return self.write_blob(chain, labels.get(BLOB), parent, images, file)
+        return self.write_blob(chain, labels.get(BLOB), parent, images, file, path)
 
-    def write_blob(self, chain, digest, parent, images, out):
-        """The same of a blob that is at hand, to an open file."""
+    def write_blob(self, chain, digest, parent, images, out, path):
+        """The same of a blob that is at hand."""
         found, below = self.content.find(digest), None
         if found is None:
             return False
@@ -60,7 +62,9 @@ class ReadyLayers:
         files = []
         try:
             files += [open(path, "rb", 0) for path in images]
-            archive = write_blob_image(*found, out, [it.fileno() for it in files])
+            archive, is_image = write_blob_image(*found, out, [it.fileno() for it in files])
+            if is_image:
+                hold_image(self.program, path)
         except (Refused, OSError) as refused:
             logging.info("%s is unpacked: %s", digest, refused)
             return False

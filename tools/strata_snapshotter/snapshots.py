@@ -19,6 +19,7 @@ from strata_snapshotter.chain_mounts import ChainMounts
 from strata_snapshotter.faults import (
     AlreadyExists, FailedPrecondition, InvalidArgument, NotFound)
 from strata_snapshotter.filters import any_of
+from strata_snapshotter.given_image import given_image
 from strata_snapshotter.image_maker import LAYERS_MOST, ImageMaker
 from strata_snapshotter.ready_layers import REFERENCE
 from strata_snapshotter.state import Form, Kind, Lower, State
@@ -221,7 +222,7 @@ class Snapshots:
         """Makes a committed snapshot of an active one, under a new name."""
         with self.lock:
             snapshot = self.committable(name, key)
-            given = self.maker.given_image(snapshot)
+            given = given_image(self.places.files(snapshot.id))
         if given is not None:
             self.maker.take_given(snapshot, given, name, labels)
         else:

@@ -5,6 +5,7 @@ it are passed on to that, so none is refused while the service restarts.
 """
 import contextlib
 import os
+import select
 import socket
 import stat
 import threading
@@ -79,11 +80,23 @@ def joined(outer, path):
             back.join()
 
 
-def pass_all_on(listening, path):
+class Passing:
     """Joins each connection to a listening socket to one to the socket at a path, in threads."""
-    def accept():
-        while True:
-            connection, _ = listening.accept()
-            threading.Thread(target=joined, args=(connection, path), daemon=True).start()
 
-    threading.Thread(target=accept, daemon=True).start()
+    def __init__(self, listening, path):
+        self.listening, self.path = listening, path
+        self.stopped, self.stopping = os.pipe()
+        self.accepting = threading.Thread(target=self.accept, daemon=True)
+        self.accepting.start()
+
+    def accept(self):
+        while self.stopped not in select.select([self.listening, self.stopped], [], [])[0]:
+            connection, _ = self.listening.accept()
+            threading.Thread(target=joined, args=(connection, self.path), daemon=True).start()
+
+    def stop(self):
+        """Leaves the connections that come from now on to the next service. One that this service
+        took and closed would have its client wait before it tries again, and fail calls
+        meanwhile."""
+        os.write(self.stopping, b"\0")
+        self.accepting.join()

@@ -1,5 +1,5 @@
 # fish completion for strata-layers(1)
-set -l verbs image convert pull images verify remove prune config attributes podman
+set -l verbs image convert pull images verify remove prune config attributes seal podman
 set -l stored convert pull images verify remove prune config
 complete -c strata-layers -n "not __fish_seen_subcommand_from $verbs" -a image -d 'Make an image from a directory'
 complete -c strata-layers -n "not __fish_seen_subcommand_from $verbs" -a convert -d 'Write a layout of romfs images'
@@ -10,6 +10,7 @@ complete -c strata-layers -n "not __fish_seen_subcommand_from $verbs" -a remove 
 complete -c strata-layers -n "not __fish_seen_subcommand_from $verbs" -a prune -d 'Remove unused layers'
 complete -c strata-layers -n "not __fish_seen_subcommand_from $verbs" -a config -d 'Print how to run an image'
 complete -c strata-layers -n "not __fish_seen_subcommand_from $verbs" -a attributes -d 'Add modes, owners and times to an image'
+complete -c strata-layers -n "not __fish_seen_subcommand_from $verbs" -a seal -d 'Write the fs-verity tree of an image'
 complete -c strata-layers -n "not __fish_seen_subcommand_from $verbs" -a podman -d 'Make an image store for podman'
 complete -c strata-layers -n "not __fish_seen_subcommand_from $verbs" -l version -d 'Print the version'
 complete -c strata-layers -n "__fish_seen_subcommand_from image" -l upper -d 'The upper directory of an overlayfs mount'
@@ -23,3 +24,6 @@ complete -c strata-layers -n "__fish_seen_subcommand_from convert" -l compress -
 complete -c strata-layers -n "__fish_seen_subcommand_from config" -l bwrap -d 'Print a command of bwrap'
 complete -c strata-layers -n "__fish_seen_subcommand_from config" -l as-caller -d 'Keep the rights of the caller'
 complete -c strata-layers -n "__fish_seen_subcommand_from config" -l podman -d 'Print arguments for podman'
+complete -c strata-layers -n "__fish_seen_subcommand_from seal" -l hash-alg -x -a 'sha256 sha512' -d 'Select the algorithm of the digests'
+complete -c strata-layers -n "__fish_seen_subcommand_from convert" -l tar -d 'Write layers for containerd'
+complete -c strata-layers -n "__fish_seen_subcommand_from podman" -l layers -d 'Make a layer store'

@@ -1,0 +1,5 @@
+pub mod Fans
+pub mod Levels
+pub mod Binding
+pub mod Files
+pub mod Filled

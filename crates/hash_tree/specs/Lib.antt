@@ -1,0 +1,5 @@
+pub mod Tree
+pub mod File
+pub mod Vouched
+pub mod Twins
+pub mod Digests

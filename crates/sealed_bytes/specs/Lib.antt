@@ -1,0 +1,4 @@
+pub mod Seal
+pub mod Read
+pub mod Kept
+pub mod Honest
