@@ -123,7 +123,7 @@ fn put_held<A: Allocator, O: Allocator>(
     ensures { Appends result out.old out.new
         (reply_with unique (node_data table.now node.now offset len)) }
 {
-    let Some(view) = table.layers().view(node.place.layer as usize) else {
+    let Some(view) = table.view(node.place.layer as usize) else {
         return put_data(out, unique, &[]);
     };
     // no part ends beyond what a u32 says, since no image does

@@ -1,2 +1,4 @@
 pub mod TakenApart
 pub mod Files
+pub mod Unread
+pub mod Loads

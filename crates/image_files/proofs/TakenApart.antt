@@ -1,58 +1,31 @@
--- Images that are taken apart one after another: `none_apart` before the first, `one_apart` at each,
--- `all_apart` where none is left.
-use Rattle.std.proofs.Common.{◌≡◌, ◌∙◌, sym, ap, subst, ℕ, List, [], ◌∷◌, ◌++◌, length, map, arith, refl, append_assoc, append-nil}
-use Rattle.std.proofs.lemmas.List.{map-append}
-use Rattle.std.proofs.lemmas.List.Elements.{All-nil, All-push}
+-- Images that are taken apart one after another: the step at each, and the end.
+use Rattle.std.proofs.Common.{◌≡◌, ◌∙◌, ap, arith, refl, List, [], ◌∷◌, ◌++◌, append_assoc, append-nil, length, map, Option, Some, None, sym}
 use Rattle.image_files.specs.declared.image_data.ImageData.{ImageData}
-use Rattle.image_files.specs.Data.{known_bytes}
-use Rattle.image_files.specs.Opened.{Opened, WasGathered, IsFaithful, AreParts, AreApart}
+use Rattle.image_files.specs.declared.loaded.LoadedImage.{LoadedImage}
+use Rattle.image_files.specs.Loaded.{added, before, files_of}
 
--- of all images, those before the ones that are left are taken apart
-pub record IsPartApart {F A : Type 0} (all left : List Opened) (kept : List (List ℕ)) (sources : List (ImageData F A)) : Type 0 where
-  pub taken : List Opened
-  pub split : all ≡ taken ++ left
-  pub apart : AreApart taken kept sources
+-- what is held of the next one goes to what is held of those that are done
+pub one_held : {X Y : Type 0} (f : X → Y) (all done now : List Y) (left rest : List X) (x : X) → all ≡ done ++ map f left
+    → left ≡ x ∷ rest → now ≡ done ++ f x ∷ [] → all ≡ now ++ map f rest
+one_held f all done now left rest x e l n =
+    e ∙ ap (λ xs. done ++ map f xs) l ∙ sym (append_assoc done (f x ∷ []) (map f rest)) ∙ ap (λ ys. ys ++ map f rest) (sym n)
 
--- before the first none is
-pub none_apart : {F A : Type 0} (all : List Opened) → IsPartApart {F = F} {A = A} all all [] []
-none_apart all = record {
-  taken = [];
-  split = refl;
-  apart = record { kept_are = refl; known_are = refl; gathered = All-nil IsFaithful };
-}
+added_before : {T : Type 0} (list rest : List T) (value : Option T) → list ++ before value rest ≡ added list value ++ rest
+added_before list rest None = refl
+added_before list rest (Some value) = sym (append_assoc list (value ∷ []) rest)
 
-faithful : {F A : Type 0} (image : Opened) (kept : List ℕ) (source : ImageData F A) → AreParts image kept source → IsFaithful image
-faithful image kept source p =
-    subst (λ xs. WasGathered image.trailers image.known xs) p.kept_is
-    (subst (λ known. WasGathered image.trailers known kept) p.known_is p.gathered)
+-- and what its data are read from
+pub one_file : {F A : Type 0} (all done now : List (ImageData F A)) (left rest : List (LoadedImage F A)) (image : LoadedImage F A)
+    → all ≡ done ++ files_of left → left ≡ image ∷ rest → now ≡ added done image.source → all ≡ now ++ files_of rest
+one_file all done now left rest image e l n =
+    e ∙ ap (λ xs. done ++ files_of xs) l ∙ added_before done (files_of rest) image.source ∙ ap (λ ys. ys ++ files_of rest) (sym n)
 
--- the parts of the next one go to the others
-pub one_apart : {F A : Type 0} {all left : List Opened} {kept : List (List ℕ)} {sources : List (ImageData F A)} (rest : List Opened)
-    (next : Opened) (its_kept : List ℕ) (its_source : ImageData F A) → IsPartApart all left kept sources → left ≡ next ∷ rest
-    → AreParts next its_kept its_source → IsPartApart all rest (kept ++ its_kept ∷ []) (sources ++ its_source ∷ [])
-one_apart {kept = kept} {sources} rest next its_kept its_source t is p = record {
-  taken = t.taken ++ next ∷ [];
-  split = t.split ∙ ap (λ xs. t.taken ++ xs) is ∙ sym (append_assoc t.taken (next ∷ []) rest);
-  apart = record {
-    kept_are =
-        ap (λ xs. xs ++ its_kept ∷ []) t.apart.kept_are ∙ ap (λ x. map (λ (image : Opened). image.kept) t.taken ++ x ∷ []) p.kept_is
-        ∙ sym (map-append (λ (image : Opened). image.kept) t.taken (next ∷ []));
-    known_are =
-        map-append known_bytes sources (its_source ∷ [])
-        ∙ ap (λ xs. xs ++ known_bytes its_source ∷ []) t.apart.known_are
-        ∙ ap (λ x. map (λ (image : Opened). image.known) t.taken ++ x ∷ []) p.known_is
-        ∙ sym (map-append (λ (image : Opened). image.known) t.taken (next ∷ []));
-    gathered = All-push IsFaithful t.taken next t.apart.gathered (faithful next its_kept its_source p);
-  };
-}
-
-nothing : (xs : List Opened) → length xs ≡ 0 → xs ≡ []
+nothing : {X : Type 0} (xs : List X) → length xs ≡ 0 → xs ≡ []
 nothing [] none = refl
 nothing (x ∷ xs) none = absurd (omega (arith, none))
 
--- where none is left, all are taken apart
-pub all_apart : {F A : Type 0} {all left : List Opened} {kept : List (List ℕ)} {sources : List (ImageData F A)}
-    → IsPartApart all left kept sources → length left ≡ 0 → AreApart all kept sources
-all_apart {all = all} {left} {kept} {sources} t none =
-    let same : all ≡ t.taken = t.split ∙ ap (λ xs. t.taken ++ xs) (nothing left none) ∙ append-nil t.taken in
-    subst (λ xs. AreApart xs kept sources) (sym same) t.apart
+-- where none is left, all are done
+pub all_done : {X Y : Type 0} (f : List X → List Y) (all done : List Y) (left : List X) → f [] ≡ [] → all ≡ done ++ f left
+    → length left ≡ 0 → done ≡ all
+all_done f all done left nil e none =
+    sym (e ∙ ap (λ xs. done ++ f xs) (nothing left none) ∙ ap (λ ys. done ++ ys) nil ∙ append-nil done)

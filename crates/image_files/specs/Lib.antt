@@ -1,6 +1,6 @@
 pub mod Unread
 pub mod Reading
 pub mod Data
-pub mod Opened
+pub mod Loaded
 pub mod Opening
 pub mod Files

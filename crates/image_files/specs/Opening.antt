@@ -1,5 +1,5 @@
--- How a file is read, from what stat(2) reports about it.
-use Rattle.std.specs.Prelude.{◌≡◌, ◌<◌, ℕ, List, Option, Some, None, IsSome, IfSome, ⊤, bit_and, map}
+-- How a file is read, by what stat(2) tells of it.
+use Rattle.std.specs.Prelude.{◌≡◌, ◌<◌, ℕ, List, Option, None, ⊤, bit_and, map}
 use Rattle.std.specs.Fs.{IsFile, file_type, metadata_len, metadata_mode}
 use Rattle.std.specs.declared.fs.attrs.Metadata.{Metadata}
 use Rattle.image_files.specs.declared.opening.TheConstants.{FILE_TYPE, BLOCK_DEVICE}
@@ -7,16 +7,14 @@ use Rattle.image_files.specs.declared.opening.FileKind.{FileKind}
 use Rattle.image_files.specs.declared.opening.FileKind.TheVariants.{Regular, BlockDevice, Stream}
 use Rattle.image_files.specs.declared.image_data.ImageData.{ImageData}
 use Rattle.image_files.specs.declared.image_data.ImageData.TheVariants as from
-use Rattle.image_files.specs.declared.whole.Trailers.{Trailers}
-use Rattle.image_files.specs.declared.whole.ReadFault.{ReadFault}
-use Rattle.image_files.specs.declared.whole.ReadFault.TheVariants.{Failed, Memory}
-use Rattle.kept_image.specs.declared.fault.GatherFault.{GatherFault}
-use Rattle.kept_image.specs.declared.fault.GatherFault.TheVariants as gather
+use Rattle.image_files.specs.declared.loaded.LoadedImage.{LoadedImage}
+use Rattle.image_files.specs.declared.loaded.Loading.{Loading}
+use Rattle.image_files.specs.declared.loaded.Loading.TheVariants as how
+use Rattle.image_files.specs.declared.loaded.Trailers.{Trailers}
 use Rattle.std.specs.declared.vec.Vec.{Vec}
-use Rattle.image_files.specs.Files.{AreBytesOf}
-use Rattle.image_files.specs.Opened.{Opened, WasGathered}
-use Rattle.image_files.specs.declared.opening.HeldImage.{HeldImage}
-use Rattle.image_files.specs.declared.opening.HeldImage.TheVariants as held
+use Rattle.held_image.specs.Images.{held_bytes}
+use Rattle.image_files.specs.Files.{AreBytesOf, IsWholeOf}
+use Rattle.image_files.specs.Loaded.{IsKeptOf, IsOpenOver}
 
 -- the mode is that of a block device
 abbrev pub IsBlockDevice : Metadata → Type 0
@@ -44,46 +42,37 @@ AreOfFile (Regular size) known source = StayInFile source
 AreOfFile BlockDevice known source = StayInFile source
 AreOfFile Stream known source = AreAllOf known source
 
--- which bytes of the data of such a file are known when its image is open: of a stream all
-abbrev pub IsKnownAs : FileKind → Option (List ℕ) → Option (List ℕ) → Type 0
-IsKnownAs (Regular size) known seen = seen ≡ None
-IsKnownAs BlockDevice known seen = seen ≡ None
-IsKnownAs Stream known seen = IsSome seen × IfSome known (λ xs. seen ≡ Some xs)
+-- how the image of a file of this kind is open, of which these bytes are known
+pub record IsOpenedAs {F A : Type 0} (kind : FileKind) (known : Option (List ℕ))
+    (trailers : Trailers) (image : LoadedImage F A) : Type 0 where
+  pub source : ImageData F A
+  pub of_file : AreOfFile kind known source
+  pub over : IsOpenOver source trailers image
 
--- what the rules check is held of an image: it was gathered from these bytes, if they are known,
--- with the trailer if trailers are read
-abbrev pub IsKeptOf : {A : Type 0} → Option (List ℕ) → Trailers → HeldImage A → Type 0
-IsKeptOf known trailers (held.Kept kept its) = (its ≡ trailers) × WasGathered trailers known kept
-IsKeptOf known trailers (held.Whole bytes) = ⊥
-
--- all bytes of an image are held, those that are known
-abbrev pub IsHeldWhole : {A : Type 0} → Option (List ℕ) → HeldImage A → Type 0
-IsHeldWhole known (held.Kept kept its) = ⊥
-IsHeldWhole known (held.Whole bytes) = AreBytesOf known bytes
-
--- what is held of the image of a file of this kind, of which these bytes are known: all of a
--- stream, and what the rules check of any other, but nothing is known about its reads
-abbrev pub IsHeldAs : {A : Type 0} → FileKind → Option (List ℕ) → Trailers → HeldImage A → Type 0
+-- what is held of the image of a file of this kind, of which these bytes are known: of a stream
+-- all, and of any other what the rules look at, but of its reads nothing is known
+abbrev pub IsHeldAs : {F A : Type 0} → FileKind → Option (List ℕ) → Trailers → LoadedImage F A
+    → Type 0
 IsHeldAs (Regular size) known trailers image = IsKeptOf None trailers image
 IsHeldAs BlockDevice known trailers image = IsKeptOf None trailers image
-IsHeldAs Stream known trailers image = IsHeldWhole known image
+IsHeldAs Stream known trailers image = IsWholeOf known image.held
 
--- how the image of a file of this kind is open, of which these bytes are known
-pub record IsOpenedAs (kind : FileKind) (known : Option (List ℕ)) (trailers : Trailers)
-    (image : Opened) : Type 0 where
-  pub known_is : IsKnownAs kind known image.known
-  pub trailers_are : image.trailers ≡ trailers
+-- what is loaded of such a file
+abbrev pub IsLoadedAs : {F A : Type 0} → FileKind → Option (List ℕ) → Loading → LoadedImage F A
+    → Type 0
+IsLoadedAs kind known how.Whole image = IsWholeOf known image.held × (image.source ≡ None)
+IsLoadedAs kind known (how.Open trailers) image = IsOpenedAs kind known trailers image
+IsLoadedAs kind known (how.Gather trailers) image =
+    IsHeldAs kind known trailers image × (image.source ≡ None)
 
--- why a file was not read, by why nothing was kept of it
-abbrev pub fault_of : GatherFault → ReadFault
-fault_of gather.Unread = Failed
-fault_of gather.Memory = Memory
+-- all bytes of an image are held, those that are known
+abbrev pub IsHeldWhole : {F A : Type 0} → Option (List ℕ) → LoadedImage F A → Type 0
+IsHeldWhole known image = IsWholeOf known image.held
 
--- the bytes that are held of an image, and zeros for the rest
-abbrev pub held_bytes : {A : Type 0} → HeldImage A → List ℕ
-held_bytes (held.Kept kept its) = kept
-held_bytes (held.Whole bytes) = bytes.items
+-- the bytes that are held of an image, and zeros where nothing is
+abbrev pub loaded_bytes : {F A : Type 0} → LoadedImage F A → List ℕ
+loaded_bytes image = held_bytes image.held
 
 -- those of a list of images
-abbrev pub held_contents : {A B : Type 0} → Vec (HeldImage A) B → List (List ℕ)
-held_contents images = map held_bytes images.items
+abbrev pub loaded_contents : {F A B : Type 0} → Vec (LoadedImage F A) B → List (List ℕ)
+loaded_contents images = map loaded_bytes images.items

@@ -3,14 +3,14 @@ use Rattle.std.specs.Prelude.{◌≡◌, ◌≤◌, ◌⊎◌, Some, Result, Ok,
 use Rattle.devices.specs.declared.counts.LastPull.TheVariants.{End, Failure}
 use Rattle.devices.specs.declared.counts.Pulls.{Pulls}
 use Rattle.devices.specs.declared.limits.TheConstants.{MAX_TURNS}
-use Rattle.image_files.specs.declared.whole.ReadFault.{ReadFault}
-use Rattle.image_files.specs.declared.whole.ReadFault.TheVariants.{Failed, Memory}
+use Rattle.kept_image.specs.declared.fault.GatherFault.{GatherFault}
+use Rattle.kept_image.specs.declared.fault.GatherFault.TheVariants.{Unread, Memory}
 
 -- it met its end within the most pulls; or its only failure was the last pull; or it was pulled as
 -- often as may be, and never met an end nor failed; or memory ran out
-abbrev pub IsReadThrough : {X : Type 0} → Pulls → Result X ReadFault → Type 0
+abbrev pub IsReadThrough : {X : Type 0} → Pulls → Result X GatherFault → Type 0
 IsReadThrough p (Ok x) = (p.last ≡ Some End) × (p.failures ≡ 0) × (p.pulls ≤ MAX_TURNS)
-IsReadThrough p (Err Failed) =
+IsReadThrough p (Err Unread) =
     ((p.last ≡ Some Failure) × (p.failures ≡ 1) × (p.ends ≡ 0) × (p.pulls ≤ MAX_TURNS))
     ⊎ ((p.pulls ≡ MAX_TURNS) × (p.failures ≡ 0) × (p.ends ≡ 0))
 IsReadThrough p (Err Memory) = (p.failures ≡ 0) × (p.ends ≡ 0) × (p.pulls ≤ MAX_TURNS)

@@ -4,15 +4,15 @@
 //! the results of two halves are joined: a fault of the lower half (memory, or an image that cannot
 //! be read) comes before one of the upper. All images below the reported one were therefore read.
 
-ghost use Rattle.std.specs.Prelude.{◌≡◌, ◌⊎◌, ◌+◌, ◌<◌, ◌^◌, ℕ, ◌++◌, length, vec_len, All, IfOk, IfErr, OnOk};
-ghost use Rattle.image_files.specs.Files.{AreBytesOf, IsHeldOf, IsOfFile, IsOpenOf};
+ghost use Rattle.std.specs.Prelude.{◌≡◌, ◌⊎◌, ◌+◌, ◌<◌, ◌^◌, ℕ, ◌++◌, length, vec_len, IfOk, IfErr, OnOk};
+ghost use Rattle.image_files.specs.Files.{AreLoaded, IsLoadedOf, IsOfFile};
 ghost use Rattle.image_files.specs.Unread.{IsReadUpTo};
 ghost use Rattle.image_files.specs.declared.images.FilesFault.TheVariants.{Unread, Memory};
 ghost use denote.Param.Send.{IsSync, IsSend, Frees};
 
-use crate::open_image::OpenImage;
-use crate::opening::HeldImage;
-use crate::whole::{OfFile, ReadFault, Trailers};
+use crate::loaded::{LoadedImage, Loading};
+use crate::opening::load_file;
+use kept_image::GatherFault;
 use std::alloc::{AllocError, AllocFailed, Allocator};
 use std::fs;
 use std::fs::Files;
@@ -51,80 +51,34 @@ impl<T: Drop> From<AllocFailed<T>> for FilesFault {
     }
 }
 
-/// The bytes of the images at these paths, in the order of the paths, each file as it is from its
-/// beginning to its end.
+/// The images at these paths, in the order of the paths, as they are asked for: all bytes of each,
+/// from the beginning of its file to the end; or of a regular file and of a block device only what
+/// the rules look at, its first bytes, headers, names and the targets of symbolic links, with the
+/// trailer where trailers are read. Of all other files all bytes are read, and those of an image
+/// that stays open are gathered in the same way. A file that is let go is so before the next one of
+/// its part is opened, so there may be any number of them.
 ///
 /// Of a long list at most four parts are read at the same time; of several files that cannot be
-/// read the lowest is reported, if there was memory for all below it.
-pub fn read_images<R: Files + Threads + Sync, A: Allocator + Copy + Send + Sync>(
+/// read the lowest is reported, if there was memory for all below it. `Unread` comes where a file
+/// cannot be opened, as one too many, where a read fails or gives fewer bytes than the file has
+/// said, and where a device tells no end. That an image's full size goes on behind the end of its
+/// file is no fault here. `Memory` comes, too, where a trailer that is read ends at 2^32 or behind.
+pub fn load<R: Files + Threads + Sync, A: Allocator + Copy + Send + Sync>(
     rt: &R,
     alloc: A,
     paths: &[&str],
-) -> Result<Vec<Vec<u8, A>, A>, FilesFault>
-where
-    R::File: Send,
-    R::Dir: Send,
-    ensures ok { IfOk result (λ images. vec_len images ≡ length paths.now) }
-    ensures bytes { IfOk result (λ images.
-        All (IsOfFile (λ file. AreBytesOf (R.File.remaining file))) images.items) }
-    ensures err { IfErr result (λ fault. (fault ≡ Memory)
-        ⊎ ((image : ℕ) × (image < length paths.now) × (fault ≡ Unread image))) }
-{
-    let Run { images, end } = read_from(rt, alloc, 0, paths, Trailers::Read, FORKS);
-    end?;
-    Ok(images)
-}
-
-/// The images at these paths, in the order of the paths. From regular files and block devices only
-/// what the rules check is read: the first bytes, headers, names and targets of symbolic links, and
-/// the trailer if trailers are read; the file stays open. All other files are read in full, as by
-/// `read_images`, and then gathered in the same way.
-///
-/// Of a long list at most four parts are opened at the same time; of several files that cannot be
-/// read the lowest is reported, if there was memory for all below it. `Unread` if a file cannot be
-/// opened (possibly one too many), if a read fails or gives fewer bytes than the file reported, or
-/// if a device reports no end. A full size beyond the end of the file is no fault here. `Memory`
-/// also if a trailer that is read does not end below 2^32.
-pub fn open_images<R: Files + Threads + Sync, A: Allocator + Copy + Send + Sync>(
-    rt: &R,
-    alloc: A,
-    paths: &[&str],
-    trailers: Trailers,
-) -> Result<Vec<OpenImage<R::File, A>, A>, FilesFault>
+    loading: Loading,
+) -> Result<Vec<LoadedImage<R::File, A>, A>, FilesFault>
 where
     R::File: FileExt + Send,
     R::Dir: Send,
     ensures ok { IfOk result (λ images. vec_len images ≡ length paths.now) }
-    ensures known { IfOk result (λ images.
-        All (IsOfFile (λ file. IsOpenOf (R.File.remaining file) trailers)) images.items) }
-    ensures trailers { IfOk result (λ images.
-        All (λ image. image.trailers ≡ trailers) images.items) }
+    ensures loaded { IfOk result (λ images.
+        AreLoaded R.File.remaining loading images.items) }
     ensures err { IfErr result (λ fault. (fault ≡ Memory)
         ⊎ ((image : ℕ) × (image < length paths.now) × (fault ≡ Unread image))) }
 {
-    let Run { images, end } = read_from(rt, alloc, 0, paths, trailers, FORKS);
-    end?;
-    Ok(images)
-}
-
-/// What is held of the images at these paths, as read by [`open_images`], without files: each is
-/// closed before the next one of its part is opened, so there may be any number of them.
-pub fn gather_images<R: Files + Threads + Sync, A: Allocator + Copy + Send + Sync>(
-    rt: &R,
-    alloc: A,
-    paths: &[&str],
-    trailers: Trailers,
-) -> Result<Vec<HeldImage<A>, A>, FilesFault>
-where
-    R::File: FileExt + Send,
-    R::Dir: Send,
-    ensures ok { IfOk result (λ images. vec_len images ≡ length paths.now) }
-    ensures held { IfOk result (λ images.
-        All (IsOfFile (λ file. IsHeldOf (R.File.remaining file) trailers)) images.items) }
-    ensures err { IfErr result (λ fault. (fault ≡ Memory)
-        ⊎ ((image : ℕ) × (image < length paths.now) × (fault ≡ Unread image))) }
-{
-    let Run { images, end } = read_from(rt, alloc, 0, paths, trailers, FORKS);
+    let Run { images, end } = load_from(rt, alloc, 0, paths, loading, FORKS);
     end?;
     Ok(images)
 }
@@ -139,20 +93,23 @@ struct Run<T, A: Allocator> {
 /// The images of a run whose lowest has the number `first`, read in halves at the same time, each
 /// of which is cut once less, or one after another.
 #[cycle(halves)]
-fn read_from<
-    R: Files + Threads + Sync,
-    A: Allocator + Copy + Send + Sync,
-    T: OfFile<R::File, A> + Send + Drop,
->(rt: &R, alloc: A, first: usize, paths: &[&str], trailers: Trailers, forks: u32) -> Run<T, A>
+fn load_from<R: Files + Threads + Sync, A: Allocator + Copy + Send + Sync>(
+    rt: &R,
+    alloc: A,
+    first: usize,
+    paths: &[&str],
+    loading: Loading,
+    forks: u32,
+) -> Run<LoadedImage<R::File, A>, A>
 where
-    R::File: Send,
+    R::File: FileExt + Send,
     R::Dir: Send,
     requires { first + length paths.now < 2 ^ 64 }
     ensures count { IsReadUpTo first (length paths.now) (vec_len result.images) result.end }
-    ensures read { All (IsOfFile (T.is_read trailers)) result.images.items }
+    ensures read { AreLoaded R.File.remaining loading result.images.items }
 {
     if forks == 0 || paths.len() < MANY {
-        return read_in_turn(rt, alloc, first, paths, trailers);
+        return load_in_turn(rt, alloc, first, paths, loading);
     }
     let less = forks - 1;
     let half = paths.len() / 2;
@@ -161,20 +118,20 @@ where
     // the lowest layer, mostly the largest, waits for no thread to start
     let (high, low) = join(
         rt,
-        move || -> Run<T, A>
+        move || -> Run<LoadedImage<R::File, A>, A>
             requires { IsSync R.row × IsSync A.row × IsSend A.row
                 × Frees A.Allocator A.dealloc_token × (next + length highs.now < 2 ^ 64) }
             ensures count { IsReadUpTo next (length highs.entry.now) (vec_len result.images)
                 result.end }
-            ensures read { All (IsOfFile (T.is_read trailers)) result.images.items }
-        { read_from(rt, alloc, next, highs, trailers, less) },
-        move || -> Run<T, A>
+            ensures read { AreLoaded R.File.remaining loading result.images.items }
+        { load_from(rt, alloc, next, highs, loading, less) },
+        move || -> Run<LoadedImage<R::File, A>, A>
             requires { IsSync R.row × IsSync A.row × IsSend A.row
                 × Frees A.Allocator A.dealloc_token × (first + length lows.now < 2 ^ 64) }
             ensures count { IsReadUpTo first (length lows.entry.now) (vec_len result.images)
                 result.end }
-            ensures read { All (IsOfFile (T.is_read trailers)) result.images.items }
-        { read_from(rt, alloc, first, lows, trailers, less) },
+            ensures read { AreLoaded R.File.remaining loading result.images.items }
+        { load_from(rt, alloc, first, lows, loading, less) },
     );
     both(low, high)
 }
@@ -210,59 +167,66 @@ fn both<T: Drop, A: Allocator>(low: Run<T, A>, high: Run<T, A>) -> Run<T, A>
     }
 }
 
-/// What was read of a run of images whose lowest has the number `first`, from the lowest up.
-fn read_in_turn<R: Files, A: Allocator + Copy, T: OfFile<R::File, A> + Drop>(
+/// What was read of a run of images, of which the lowest has the number `first`, from the lowest
+/// up.
+fn load_in_turn<R: Files, A: Allocator + Copy>(
     rt: &R,
     alloc: A,
     first: usize,
     paths: &[&str],
-    trailers: Trailers,
-) -> Run<T, A>
+    loading: Loading,
+) -> Run<LoadedImage<R::File, A>, A>
+where
+    R::File: FileExt,
     requires { first + length paths.now < 2 ^ 64 }
     ensures count { IsReadUpTo first (length paths.now) (vec_len result.images) result.end }
-    ensures read { All (IsOfFile (T.is_read trailers)) result.images.items }
+    ensures read { AreLoaded R.File.remaining loading result.images.items }
 {
     let mut images = Vec::new(alloc);
-    let end = add_in_turn(rt, alloc, first, paths, trailers, &mut images);
+    let end = add_in_turn(rt, alloc, first, paths, loading, &mut images);
     Run { images, end }
 }
 
-/// Adds what is read of a run of images whose lowest has the number `first` to an empty list, from
-/// the lowest up. The first that cannot be read is reported, after all that were added.
-fn add_in_turn<R: Files, A: Allocator + Copy, T: OfFile<R::File, A> + Drop>(
+/// Adds what is read of a run of images, of which the lowest has the number `first`, to an empty
+/// list, from the lowest up. The first that cannot be read is reported, behind all that were added.
+fn add_in_turn<R: Files, A: Allocator + Copy>(
     rt: &R,
     alloc: A,
     first: usize,
     paths: &[&str],
-    trailers: Trailers,
-    images: &mut Vec<T, A>,
+    loading: Loading,
+    images: &mut Vec<LoadedImage<R::File, A>, A>,
 ) -> Result<(), FilesFault>
+where
+    R::File: FileExt,
     requires empty { vec_len images.old ≡ 0 }
     requires few { first + length paths.now < 2 ^ 64 }
     ensures count { IsReadUpTo first (length paths.now) (vec_len images.new) result }
-    ensures read { All (IsOfFile (T.is_read trailers)) images.new.items }
+    ensures read { AreLoaded R.File.remaining loading images.new.items }
 {
     images.reserve_exact(paths.len())?;
     for (at, path) in paths.iter().enumerate() {
-        images.push(read_image(rt, alloc, (first + at) as u64, path, trailers)?)?;
+        images.push(load_one(rt, alloc, (first + at) as u64, path, loading)?)?;
     }
     Ok(())
 }
 
-fn read_image<R: Files, A: Allocator, T: OfFile<R::File, A>>(
+fn load_one<R: Files, A: Allocator + Copy>(
     rt: &R,
     alloc: A,
     image: u64,
     path: &str,
-    trailers: Trailers,
-) -> Result<T, FilesFault>
-    ensures ok { IfOk result (IsOfFile (T.is_read trailers)) }
+    loading: Loading,
+) -> Result<LoadedImage<R::File, A>, FilesFault>
+where
+    R::File: FileExt,
+    ensures ok { IfOk result (IsOfFile (λ file. IsLoadedOf (R.File.remaining file) loading)) }
     ensures err { IfErr result (λ fault. (fault ≡ Unread image) ⊎ (fault ≡ Memory)) }
 {
     let file = fs::open(rt, path).map_err(|_| FilesFault::Unread { image })?;
-    match T::of_file(alloc, file, trailers) {
-        Ok(read) => Ok(read),
-        Err(ReadFault::Failed) => Err(FilesFault::Unread { image }),
-        Err(ReadFault::Memory) => Err(FilesFault::Memory),
+    match load_file(alloc, file, loading) {
+        Ok(loaded) => Ok(loaded),
+        Err(GatherFault::Unread) => Err(FilesFault::Unread { image }),
+        Err(GatherFault::Memory) => Err(FilesFault::Memory),
     }
 }

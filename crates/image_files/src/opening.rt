@@ -5,13 +5,14 @@
 //! bytes once, from the first to the last, and is read in full.
 
 ghost use Rattle.std.specs.Prelude.{◌≡◌, ◌↔◌, IfOk, IsTrue, MatchResult};
-ghost use Rattle.image_files.specs.Opening.{AreOfFile, IsBlockDevice, IsHeldAs, IsKeptOf, IsKindOf, IsOpenedAs, fault_of};
+ghost use Rattle.image_files.specs.Opening.{AreOfFile, IsBlockDevice, IsKindOf, IsLoadedAs};
+ghost use Rattle.image_files.specs.Files.{IsLoadedOf};
 
 use crate::image_data::ImageData;
-use crate::open_image::{OpenImage, gather_as};
-use crate::whole::{OfFile, ReadFault, Trailers, read_file};
-use image_bytes::{Contents, InFile};
-use kept_image::{GatherFault, Kept};
+use crate::loaded::{LoadedImage, Loading, let_go, open, whole};
+use crate::whole::read_file;
+use image_bytes::InFile;
+use kept_image::GatherFault;
 use std::alloc::Allocator;
 use std::fs::{Metadata, OpenFile};
 use std::io::{self, Read, Seek, SeekFrom};
@@ -22,52 +23,6 @@ const FILE_TYPE: u32 = 0o170000;
 
 /// What they are of a block device (S_IFBLK).
 const BLOCK_DEVICE: u32 = 0o060000;
-
-impl From<GatherFault> for ReadFault {
-    ghost from_gives = { λ gathering fault. fault ≡ fault_of gathering };
-
-    fn from(fault: GatherFault) -> ReadFault {
-        match fault {
-            GatherFault::Unread => ReadFault::Failed,
-            GatherFault::Memory => ReadFault::Memory,
-        }
-    }
-}
-
-impl<F: Read + Seek + OpenFile + FileExt + Drop, A: Allocator + Copy> OfFile<F, A>
-    for OpenImage<F, A> {
-    ghost use Rattle.image_files.specs.Files.{IsOpenOf};
-
-    ghost is_read = { λ trailers file. IsOpenOf (F.remaining file) trailers };
-
-    #[tactic(auto, using(crate::proofs::Files::open_of))]
-    fn of_file(alloc: A, file: F, trailers: Trailers) -> Result<OpenImage<F, A>, ReadFault> {
-        let kind = told_kind(file.metadata());
-        open_as(alloc, file, kind, trailers)
-    }
-}
-
-/// What is held of an image whose file was let go.
-#[derive(Drop)]
-pub enum HeldImage<A: Allocator> {
-    /// What the rules check, with the trailer if trailers were read.
-    Kept { image: Kept<A>, trailers: Trailers },
-    /// All bytes of a file that cannot be read at a place.
-    Whole(Vec<u8, A>),
-}
-
-impl<F: Read + Seek + OpenFile + FileExt + Drop, A: Allocator + Copy> OfFile<F, A>
-    for HeldImage<A> {
-    ghost use Rattle.image_files.specs.Files.{IsHeldOf};
-
-    ghost is_read = { λ trailers file. IsHeldOf (F.remaining file) trailers };
-
-    #[tactic(auto, using(crate::proofs::Files::held_of))]
-    fn of_file(alloc: A, file: F, trailers: Trailers) -> Result<HeldImage<A>, ReadFault> {
-        let kind = told_kind(file.metadata());
-        hold_as(alloc, file, kind, trailers)
-    }
-}
 
 /// What a file is, as far as it matters for how it is read.
 #[derive(Clone, Copy)]
@@ -112,46 +67,34 @@ fn is_block_device(metadata: &Metadata) -> bool
     metadata.mode() & FILE_TYPE == BLOCK_DEVICE
 }
 
-/// The image of a file of a kind, which is at its beginning. `Failed` if a read fails, if a device
-/// reports no end, or if the file ends before its reported size.
-pub fn open_as<F: Read + Seek + OpenFile + FileExt + Drop, A: Allocator + Copy>(
+/// What is loaded of a file, which is at its beginning.
+#[tactic(auto, using(crate::proofs::Files::loaded_of))]
+pub(crate) fn load_file<F: Read + Seek + OpenFile + FileExt + Drop, A: Allocator + Copy>(
     alloc: A,
     file: F,
-    kind: FileKind,
-    trailers: Trailers,
-) -> Result<OpenImage<F, A>, ReadFault>
-    ensures { IfOk result (IsOpenedAs kind (F.remaining file) trailers) }
+    loading: Loading,
+) -> Result<LoadedImage<F, A>, GatherFault>
+    ensures { IfOk result (IsLoadedOf (F.remaining file) loading) }
 {
-    let source = data_of(alloc, file, kind)?;
-    Ok(OpenImage::over(alloc, source, trailers)?)
+    let kind = told_kind(file.metadata());
+    load_as(alloc, file, kind, loading)
 }
 
-/// What is held of the image of a file of a kind, which is at its beginning and is let go. `Failed`
-/// comes as [`open_as`] says.
-fn hold_as<F: Read + Seek + OpenFile + FileExt + Drop, A: Allocator + Copy>(
+/// What is loaded of a file of a kind, which is at its beginning. `Unread` comes where a read
+/// fails, where a device tells no end, or where the file ends before the size that it told.
+pub fn load_as<F: Read + Seek + OpenFile + FileExt + Drop, A: Allocator + Copy>(
     alloc: A,
     file: F,
     kind: FileKind,
-    trailers: Trailers,
-) -> Result<HeldImage<A>, ReadFault>
-    ensures { IfOk result (IsHeldAs kind (F.remaining file) trailers) }
+    loading: Loading,
+) -> Result<LoadedImage<F, A>, GatherFault>
+    ensures { IfOk result (IsLoadedAs kind (F.remaining file) loading) }
 {
-    match data_of(alloc, file, kind)? {
-        ImageData::File(file) => Ok(kept_of(alloc, &file, trailers)?),
-        ImageData::Memory(bytes) => Ok(HeldImage::Whole(bytes)),
+    match loading {
+        Loading::Whole => Ok(whole(read_file(alloc, file)?)),
+        Loading::Open(trailers) => open(alloc, data_of(alloc, file, kind)?, trailers),
+        Loading::Gather(trailers) => let_go(alloc, data_of(alloc, file, kind)?, trailers),
     }
-}
-
-/// What the rules look at, and whether the trailer is there.
-fn kept_of<S: Contents, A: Allocator + Copy>(
-    alloc: A,
-    source: &S,
-    trailers: Trailers,
-) -> Result<HeldImage<A>, GatherFault>
-    ensures { IfOk result (IsKeptOf (S.contents source.now) trailers) }
-{
-    let image = gather_as(alloc, source, trailers)?;
-    Ok(HeldImage::Kept { image, trailers })
 }
 
 /// What the data of a file of a kind are read from: the file, or of a stream all its bytes.
@@ -159,7 +102,7 @@ fn data_of<F: Read + Seek + OpenFile + FileExt + Drop, A: Allocator>(
     alloc: A,
     mut file: F,
     kind: FileKind,
-) -> Result<ImageData<F, A>, ReadFault>
+) -> Result<ImageData<F, A>, GatherFault>
     ensures { IfOk result (AreOfFile kind (F.remaining file)) }
 {
     match kind {
@@ -172,7 +115,7 @@ fn data_of<F: Read + Seek + OpenFile + FileExt + Drop, A: Allocator>(
     }
 }
 
-/// How many bytes there are before the end of a file.
-fn end_of<F: Seek>(file: &mut F) -> Result<u64, ReadFault> {
-    file.seek(SeekFrom::End(0)).map_err(|_| ReadFault::Failed)
+/// How many bytes stand before the end of a file.
+fn end_of<F: Seek>(file: &mut F) -> Result<u64, GatherFault> {
+    file.seek(SeekFrom::End(0)).map_err(|_| GatherFault::Unread)
 }

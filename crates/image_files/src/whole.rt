@@ -3,81 +3,35 @@
 ghost use Rattle.std.specs.Prelude.{◌≡◌, IfSome, OnOk, IfOk};
 ghost use Rattle.std.specs.Io.KnownBytes.{IsAtEnd};
 ghost use Rattle.devices.specs.Counting.{no_pulls};
-ghost use Rattle.image_files.specs.declared.whole.ReadFault.TheVariants.{Memory};
 ghost use Rattle.image_files.specs.Files.{AreBytesOf};
 ghost use Rattle.image_files.specs.Reading.{IsReadThrough};
 
 use devices::limits::{MAX_TURNS, PULL_SIZE};
 use devices::{Source, Tap};
-use std::alloc::{AllocError, Allocator};
+use kept_image::GatherFault;
+use std::alloc::Allocator;
 use std::fs::OpenFile;
 use std::io::Read;
 
-/// Why there are no bytes.
-#[derive(Clone, Copy)]
-pub enum ReadFault {
-    /// A read failed, or none was the last.
-    Failed,
-    /// Memory ran out.
-    Memory,
-}
-
-impl From<AllocError> for ReadFault {
-    ghost from_gives = { λ _ fault. fault ≡ Memory };
-
-    fn from(_error: AllocError) -> ReadFault {
-        ReadFault::Memory
-    }
-}
-
-/// Whether the attribute trailers after images are read.
-#[derive(Clone, Copy)]
-pub enum Trailers {
-    Read,
-    Left,
-}
-
-/// What is read of the file of an image.
-pub(crate) trait OfFile<F, A: Allocator>: Sized {
-    ghost use Rattle.image_files.specs.declared.whole.Trailers.{Trailers};
-
-    // Holds of what is read from a file, if trailers are read or left.
-    ghost is_read: { Trailers → F → Self → Type 0 };
-
-    /// What is read of this file, which is at its beginning.
-    fn of_file(alloc: A, file: F, trailers: Trailers) -> Result<Self, ReadFault>
-        ensures { IfOk result (is_read trailers file) };
-}
-
-impl<F: Read + OpenFile + Drop, A: Allocator> OfFile<F, A> for Vec<u8, A> {
-    ghost use Rattle.image_files.specs.Files.{AreBytesOf};
-
-    ghost is_read = { λ _ file. AreBytesOf (F.remaining file) };
-
-    /// All bytes, with those of the trailer.
-    fn of_file(alloc: A, file: F, _trailers: Trailers) -> Result<Vec<u8, A>, ReadFault> {
-        read_file(alloc, file)
-    }
-}
-
-/// All bytes of a file. If it reports its length, memory is taken once.
+/// All that a file has. Where it tells its length, memory is taken once. `Unread` comes where a
+/// read fails, or where 2^40 reads meet no end.
 pub fn read_file<F: Read + OpenFile + Drop, A: Allocator>(
     alloc: A,
     file: F,
-) -> Result<Vec<u8, A>, ReadFault>
+) -> Result<Vec<u8, A>, GatherFault>
     ensures { IfOk result (AreBytesOf (F.remaining file)) }
 {
     let length = told_length(&file);
     read_all(alloc, &mut Tap::new(file), length)
 }
 
-// All bytes of a new source. `Failed` if the last pull failed, or if 2^40 pulls met no end. Memory
-// is taken once if the source has no more than `length` bytes.
+// All that a new source has. `Unread` comes where the last pull failed, or where 2^40 pulls met no
+// end. Memory is taken once, where the source has no more than `length` bytes.
 fn read_all<S: Source, A: Allocator>(
     alloc: A,
     source: &mut S,
     length: usize,
-) -> Result<Vec<u8, A>, ReadFault>
+) -> Result<Vec<u8, A>, GatherFault>
     requires { (S.state source.old).counts ≡ no_pulls }
     ensures bytes { IfOk result (λ bytes.
         IfSome (S.state source.old).left (λ known. bytes.items ≡ known)) }
@@ -90,10 +44,10 @@ fn read_all<S: Source, A: Allocator>(
         match source.pull(&mut room) {
             Ok(0) => return Ok(bytes),
             Ok(count) => bytes.extend_from_slice(&room[..count])?,
-            Err(_) => return Err(ReadFault::Failed),
+            Err(_) => return Err(GatherFault::Unread),
         }
     }
-    Err(ReadFault::Failed)
+    Err(GatherFault::Unread)
 }
 
 // The length that a file reports; 0 if it does not.

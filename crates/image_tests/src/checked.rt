@@ -6,8 +6,8 @@
 
 use image_bytes::InMemory;
 use kept_image::gather;
-use romfs_check::{CheckFault, ImageFault, Profile, Rule, check_kept};
-use romfs_reader::{ImageView, KeptImage, Part};
+use romfs_check::{CheckFault, HeldImage, ImageFault, Profile, Rule, check_held};
+use romfs_reader::{Image, ImageView, Part};
 use std::alloc::Allocator;
 
 /// The image (romfs.rst), with the sum that makes its words sum to 0, and the size of the target.
@@ -24,11 +24,11 @@ fn image(sum: u8, target: u8) -> [u8; 208] {
 }
 
 /// What is kept of the image, if it is sound.
-fn kept<A: Allocator + Copy>(alloc: A, bytes: &[u8]) -> Result<KeptImage<A>, CheckFault> {
+fn kept<A: Allocator + Copy>(alloc: A, bytes: &[u8]) -> Result<Image<A>, CheckFault> {
     let Ok(gathered) = gather(alloc, &InMemory::new(bytes)) else {
         return Err(CheckFault::Memory);
     };
-    let (image, _rows) = check_kept(alloc, gathered, Profile::Usual)?;
+    let (image, _rows) = check_held(alloc, HeldImage::Kept(gathered), Profile::Usual)?;
     Ok(image)
 }
 

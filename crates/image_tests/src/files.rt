@@ -3,13 +3,12 @@
 //! Each image has a regular file in its root, of 32 bytes of data. Its header is at 528, its name
 //! at 544, its data at 560; 592 bytes belong to the image.
 
-use held_image::Held;
 use held_image::read::word;
+use held_image::{Held, HeldImage};
 use image_bytes::{Contents, fill};
 use image_files::{
-    FileKind, FilesFault, ImageData, ReadFault, Trailers, apart, open_as, open_images,
+    FileKind, FilesFault, GatherFault, ImageData, Loading, Trailers, apart, load, load_as,
 };
-use kept_image::Kept;
 use std::alloc::{AllocError, Allocator};
 use std::fs::{self, File, Files};
 use std::os::unix::fs::FileExt;
@@ -56,7 +55,7 @@ fn word_at(image: &Held<'_>, at: usize) -> Option<u32> {
     }
 }
 
-fn look_at<F: FileExt, A: Allocator>(kept: &Kept<A>, source: &ImageData<F, A>) -> Seen {
+fn look_at<F: FileExt, A: Allocator>(kept: &HeldImage<A>, source: &ImageData<F, A>) -> Seen {
     Seen {
         name: word_at(&kept.held(), 544),
         data: word_at(&kept.held(), 560),
@@ -96,11 +95,11 @@ where
     let Ok(file) = fs::open(rt, path) else {
         return (None, None);
     };
-    match open_as(alloc, file, kind, Trailers::Left) {
-        Ok(image) => {
-            let (_kept, source) = image.into_parts();
-            data_in_two(rt, &source)
-        }
+    match load_as(alloc, file, kind, Loading::Open(Trailers::Left)) {
+        Ok(image) => match &image.source {
+            Some(source) => data_in_two(rt, source),
+            None => (None, None),
+        },
         Err(_) => (None, None),
     }
 }
@@ -119,7 +118,7 @@ fn gathered(name: u8, data: u8) -> Seen {
 /// The same of several images, in their order.
 fn look_at_all<F: FileExt, A: Allocator + Copy>(
     alloc: A,
-    kept: &[Kept<A>],
+    kept: &[HeldImage<A>],
     sources: &[ImageData<F, A>],
 ) -> Result<Vec<Seen, A>, AllocError> {
     let mut all = Vec::with_capacity(alloc, kept.len())?;
@@ -142,7 +141,7 @@ where
     R::Dir: Send,
 {
     let paths = [low, high, high, other, low, high, other, low, high];
-    let images = open_images(rt, alloc, &paths, Trailers::Left)?;
+    let images = load(rt, alloc, &paths, Loading::Open(Trailers::Left))?;
     let (kept, sources) = apart(alloc, images)?;
     Ok(look_at_all(alloc, &kept, &sources)?)
 }
@@ -150,17 +149,17 @@ where
 /// What a file opened as one of this kind gives; none if it cannot be.
 fn seen_as(rt: &HostRuntime, path: &str, kind: FileKind) -> Option<Seen> {
     let file = fs::open(rt, path).ok()?;
-    let image = open_as(rt.alloc(), file, kind, Trailers::Read).ok()?;
-    let (kept, source) = image.into_parts();
-    Some(look_at(&kept, &source))
+    let image = load_as(rt.alloc(), file, kind, Loading::Open(Trailers::Read)).ok()?;
+    Some(look_at(&image.held, image.source.as_ref()?))
 }
 
 /// Whether reading fails if a file is opened as a regular one of this many bytes.
 fn is_unread(rt: &HostRuntime, path: &str, size: u64) -> bool {
     match fs::open(rt, path) {
         Ok(file) => {
-            let opened = open_as(rt.alloc(), file, FileKind::Regular { size }, Trailers::Left);
-            matches!(opened, Err(ReadFault::Failed))
+            let loading = Loading::Open(Trailers::Left);
+            let opened = load_as(rt.alloc(), file, FileKind::Regular { size }, loading);
+            matches!(opened, Err(GatherFault::Unread))
         }
         Err(_) => false,
     }

@@ -58,7 +58,7 @@ impl<A: Allocator + Copy> OfLayer for Tree<A> {
 
     /// The tree of one layer, as [`tree_of`] makes it of the image that is lent.
     fn of(alloc: A, image: &Image<A>, layer: u16) -> Result<Tree<A>, AllocError>
-        ensures { IfOk result (λ tree. IsTreeOf layer (image.now ∷ []) tree) }
+        ensures { IfOk result (λ tree. IsTreeOf layer (image.now.bytes ∷ []) tree) }
     {
         tree_of(alloc, &image.view(), layer)
     }

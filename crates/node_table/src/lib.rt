@@ -19,4 +19,4 @@ mod numbering;
 mod walk;
 
 pub use making::{OfTree, table_of_layers};
-pub use table_reader::{Attr, Attributes, Kind, Layers, Node, Owner, Place, Row, Rows, Table};
+pub use table_reader::{Attr, Attributes, Kind, Node, Owner, Place, Row, Rows, Table};

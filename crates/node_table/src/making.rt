@@ -1,9 +1,9 @@
 //! A table made of a tree.
 
-ghost use Rattle.std.specs.Prelude.{◌≡◌, ◌≤◌, length, true, IfOk};
+ghost use Rattle.std.specs.Prelude.{◌≡◌, ◌≤◌, length, IfOk};
 ghost use Rattle.std.specs.List.{AllByRecursion};
 ghost use Rattle.stack_model.specs.declared.limits.TheConstants.{MAX_LAYERS};
-ghost use Rattle.romfs_reader.specs.Images.{IsImage};
+ghost use Rattle.romfs_reader.specs.Images.{IsImage, all_whole, bytes_of};
 ghost use Rattle.whiteout_tree.specs.Trees.{IsTreeOf};
 ghost use Rattle.table_reader.specs.Stacked.{IsTableOf, IsTableWith};
 ghost use Rattle.stack_model.specs.Attributes.{blocks_all};
@@ -13,10 +13,10 @@ use crate::building::{TableParts, make};
 use crate::completing::{blocks_of, complete_all};
 use crate::numbering::number_places;
 use crate::walk::{Walked, count_branches, walk};
-use romfs_reader::{Image, ImageView};
+use romfs_reader::{Image, ImageView, views_of};
 use std::alloc::{AllocError, Allocator};
 use std::thread::Threads;
-use table_reader::{Attributes, Layers, Table};
+use table_reader::{Attributes, Table};
 use whiteout_tree::Tree;
 
 /// What is made of the tree of a stack.
@@ -29,9 +29,6 @@ pub trait OfTree: Sized {
 
     /// The images of the layers, the lowest first.
     type Images;
-
-    /// What else is known about their nodes.
-    type Attributes;
 
     ghost use Rattle.std.specs.Thread.{IsSync};
 
@@ -47,17 +44,6 @@ pub trait OfTree: Sized {
     ) -> Result<Self, AllocError>
         requires threads { IsSync R.row }
         requires fits { fits tree images };
-
-    // The same, with what else is known about its nodes.
-    fn with_attributes<R: Threads + Sync>(
-        rt: &R,
-        alloc: Self::Memory,
-        tree: Self::Tree,
-        images: Self::Images,
-        attributes: Self::Attributes,
-    ) -> Result<Self, AllocError>
-        requires threads { IsSync R.row }
-        requires fits { fits tree images };
 }
 
 impl<A: Allocator + Copy> OfTree for Table<A> {
@@ -67,21 +53,17 @@ impl<A: Allocator + Copy> OfTree for Table<A> {
 
     type Images = Vec<Image<A>, A>;
 
-    type Attributes = Attributes<A>;
-
     ghost use Rattle.std.specs.Prelude.{◌≤◌, length};
     ghost use Rattle.std.specs.Thread.{IsSync};
+    ghost use Rattle.romfs_reader.specs.Images.{bytes_of};
     ghost use Rattle.whiteout_tree.specs.Trees.{IsTreeOf};
     ghost use Rattle.stack_model.specs.declared.limits.TheConstants.{MAX_LAYERS};
 
     ghost fits = { λ tree images.
-        IsTreeOf 0 images.items tree × (length images.items ≤ MAX_LAYERS) };
+        IsTreeOf 0 (bytes_of images.items) tree × (length images.items ≤ MAX_LAYERS) };
 
-    /// The table of a stack of images, from its tree. The images are the layers, the lowest first,
-    /// and all belongs to the superuser.
-    ///
-    /// It takes n log n steps in the visible paths. Attributes are computed in several threads if
-    /// there are many. Fails only if memory was refused.
+    /// The table of a stack of images, from its tree, as [`table_of_layers`] makes it where all
+    /// belongs to the superuser.
     fn of<R: Threads + Sync>(
         rt: &R,
         alloc: A,
@@ -89,49 +71,34 @@ impl<A: Allocator + Copy> OfTree for Table<A> {
         images: Vec<Image<A>, A>,
     ) -> Result<Table<A>, AllocError>
         requires threads { IsSync R.row }
-        requires tree { IsTreeOf 0 images.items tree }
+        requires tree { IsTreeOf 0 (bytes_of images.items) tree }
         requires few { length images.items ≤ MAX_LAYERS }
-        ensures stack { IfOk result (λ table. IsTableOf images.items table) }
-        ensures whole { IfOk result (λ table. table.whole ≡ true) }
+        ensures stack { IfOk result (λ table. IsTableOf (bytes_of images.items) table) }
+        ensures whole { IfOk result (λ table. table.whole ≡ all_whole images.items) }
     {
-        Table::with_attributes(rt, alloc, tree, images, Attributes::none(alloc))
-    }
-
-    /// The same with rows for each layer, which give owners, times and mode bits of their nodes,
-    /// and an owner of all nodes without a row. A row is found in as many steps as the number of
-    /// its layer's rows has binary digits.
-    fn with_attributes<R: Threads + Sync>(
-        rt: &R,
-        alloc: A,
-        tree: Tree<A>,
-        images: Vec<Image<A>, A>,
-        attributes: Attributes<A>,
-    ) -> Result<Table<A>, AllocError>
-        requires threads { IsSync R.row }
-        requires tree { IsTreeOf 0 images.items tree }
-        requires few { length images.items ≤ MAX_LAYERS }
-        ensures stack { IfOk result (λ table. IsTableWith images.items attributes.rows.items
-            attributes.owner table) }
-        ensures whole { IfOk result (λ table. table.whole ≡ true) }
-    {
-        table_of_layers(rt, alloc, tree, Layers::whole(alloc, images), attributes)
+        table_of_layers(rt, alloc, tree, images, Attributes::none(alloc))
     }
 }
 
-/// The table of a stack, as by [`OfTree::with_attributes`], from images held in full or from what
-/// is kept of them.
+/// The table of a stack of images, from its tree. The images are the layers, the lowest first. Each
+/// layer's rows say of their nodes whose they are, when they were changed and the bits of their
+/// modes; all that has no row belongs to an owner.
+///
+/// It takes n log n steps in the paths that the stack shows; a row is sought in as many steps as
+/// the number of its layer's rows has binary digits. Attributes are worked out in several threads
+/// where there are many. An error comes only if memory was refused.
 pub fn table_of_layers<R: Threads + Sync, A: Allocator + Copy>(
     rt: &R,
     alloc: A,
     tree: Tree<A>,
-    layers: Layers<A>,
+    layers: Vec<Image<A>, A>,
     attributes: Attributes<A>,
 ) -> Result<Table<A>, AllocError>
-    requires tree { IsTreeOf 0 layers.all tree }
-    requires few { length layers.all ≤ MAX_LAYERS }
-    ensures stack { IfOk result (λ table. IsTableWith layers.all attributes.rows.items
-        attributes.owner table) }
-    ensures whole { IfOk result (λ table. table.whole ≡ layers.whole) }
+    requires tree { IsTreeOf 0 (bytes_of layers.items) tree }
+    requires few { length layers.items ≤ MAX_LAYERS }
+    ensures stack { IfOk result (λ table. IsTableWith (bytes_of layers.items)
+        attributes.rows.items attributes.owner table) }
+    ensures whole { IfOk result (λ table. table.whole ≡ all_whole layers.items) }
 {
     let (blocks, parts) = read_all(alloc, &tree, &layers)?;
     // what else a table holds takes the memory of the tree
@@ -148,14 +115,15 @@ pub fn table_of_layers<R: Threads + Sync, A: Allocator + Copy>(
 fn read_all<A: Allocator + Copy>(
     alloc: A,
     tree: &Tree<A>,
-    layers: &Layers<A>,
+    layers: &[Image<A>],
 ) -> Result<(u64, TableParts<A>), AllocError>
-    requires tree { IsTreeOf 0 layers.now.all tree.now }
-    requires few { length layers.now.all ≤ MAX_LAYERS }
-    ensures blocks { IfOk result (λ it. it.0 ≡ blocks_all layers.now.all) }
-    ensures made { IfOk result (λ it. AreMade layers.now.all it.1.nodes.items it.1.directories) }
+    requires tree { IsTreeOf 0 (bytes_of layers.now) tree.now }
+    requires few { length layers.now ≤ MAX_LAYERS }
+    ensures blocks { IfOk result (λ it. it.0 ≡ blocks_all (bytes_of layers.now)) }
+    ensures made { IfOk result (λ it.
+        AreMade (bytes_of layers.now) it.1.nodes.items it.1.directories) }
 {
-    let views = layers.views(alloc)?;
+    let views = views_of(alloc, layers)?;
     let blocks = blocks_of(&views);
     let parts = parts_of(alloc, tree, &views)?;
     Ok((blocks, parts))

@@ -11,7 +11,7 @@ use crate::path_text::PathText;
 use crate::room::Room;
 use devices::{Failed, Sink};
 use std::alloc::{AllocError, Allocator};
-use table_reader::{Layers, Table};
+use table_reader::Table;
 
 // How many bytes of lines wait before they are written.
 const PIECE: usize = 65_536;
@@ -138,7 +138,7 @@ impl<A: Allocator> Room<A> {
             (passage (K.state sink.new) self.new.waiting.items)
             (lines table.now) }
     {
-        are_images(table.layers());
+        are_images(table);
         if table.len() == 0 {
             return Ok(());
         }
@@ -149,11 +149,11 @@ impl<A: Allocator> Room<A> {
 
 // Tells that each image keeps all rules, and does nothing else: what a call on an image promises
 // says so of that image.
-fn are_images<A: Allocator>(layers: &Layers<A>)
-    ensures { AreImages layers.now.all }
+fn are_images<A: Allocator>(table: &Table<A>)
+    ensures { AreImages table.now.layers }
 {
-    for layer in 0..layers.len() {
-        if let Some(view) = layers.view(layer) {
+    for layer in 0..table.layer_count() {
+        if let Some(view) = table.view(layer) {
             let _full = view.full();
         }
     }

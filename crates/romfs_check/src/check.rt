@@ -1,14 +1,15 @@
 //! Whether bytes are an image.
 
-ghost use Rattle.std.specs.Prelude.{◌≡◌, IfOk, IfErr};
+ghost use Rattle.std.specs.Prelude.{◌≡◌, true, IfOk, IfErr};
 ghost use Rattle.romfs_format.specs.Rules.{IsSound};
 ghost use Rattle.romfs_format.specs.Trailer.{rows_shown};
+ghost use Rattle.held_image.specs.Images.{held_bytes, is_whole};
 ghost use Rattle.romfs_check.specs.Checks.{IsChecked, IsCheckedWithRows};
 ghost use Rattle.romfs_check.specs.Refusals.{IsRefusal};
 
 use crate::refusal::CheckFault;
 use attribute_rows::Rows;
-use held_image::Held;
+use held_image::{Held, HeldImage};
 use romfs_format::Profile;
 use romfs_reader::Image;
 use romfs_rules::first_fault;
@@ -22,9 +23,6 @@ pub trait Check: Sized {
     /// The bytes.
     type Bytes;
 
-    /// What their attribute trailer says.
-    type Rows;
-
     /// Checks bytes by the usual profile.
     fn check(alloc: Self::Memory, bytes: Self::Bytes) -> Result<Self, CheckFault>;
 
@@ -34,21 +32,12 @@ pub trait Check: Sized {
         bytes: Self::Bytes,
         profile: Profile,
     ) -> Result<Self, CheckFault>;
-
-    /// Checks bytes by the rules of a profile, and reads the rows that it shows.
-    fn check_with_rows(
-        alloc: Self::Memory,
-        bytes: Self::Bytes,
-        profile: Profile,
-    ) -> Result<(Self, Self::Rows), CheckFault>;
 }
 
 impl<A: Allocator + Copy> Check for Image<A> {
     type Memory = A;
 
     type Bytes = Vec<u8, A>;
-
-    type Rows = Rows<A>;
 
     /// Checks that bytes are an image by the usual profile, and keeps the accessible ones: as many
     /// as the full size says (romfs.rst, the volume header). Bytes after them are not looked at.
@@ -61,7 +50,8 @@ impl<A: Allocator + Copy> Check for Image<A> {
     /// anywhere. Beside the image it takes at most a byte for each 40 of its bytes and 96 for each
     /// header that is reached, and keeps none of it.
     fn check(alloc: A, bytes: Vec<u8, A>) -> Result<Image<A>, CheckFault>
-        ensures ok { IfOk result (IsChecked Profile.Usual bytes.items) }
+        ensures ok { IfOk result (λ image. IsChecked Profile.Usual bytes.items image.bytes) }
+        ensures whole { IfOk result (λ image. image.whole ≡ true) }
         ensures err { IfErr result (IsRefusal Profile.Usual bytes.items) }
     {
         Image::check_as(alloc, bytes, Profile::Usual)
@@ -73,37 +63,42 @@ impl<A: Allocator + Copy> Check for Image<A> {
     /// requires that the attribute trailer after the full size, if there is one, is not broken.
     #[tactic(auto, using(romfs_format::proofs::Faults::profile_sound))]
     fn check_as(alloc: A, bytes: Vec<u8, A>, profile: Profile) -> Result<Image<A>, CheckFault>
-        ensures ok { IfOk result (IsChecked profile bytes.items) }
+        ensures ok { IfOk result (λ image. IsChecked profile bytes.items image.bytes) }
+        ensures whole { IfOk result (λ image. image.whole ≡ true) }
         ensures err { IfErr result (IsRefusal profile bytes.items) }
     {
-        hold(alloc, &Held::whole(&bytes), profile)?;
-        Ok(Image::of_sound(bytes))
-    }
-
-    /// Checks that bytes are an image as `check_as` does, and also gives the rows of its attribute
-    /// trailer: none if it has no trailer, or the profile has no attributes. They take 28 bytes
-    /// each.
-    #[tactic(auto, using(romfs_format::proofs::Faults::profile_sound))]
-    fn check_with_rows(
-        alloc: A,
-        bytes: Vec<u8, A>,
-        profile: Profile,
-    ) -> Result<(Image<A>, Rows<A>), CheckFault>
-        ensures ok { IfOk result (λ both. IsCheckedWithRows profile bytes.items both.0 both.1) }
-        ensures err { IfErr result (IsRefusal profile bytes.items) }
-    {
-        hold(alloc, &Held::whole(&bytes), profile)?;
-        let rows = rows_of(alloc, &Held::whole(&bytes), profile)?;
-        Ok((Image::of_sound(bytes), rows))
+        let whole = HeldImage::Whole(bytes);
+        hold(alloc, &whole.held(), profile)?;
+        Ok(Image::of_sound(whole))
     }
 }
 
-/// Holds an image to the rules of a profile.
-pub(crate) fn hold<A: Allocator + Copy>(
+/// Checks that what is held of an image keeps the rules of a profile, and keeps what is held of its
+/// accessible bytes, with the rows of its attribute trailer beside it: none where it has no
+/// trailer, or the profile is one without attributes. They take 28 bytes each. Of an image that
+/// stays in its file nothing else is looked at: of a trailer that was not kept nothing is said.
+///
+/// `Broken` names the fault as [`Check::check_as`] does; of what was gathered from known bytes it
+/// is the fault of these ([`laws`](crate::laws)). `Memory` comes only if memory was refused. It
+/// takes the steps and the memory of that check.
+#[tactic(auto, using(romfs_format::proofs::Faults::profile_sound))]
+pub fn check_held<A: Allocator + Copy>(
     alloc: A,
-    image: &Held<'_>,
+    held: HeldImage<A>,
     profile: Profile,
-) -> Result<(), CheckFault>
+) -> Result<(Image<A>, Rows<A>), CheckFault>
+    ensures ok { IfOk result (λ both.
+        IsCheckedWithRows profile (held_bytes held) both.0.bytes both.1) }
+    ensures whole { IfOk result (λ both. both.0.whole ≡ is_whole held) }
+    ensures err { IfErr result (IsRefusal profile (held_bytes held)) }
+{
+    hold(alloc, &held.held(), profile)?;
+    let rows = rows_of(alloc, &held.held(), profile)?;
+    Ok((Image::of_sound(held), rows))
+}
+
+/// Holds an image to the rules of a profile.
+fn hold<A: Allocator + Copy>(alloc: A, image: &Held<'_>, profile: Profile) -> Result<(), CheckFault>
     ensures ok { IfOk result (λ _. IsSound profile image.now) }
     ensures err { IfErr result (IsRefusal profile image.now) }
 {
@@ -114,7 +109,7 @@ pub(crate) fn hold<A: Allocator + Copy>(
 }
 
 /// The rows of a sound image that its profile shows.
-pub(crate) fn rows_of<A: Allocator>(
+fn rows_of<A: Allocator>(
     alloc: A,
     image: &Held<'_>,
     profile: Profile,

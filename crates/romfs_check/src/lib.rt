@@ -1,25 +1,23 @@
 //! Whether bytes are a romfs image.
 //!
 //! [`Image::check`](Check::check) keeps the accessible bytes of an image that breaks no rule, and
-//! otherwise names the first broken rule, and where. It answers for every list of bytes.
-//! [`Image::check_as`](Check::check_as) takes every profile, and
-//! [`Image::check_with_rows`](Check::check_with_rows) gives the rows of the attribute trailer too.
-//! [`check_kept`] judges what is kept of an image that stays in its file, and [`laws`] says that
-//! this judges the image. The promises of a check use the definitions of `romfs_format`, and those
-//! in `specs/`: which bytes it accepts (`Checks`), and why it refuses others (`Refusals`, as text
-//! `Texts`). The crate uses `romfs_rules`, `romfs_reader` and `attribute_rows`, apart from them, so
-//! crates that use images are proved beside the rules, not after them.
+//! else names the rule that is broken first, and where. It answers for every list of bytes.
+//! [`Image::check_as`](Check::check_as) takes every profile. [`check_held`] takes an image that is
+//! held whole, or what is kept of one that stays in its file, and gives the rows of its attribute
+//! trailer too; [`laws`] says that what is kept is judged as the image. What a check promises is
+//! said by the definitions of `romfs_format`, and in
+//! `specs/`: what bytes are that it takes (`Checks`), and why it refuses others (`Refusals`, in
+//! words `Texts`). The crate stands on `romfs_rules`, `romfs_reader` and `attribute_rows`, apart
+//! from them, so that what stands on images is proved beside the rules, and not after them.
 #![tactic(auto)]
 
 mod check;
-mod kept;
 pub mod laws;
 pub mod refusal;
 
 pub use attribute_rows::Rows;
-pub use check::Check;
-pub use held_image::Kept;
-pub use kept::check_kept;
+pub use check::{Check, check_held};
+pub use held_image::{HeldImage, Kept};
 pub use refusal::CheckFault;
 pub use romfs_format::{AttributeRow, Head, ImageFault, Kind, Profile, Rule};
-pub use romfs_reader::{Ends, Image, ImageView, KeptImage, Members, Part, views_of};
+pub use romfs_reader::{Ends, Image, ImageView, Members, Part, views_of};

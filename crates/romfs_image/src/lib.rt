@@ -9,5 +9,5 @@
 pub mod sample;
 
 pub use romfs_check::{
-    Check, CheckFault, Ends, Head, Image, ImageFault, Kind, Members, Part, Profile, Rule,
+    Check, CheckFault, Ends, Head, HeldImage, Image, ImageFault, Kind, Members, Part, Profile, Rule,
 };

@@ -1,6 +1,7 @@
 pub mod Chain
 pub mod Keeps
 pub mod Given
+pub mod Lent
 pub mod Listing
 pub mod Hops
 pub mod Named

@@ -4,7 +4,7 @@ ghost use Rattle.std.specs.Prelude.{◌≡◌, ◌≢◌, ◌⊎◌, [], ◌+◌
 ghost use Rattle.romfs_format.specs.Fields.{root as root_of, name, kind as kind_in, size as size_in};
 ghost use Rattle.romfs_format.specs.Heads.{name_of, head_of};
 ghost use Rattle.romfs_format.specs.Links.{IsFinal};
-ghost use Rattle.romfs_reader.specs.Images.{IsImage};
+ghost use Rattle.romfs_reader.specs.Images.{IsImage, bytes_of};
 ghost use Rattle.romfs_reader.specs.Readers.{bytes_at, IsHeadAt, IsGiven, IsPart, IsDataPart, AreMembers};
 
 use crate::ends::Ends;
@@ -20,9 +20,8 @@ use romfs_format::{Head, Kind};
 use std::alloc::{AllocError, Allocator};
 use std::marker::Model;
 
-/// A sound image that is lent: an [`Image`](crate::Image), or what is kept of one
-/// ([`KeptImage`](crate::KeptImage)). A clause sees the accessible bytes, with zeros where nothing
-/// is kept, as for the data of files.
+/// A sound image that is lent: an [`Image`](crate::Image), of which a clause sees the accessible
+/// bytes, with zeros where nothing is kept; that is where files have their data.
 ///
 /// `members`, `target`, `name` and `data_part` ask for a header that this image gave, by `root`,
 /// `members` or `target`; by `head` a caller comes back to such a header from its offset. No reader
@@ -232,7 +231,7 @@ pub fn views_of<'a, A: Allocator>(
     alloc: A,
     images: &'a [Image<A>],
 ) -> Result<Vec<ImageView<'a>, A>, AllocError>
-    ensures { IfOk result (λ views. views.items ≡ images.now) }
+    ensures { IfOk result (λ views. views.items ≡ bytes_of images.now) }
 {
     let mut views = Vec::with_capacity(alloc, images.len())?;
     for image in images {

@@ -1,7 +1,9 @@
 -- What an end of serving tells: where it is `Ok` so was the stream's; where it is a refusal of images
--- it is that of no stream, and of one refusal alone.
-use Rattle.std.proofs.Common.{◌≡◌, ap, ℕ, Result, Ok, Err, refl}
+-- it is that of no stream, and of one refusal alone. Images that were not held are refused (`refused`).
+use Rattle.std.proofs.Common.{◌≡◌, ap, subst, ℕ, List, Result, Ok, Err, IfErr, IsErrAnd, refl}
 use Rattle.romfs_format.specs.declared.rule.ImageFault.{ImageFault}
+use Rattle.romfs_format.specs.declared.rule.Profile.{Profile}
+use Rattle.stack_prepare.specs.Layers.{AreRefused}
 use Rattle.stack_prepare.specs.declared.refusal.Refusal.{Refusal}
 use Rattle.stack_prepare.specs.declared.refusal.Refusal.TheVariants as refusals
 use Rattle.serve_loop.specs.declared.done.Done.{Done}
@@ -9,7 +11,7 @@ use Rattle.serve_loop.specs.declared.stream_fault.StreamFault.{StreamFault}
 use Rattle.serve_loop.specs.declared.stream_fault.StreamFault.TheVariants as faults
 use Rattle.serve_core.specs.declared.stop.Stop.{Stop}
 use Rattle.serve_core.specs.declared.stop.Stop.TheVariants.{Layer, Layers, Read, Write}
-use Rattle.serve_core.specs.Stops.{stop_of_fault, stop_of_refusal, told}
+use Rattle.serve_core.specs.Stops.{IsRefusal, stop_of_fault, stop_of_refusal, told}
 
 -- two results that are stops are so of one
 pub same_stop : {A : Type 0} {a b : Stop} → (let result : Result (Done A) Stop = Err a in result ≡ Err b) → a ≡ b
@@ -85,3 +87,14 @@ write_told (Err fault) e = ap Err (one fault (same_stop e))
     one faults.Memory e = absurd (cc)
     one (faults.BadLength at len) e = absurd (cc)
     one (faults.CutOff at) e = absurd (cc)
+
+-- why images were not held is why they are refused, by each profile
+pub refused : {X Y : Type 0} (profile : Profile) (images : List (List ℕ)) (refusal : Refusal) (ended : Result Y Refusal)
+    (told : Result X Stop) → ended ≡ Err refusal → ((by : Profile) → IfErr ended (λ why. AreRefused by images why))
+    → IsErrAnd told (λ stop. stop ≡ stop_of_refusal refusal) → IfErr told (IsRefusal profile images)
+refused profile images refusal ended (Ok x) was why is = tt
+refused profile images refusal ended (Err stop) was why is = record {
+  refusal = refusal;
+  stop_is = is;
+  refused = subst (λ result. IfErr result (λ r. AreRefused profile images r)) was (why profile);
+}

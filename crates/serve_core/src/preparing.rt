@@ -8,7 +8,7 @@ ghost use Rattle.serve_core.specs.Stops.{IsRefusal};
 
 use crate::stop::Stop;
 use romfs_format::Profile;
-use stack_prepare::{SharedAllocator, Table};
+use stack_prepare::{Owner, SharedAllocator, Table, whole_images};
 use std::thread::Threads;
 use work_gate::Gate;
 
@@ -43,5 +43,6 @@ pub fn prepare_as<R: Threads + Sync, A: SharedAllocator, G: Gate + Sync>(
     ensures err { IfErr result (IsRefusal profile (contents_of images)) }
     ensures whole { IfOk result (λ table. table.whole ≡ true) }
 {
-    Ok(stack_prepare::prepare_as(rt, alloc, images, profile, gate)?)
+    let images = whole_images(alloc, images)?;
+    Ok(stack_prepare::prepare(rt, alloc, images, profile, Owner::ROOT, gate)?)
 }

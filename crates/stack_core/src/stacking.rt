@@ -5,6 +5,7 @@ ghost use Rattle.std.specs.Option.{option_map};
 ghost use Rattle.std.specs.Thread.{IsSync};
 ghost use denote.Param.Send.{IsSend, Frees};
 ghost use Rattle.stack_model.specs.declared.limits.TheConstants.{MAX_LAYERS};
+ghost use Rattle.romfs_reader.specs.Images.{bytes_of};
 ghost use Rattle.whiteout_tree.specs.Trees.{IsTreeOf, entry_at};
 
 use layer_tree::{Place, Tree, lay, tree_of};
@@ -23,7 +24,7 @@ pub fn stack<R: Threads + Sync, A: Allocator + Copy + Send + Sync, G: Gate + Syn
 ) -> Result<Tree<A>, AllocError>
     requires some { 1 ≤ length images.now }
     requires few { length images.now ≤ MAX_LAYERS }
-    ensures { IfOk result (λ tree. IsTreeOf 0 images.now tree) }
+    ensures { IfOk result (λ tree. IsTreeOf 0 (bytes_of images.now) tree) }
 {
     stack_views(rt, alloc, &views_of(alloc, images)?, gate)
 }

@@ -1,3 +1,3 @@
 pub mod Checked
 pub mod Refusals
-pub mod Apart
+pub mod Stacked

@@ -1,6 +1,9 @@
 -- Images that can be stacked as layers, and why others are refused.
-use Rattle.std.specs.Prelude.{◌≡◌, ℕ, ◌<◌, ◌≤◌, ◌⊎◌, List, ◌∷◌, ◌++◌, length, map, All}
+use Rattle.std.specs.Prelude.{◌≡◌, ℕ, ◌<◌, ◌≤◌, ◌⊎◌, Bool, List, ◌∷◌, ◌++◌, length, map, All}
+use Rattle.std.specs.List.{list_all}
 use Rattle.std.specs.declared.vec.Vec.{Vec}
+use Rattle.held_image.specs.declared.image.HeldImage.{HeldImage}
+use Rattle.held_image.specs.Images.{held_bytes, is_whole}
 use Rattle.stack_model.specs.declared.limits.TheConstants.{MAX_LAYERS}
 use Rattle.romfs_format.specs.Fields.{image}
 use Rattle.romfs_format.specs.Rules.{IsFault, IsSound}
@@ -12,6 +15,14 @@ use Rattle.stack_prepare.specs.declared.refusal.Refusal.TheVariants.{Layer, Laye
 -- the bytes of images
 abbrev pub contents_of : {A B : Type 0} → Vec (Vec ℕ A) B → List (List ℕ)
 contents_of images = map (λ image. image.items) images.items
+
+-- the bytes that are held of images, with zeros where nothing is kept
+abbrev pub held_contents : {A B : Type 0} → Vec (HeldImage A) B → List (List ℕ)
+held_contents images = map held_bytes images.items
+
+-- all images are held whole
+abbrev pub are_whole : {A : Type 0} → List (HeldImage A) → Bool
+are_whole images = list_all is_whole images
 
 -- 1 to 128 layers can be stacked
 abbrev pub IsFew : ℕ → Type 0
@@ -42,3 +53,8 @@ AreRefused profile images (Layers count) =
 AreRefused profile images (Layer layer fault) =
     IsFew (length images) × IsLowestBroken profile images layer fault
 AreRefused profile images Memory = IsFew (length images)
+
+-- so many images are refused for their number alone
+abbrev pub AreTooFewOrMany : ℕ → Refusal → Type 0
+AreTooFewOrMany count refusal =
+    (refusal ≡ Layers count) × ((count ≡ 0) ⊎ (MAX_LAYERS < count))

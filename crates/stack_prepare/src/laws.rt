@@ -1,5 +1,5 @@
-//! Why images are refused, and what they show without attributes: consequences of what
-//! [`crate::prepare_as`] promises.
+//! Why images are refused, and what they show where no attributes are asked for: what follows from
+//! what [`crate::prepare`] promises.
 
 ghost use Rattle.std.specs.Prelude.{◌≡◌, ◌⊎◌, List, ℕ, false};
 ghost use Rattle.node_attr.specs.declared.owner.TheConstants.Owner.{ROOT};
@@ -23,9 +23,9 @@ pub fn refusals_are_one()
         AreLayers profile images layers → AreRefused profile images r → r ≡ Memory }
 {}
 
-/// If a profile reads no attributes, and everything belongs to the superuser, the attributes of
-/// each place are those of the layers without any rows, whatever follows the images.
-#[tactic(auto, using(crate::proofs::Apart::unasked))]
+/// Where a profile reads no attributes, and all belongs to the superuser, the attributes of each
+/// place are those of the layers without any rows, whatever stands behind the images.
+#[tactic(auto, using(crate::proofs::Stacked::unasked))]
 pub fn attributes_are_asked_for()
     ensures { (profile : Profile) (images : List (List ℕ)) (stack : Stacked) (p : Place) →
         reads_attributes profile ≡ false → AreStacked profile ROOT images stack →

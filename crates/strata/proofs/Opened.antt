@@ -1,57 +1,57 @@
--- The images of a line. `are_sources` says of images that were taken apart what their data are read from, `no_sources` of those that are
--- read in full, `stacked_sources` that their stack has the same; `read_held` and `whole_held` that nothing is where they are read in full,
--- and `held_whole` that a stack without sources is held. `seen_as` lends their files. `one_held` is the step of the loop that holds images
--- whole; `whole_ones` and `gathered_ones` say what is held of images for a line.
-use Rattle.std.proofs.Common.{◌≡◌, ◌≤◌, ◌⊎◌, ◌||◌, ◌∙◌, sym, ap, subst, refl, ℕ, suc, inl, inr, true, false, true≢false, List, [], ◌∷◌, ◌++◌, append_assoc, length, map, All, Bool, Option, Some, Vec, vec_len, arith}
-use Rattle.std.specs.List.{AllByRecursion}
-use Rattle.std.proofs.lemmas.List.Elements.{All-map, All-same, All-weaker, recursion_from_All}
+-- The images of a line. `loaded_sources` says what the data of those that were loaded are read from, `stacked_sources` that
+-- their stack has the same; `read_held` and `whole_held` that nothing is where they are read in full, and `held_whole` that a
+-- stack without sources is held. `seen_as` lends their files. `loaded_ones` says what is held of images for a line that checks.
+use Rattle.std.proofs.Common.{◌≡◌, ◌≤◌, ◌⊎◌, ◌||◌, ◌∙◌, sym, ap, subst, refl, ℕ, suc, inl, inr, true, false, true≢false, List, [], ◌∷◌, length, map, Bool, Option, Vec, vec_len, arith}
+use Rattle.std.specs.List.{AllByRecursion, list_all}
+use Rattle.std.proofs.lemmas.List.Sums.{list_all-from_AllPass}
+use Rattle.std.proofs.lemmas.List.{length-map}
+use Rattle.std.proofs.lemmas.List.Elements.{All-map, All-weaker, recursion_from_All}
 use Rattle.image_bytes.specs.Sources.{Source}
 use Rattle.image_files.specs.declared.image_data.ImageData.{ImageData}
 use Rattle.image_files.specs.declared.image_data.ImageData.TheVariants.{File, Memory}
-use Rattle.image_files.specs.declared.whole.Trailers.{Trailers}
-use Rattle.image_files.specs.declared.opening.HeldImage.{HeldImage}
-use Rattle.image_files.specs.declared.opening.HeldImage.TheVariants.{Whole}
+use Rattle.image_files.specs.declared.loaded.LoadedImage.{LoadedImage}
+use Rattle.image_files.specs.declared.loaded.Loading.{Loading}
+use Rattle.image_files.specs.declared.loaded.Loading.TheVariants as how
+use Rattle.image_files.specs.declared.loaded.Trailers.{Trailers}
 use Rattle.image_files.specs.Data.{known_bytes, source_of}
-use Rattle.image_files.specs.Files.{AreBytesOf, IsHeldOf, IsOfFile}
-use Rattle.image_files.specs.Opened.{Opened, AreApart, IsFaithful, WasGathered}
+use Rattle.held_image.specs.declared.image.HeldImage.{HeldImage}
+use Rattle.held_image.specs.declared.image.HeldImage.TheVariants.{Kept, Whole}
+use Rattle.held_image.specs.Images.{held_bytes, is_whole}
+use Rattle.image_files.specs.Files.{AreLoaded, IsHeldOf, IsHeldWith, IsLoadedOf, IsOfFile, IsWholeOf}
+use Rattle.image_files.specs.Loaded.{AreApart, IsKeptWith, before, files_of}
 use Rattle.command_line.specs.declared.options.Line.{Line}
 use Rattle.stack_model.specs.Listing.{Stacked}
 use Rattle.reply_model.specs.Readings.{Sourced, in_memory, sourced}
-use Rattle.strata.specs.Images.{AreDataOf, AreHeldFor, AreHeldWhole, ArePrepared, AreReadWhole, HaveSources, IsDataOf, sources_of, stay_in_files, trailers_of}
+use Rattle.strata.specs.Images.{AreDataOf, AreHeldFor, AreHeldWhole, ArePrepared, AreReadWhole, HaveSources, IsDataOf, IsLoadingOf, sources_of, stay_in_files, trailers_of}
 
--- the data of an image that is open, of which these bytes are known
-is_data : {F A : Type 0} (trailers : Trailers) (image : Opened) (file : ImageData F A) → known_bytes file ≡ image.known
-    → image.trailers ≡ trailers → IsFaithful image → IsDataOf trailers image.kept (source_of file)
-is_data trailers image (File file) known read faithful = inl refl
-is_data trailers image (Memory bytes) known read faithful = inr (
-  bytes.items,
-  refl,
-  subst (λ t. WasGathered t (Some bytes.items) image.kept) read
-      (subst (λ k. WasGathered image.trailers k image.kept) (sym known) faithful),
-)
+-- the data of an image that is open
+is_data : {F A : Type 0} (trailers : Trailers) (held : HeldImage A) (source : ImageData F A)
+    → IsKeptWith (known_bytes source) trailers held → IsDataOf trailers (held_bytes held) (source_of source)
+is_data trailers (Whole bytes) source h = absurd h
+is_data trailers (Kept kept) (File file) h = inl refl
+is_data trailers (Kept kept) (Memory bytes) h = inr (bytes.items, refl, h)
 
-are_data : {F A : Type 0} (trailers : Trailers) (images : List Opened) (files : List (ImageData F A))
-    → map known_bytes files ≡ map (λ (image : Opened). image.known) images
-    → AllByRecursion (λ (image : Opened). image.trailers ≡ trailers) images → AllByRecursion IsFaithful images
-    → AreDataOf trailers (map (λ (image : Opened). image.kept) images) (map source_of files)
-are_data trailers [] [] known read faithful = tt
-are_data trailers [] (d ∷ files) known read faithful = absurd (cc)
-are_data trailers (image ∷ images) [] known read faithful = absurd (cc)
-are_data trailers (image ∷ images) (d ∷ files) known read faithful =
-    let first : known_bytes d ≡ image.known = cc in
-    let rest : map known_bytes files ≡ map (λ (image : Opened). image.known) images = cc in
-    (is_data trailers image d first read.0 faithful.0, are_data trailers images files rest read.1 faithful.1)
+abbrev held_of : {F A : Type 0} → List (LoadedImage F A) → List (HeldImage A)
+held_of {F} {A} images = map (λ (image : LoadedImage F A). image.held) images
 
--- the sources of images that were taken apart, for a line whose images are not read in full
-pub are_sources : {F A B C : Type 0} (line : Line) (images : List Opened) (kept : Vec (List ℕ) B) (files : Vec (ImageData F A) C)
+are_data : {F A : Type 0} (known : F → Option (List ℕ)) (trailers : Trailers) (images : List (LoadedImage F A))
+    → AllByRecursion (IsOfFile (λ file. IsLoadedOf (known file) (how.Open trailers))) images
+    → AreDataOf trailers (map held_bytes (held_of images)) (map source_of (files_of images))
+are_data known trailers [] all = tt
+are_data known trailers (image ∷ images) all =
+    let its = all.0.read in
+    subst (λ s. AreDataOf trailers (held_bytes image.held ∷ map held_bytes (held_of images)) (map source_of (before s (files_of images))))
+    (sym its.over.source_is)
+    (is_data trailers image.held its.source its.over.kept.1, are_data known trailers images all.1)
+
+-- the sources of images that stay in their files
+are_sources : {F A : Type 0} (line : Line) (known : F → Option (List ℕ)) (images : List (LoadedImage F A)) (whole : Bool)
     (told : List (Option ℕ)) → length told ≡ vec_len line.images → (AreReadWhole line told → ⊥)
-    → All (λ (image : Opened). image.trailers ≡ trailers_of line) images → AreApart images kept.items files.items
-    → HaveSources line false kept.items (sources_of files)
-are_sources line images kept files told each left read apart =
-    let are = subst (λ held. AreDataOf (trailers_of line) held (sources_of files)) (sym apart.kept_are)
-    (are_data (trailers_of line) images files.items apart.known_are
-    (recursion_from_All (λ (image : Opened). image.trailers ≡ trailers_of line) images read)
-    (recursion_from_All IsFaithful images apart.gathered)) in
+    → AreLoaded known (how.Open (trailers_of line)) images
+    → HaveSources line whole (map held_bytes (held_of images)) (map source_of (files_of images))
+are_sources line known images whole told each left loaded =
+    let are = are_data known (trailers_of line) images
+    (recursion_from_All (IsOfFile (λ file. IsLoadedOf (known file) (how.Open (trailers_of line)))) images loaded) in
     record {
       told = told;
       each = each;
@@ -60,11 +60,31 @@ are_sources line images kept files told each left read apart =
       either = inr are;
     }
 
--- the data of images that are read in full are read from nothing
-pub no_sources : {F A B : Type 0} (line : Line) (images : List (List ℕ)) (files : Vec (ImageData F A) B) (told : List (Option ℕ))
-    → length told ≡ vec_len line.images → AreReadWhole line told → files.items ≡ [] → HaveSources line true images (sources_of files)
-no_sources line images files told each all none =
-    let held : AreHeldWhole true (sources_of files) = (refl, ap (map source_of) none) in
+is_whole_of : {A : Type 0} (known : Option (List ℕ)) (held : HeldImage A) → IsWholeOf known held → is_whole held ≡ true
+is_whole_of known (Kept kept) h = absurd h
+is_whole_of known (Whole bytes) h = refl
+
+-- images that are read in full are held whole
+all_held : {F A : Type 0} (known : F → Option (List ℕ)) (images : List (LoadedImage F A)) → AreLoaded known how.Whole images
+    → list_all is_whole (held_of images) ≡ true
+all_held {F} {A} known images h = list_all-from_AllPass is_whole (held_of images)
+    (All-map (λ (held : HeldImage A). is_whole held ≡ true) (λ (image : LoadedImage F A). image.held) images
+    (All-weaker (IsOfFile (λ file. IsLoadedOf (known file) how.Whole)) (λ (image : LoadedImage F A). is_whole image.held ≡ true)
+    (λ image of. is_whole_of (known of.file) image.held of.read.0) images h))
+
+-- and their data are read from nothing
+no_files : {F A : Type 0} (known : F → Option (List ℕ)) (images : List (LoadedImage F A))
+    → AllByRecursion (IsOfFile (λ file. IsLoadedOf (known file) how.Whole)) images → files_of images ≡ []
+no_files known [] all = refl
+no_files known (image ∷ images) all = ap (λ s. before s (files_of images)) all.0.read.1 ∙ no_files known images all.1
+
+no_sources : {F A : Type 0} (line : Line) (known : F → Option (List ℕ)) (images : List (LoadedImage F A)) (told : List (Option ℕ))
+    → length told ≡ vec_len line.images → AreReadWhole line told → AreLoaded known how.Whole images
+    → HaveSources line (list_all is_whole (held_of images)) (map held_bytes (held_of images)) (map source_of (files_of images))
+no_sources line known images told each all loaded =
+    let none = no_files known images (recursion_from_All (IsOfFile (λ file. IsLoadedOf (known file) how.Whole)) images loaded) in
+    let held : AreHeldWhole (list_all is_whole (held_of images)) (map source_of (files_of images)) =
+        (all_held known images loaded, ap (map source_of) none) in
     record {
       told = told;
       each = each;
@@ -73,7 +93,29 @@ no_sources line images files told each all none =
       either = inl held;
     }
 
--- what images have their data from where they are held in full, a stack that is whole has too
+-- as many images are held as were loaded
+pub as_many_held : {F A : Type 0} (images : List (LoadedImage F A)) (held : List (HeldImage A)) (files : List (ImageData F A))
+    → AreApart images held files → length (map held_bytes held) ≡ length images
+as_many_held {F} {A} images held files apart =
+    length-map held held_bytes ∙ ap length apart.held_are ∙ length-map images (λ (image : LoadedImage F A). image.held)
+
+-- what the data of the images of a line are read from, as they are loaded
+pub loaded_sources : {F A : Type 0} (line : Line) (known : F → Option (List ℕ)) (loading : Loading) (images : List (LoadedImage F A))
+    (held : List (HeldImage A)) (files : List (ImageData F A)) → IsLoadingOf line (how.Open (trailers_of line)) loading
+    → AreLoaded known loading images → AreApart images held files
+    → HaveSources line (list_all is_whole held) (map held_bytes held) (map source_of files)
+loaded_sources line known loading images held files is loaded apart =
+    subst (λ h. HaveSources line (list_all is_whole h) (map held_bytes h) (map source_of files)) (sym apart.held_are)
+    (subst (λ f. HaveSources line (list_all is_whole (held_of images)) (map held_bytes (held_of images)) (map source_of f))
+    (sym apart.files_are) (by_way is.is))
+  where
+    by_way : (AreReadWhole line is.told × (loading ≡ how.Whole)) ⊎ ((AreReadWhole line is.told → ⊥) × (loading ≡ how.Open (trailers_of line)))
+        → HaveSources line (list_all is_whole (held_of images)) (map held_bytes (held_of images)) (map source_of (files_of images))
+    by_way (inl whole) = no_sources line known images is.told is.each whole.0 (subst (λ l. AreLoaded known l images) whole.1 loaded)
+    by_way (inr left) = are_sources line known images (list_all is_whole (held_of images)) is.told is.each left.0
+        (subst (λ l. AreLoaded known l images) left.1 loaded)
+
+-- what images have their data from where they are held whole, a stack that is whole has too
 pub stacked_sources : (line : Line) (whole stacked : Bool) (images : List (List ℕ)) (sources : List Source)
     → (whole ≡ true → stacked ≡ true) → HaveSources line whole images sources → HaveSources line stacked images sources
 stacked_sources line whole stacked images sources same have =
@@ -142,24 +184,36 @@ pub in_their_files : (line : Line) (images : List (List ℕ)) (by : Sourced) →
 in_their_files line images by left said p =
     left_in_files line images by p (not_whole line p.sources.told left (stays line.in_files line.device said))
 
--- the next image goes from those that are left to those that are held
-pub one_held : {X Y : Type 0} (w : Y → X) (all done : List X) (left rest : List Y) (y : Y) → all ≡ done ++ map w left → left ≡ y ∷ rest
-    → all ≡ (done ++ w y ∷ []) ++ map w rest
-one_held w all done left rest y e l =
-    e ∙ ap (λ ys. done ++ map w ys) l ∙ sym (append_assoc done (w y ∷ []) (map w rest))
+held_with : {A : Type 0} (known : Option (List ℕ)) (trailers its : Trailers) (held : HeldImage A) → IsWholeOf known held
+    → IsHeldWith known trailers its held
+held_with known trailers its (Kept kept) h = absurd h
+held_with known trailers its (Whole bytes) h = h
 
--- images that are held in full are held so for any line
-pub whole_ones : {F A : Type 0} (line : Line) (known : F → Option (List ℕ)) (images : List (Vec ℕ A)) (held : List (HeldImage A))
-    → held ≡ map Whole images → All (IsOfFile (λ file. AreBytesOf (known file))) images → AreHeldFor line known held
-whole_ones line known images held e h =
-    let is = IsOfFile (λ file. IsHeldOf (known file) (trailers_of line)) in
-    All-same is held (map Whole images) e (All-map is Whole images (All-weaker (IsOfFile (λ file. AreBytesOf (known file)))
-    (λ bytes. is (Whole bytes)) (λ bytes of. record { file = of.file; read = of.read }) images h))
+whole_ones : {F A : Type 0} (line : Line) (known : F → Option (List ℕ)) (images : List (LoadedImage F A))
+    → AreLoaded known how.Whole images → AreHeldFor line known images
+whole_ones line known images h =
+    All-weaker (IsOfFile (λ file. IsLoadedOf (known file) how.Whole)) (IsOfFile (λ file. IsHeldOf (known file) (trailers_of line)))
+    (λ image of. record {
+      file = of.file;
+      read = held_with (known of.file) (trailers_of line) image.trailers image.held of.read.0;
+    }) images h
 
--- images that are gathered with the trailers that a line asks for are held for it
-pub gathered_ones : {F A : Type 0} (line : Line) (known : F → Option (List ℕ)) (images : List (HeldImage A)) (trailers : Trailers)
-    → trailers ≡ trailers_of line → All (IsOfFile (λ file. IsHeldOf (known file) trailers)) images → AreHeldFor line known images
-gathered_ones line known images trailers e h = subst (λ these. All (IsOfFile (λ file. IsHeldOf (known file) these)) images) e h
+gathered_ones : {F A : Type 0} (line : Line) (known : F → Option (List ℕ)) (images : List (LoadedImage F A))
+    → AreLoaded known (how.Gather (trailers_of line)) images → AreHeldFor line known images
+gathered_ones line known images h =
+    let gather = how.Gather (trailers_of line) in
+    All-weaker (IsOfFile (λ file. IsLoadedOf (known file) gather)) (IsOfFile (λ file. IsHeldOf (known file) (trailers_of line)))
+    (λ image of. record { file = of.file; read = of.read.0 }) images h
+
+-- images that are loaded for a line that checks are held for it
+pub loaded_ones : {F A : Type 0} (line : Line) (known : F → Option (List ℕ)) (loading : Loading) (images : List (LoadedImage F A))
+    → IsLoadingOf line (how.Gather (trailers_of line)) loading → AreLoaded known loading images → AreHeldFor line known images
+loaded_ones line known loading images is loaded = by_way is.is
+  where
+    by_way : (AreReadWhole line is.told × (loading ≡ how.Whole)) ⊎ ((AreReadWhole line is.told → ⊥) × (loading ≡ how.Gather (trailers_of line)))
+        → AreHeldFor line known images
+    by_way (inl whole) = whole_ones line known images (subst (λ l. AreLoaded known l images) whole.1 loaded)
+    by_way (inr left) = gathered_ones line known images (subst (λ l. AreLoaded known l images) left.1 loaded)
 
 -- images that are prepared with their files are so with all of these, lent
 pub seen_as : {F A B : Type 0} (line : Line) (images : List (List ℕ)) (stack : Stacked) (files : Vec (ImageData F A) B)

@@ -4,9 +4,9 @@
 use Rattle.std.proofs.Common.{◌≡◌, ◌≢◌, ◌∙◌, ◌≤◌, ◌⊎◌, ◌↔◌, sym, ap, subst, ℕ, inl, inr, List, [], ◌∷◌, Bool, true, false, length, map, Some, None, arith, refl, if◌then◌else◌}
 use Rattle.std.specs.Prelude.{slice_index_or}
 use Rattle.image_bytes.specs.Sources.{Source, held, unknown}
-use Rattle.image_files.specs.declared.whole.Trailers.{Trailers}
-use Rattle.image_files.specs.declared.whole.Trailers.TheVariants.{Read, Left}
-use Rattle.image_files.specs.Opened.{WasGathered}
+use Rattle.image_files.specs.declared.loaded.Trailers.{Trailers}
+use Rattle.image_files.specs.declared.loaded.Trailers.TheVariants.{Read, Left}
+use Rattle.image_files.specs.Loaded.{WasGathered}
 use Rattle.kept_image.specs.Gathered.{IsGatheredOf, IsGatheredWithTrailerOf}
 use Rattle.romfs_format.specs.Profiles.{reads_attributes}
 use Rattle.stack_model.specs.Listing.{Stacked}

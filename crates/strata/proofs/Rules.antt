@@ -7,11 +7,14 @@ use Rattle.romfs_format.specs.Rules.{IsSound}
 use Rattle.romfs_check.specs.declared.refusal.CheckFault.{CheckFault}
 use Rattle.romfs_check.specs.Refusals.{IsRefusal}
 use Rattle.romfs_check.proofs.Gathered.{judged_alike, judged_with_trailer}
-use Rattle.image_files.specs.declared.whole.Trailers.TheVariants.{Read, Left}
-use Rattle.image_files.specs.declared.opening.HeldImage.{HeldImage}
-use Rattle.image_files.specs.declared.opening.HeldImage.TheVariants.{Kept, Whole}
-use Rattle.image_files.specs.Opened.{WasGathered}
-use Rattle.image_files.specs.Opening.{IsHeldWhole, held_bytes}
+use Rattle.image_files.specs.declared.loaded.Trailers.TheVariants.{Read, Left}
+use Rattle.image_files.specs.declared.loaded.LoadedImage.{LoadedImage}
+use Rattle.held_image.specs.declared.image.HeldImage.{HeldImage}
+use Rattle.held_image.specs.declared.image.HeldImage.TheVariants.{Kept, Whole}
+use Rattle.held_image.specs.Images.{held_bytes}
+use Rattle.image_files.specs.Files.{IsWholeOf}
+use Rattle.image_files.specs.Loaded.{WasGathered}
+use Rattle.image_files.specs.Opening.{IsHeldWhole, loaded_bytes}
 use Rattle.command_line.specs.declared.options.Line.{Line}
 use Rattle.serve_core.specs.declared.stop.Stop.{Stop}
 use Rattle.serve_core.specs.declared.stop.Stop.TheVariants as stops
@@ -55,12 +58,16 @@ pub judged : (line : Line) (bytes image : List ℕ) → WasGathered (trailers_of
     → IsJudged (profile_of line) bytes image
 judged line bytes image g = judged_by line.strict line.attributes bytes image g
 
--- an image that is held in full is judged as its file is
-pub judged_whole : {A : Type 0} (line : Line) (bytes : List ℕ) (image : HeldImage A) → IsHeldWhole (Some bytes) image
-    → IsJudged (profile_of line) bytes (held_bytes image)
-judged_whole line bytes (Kept kept its) h = absurd h
-judged_whole line bytes (Whole all) h =
+-- an image that is held whole is judged as its file is
+judged_held : {A : Type 0} (line : Line) (bytes : List ℕ) (held : HeldImage A) → IsWholeOf (Some bytes) held
+    → IsJudged (profile_of line) bytes (held_bytes held)
+judged_held line bytes (Kept kept) h = absurd h
+judged_held line bytes (Whole all) h =
     subst (IsJudged (profile_of line) bytes) (sym h) ((λ x. x, λ x. x), λ fault. (λ x. x, λ x. x))
+
+pub judged_whole : {F A : Type 0} (line : Line) (bytes : List ℕ) (image : LoadedImage F A) → IsHeldWhole (Some bytes) image
+    → IsJudged (profile_of line) bytes (loaded_bytes image)
+judged_whole line bytes image h = judged_held line bytes image.held h
 
 -- readers end with the status of one alone
 pub ends_alike : (stop : Stop) (input output : Bool)

@@ -1,6 +1,7 @@
 -- Images that are checked one after another. `one_more` is the step of the loop: the next image is
--- good, and its size is put behind the others. `first_refused` ends it: the next image is not good.
-use Rattle.std.proofs.Common.{◌≡◌, ◌∙◌, sym, ap, refl, subst, arith, ℕ, List, [], ◌∷◌, ◌++◌, append_assoc, length, map, inl, Result, Ok, Err, IfErr, IsErrAnd}
+-- good, and its size is put behind the others. `all_sized` ends it, or `first_refused`: the next image
+-- is not good. `good_put` and `not_good` say how a check ends.
+use Rattle.std.proofs.Common.{◌≡◌, ◌∙◌, sym, ap, refl, subst, arith, ℕ, List, [], ◌∷◌, ◌++◌, append_assoc, append-nil, length, map, inl, Result, Ok, Err, IfErr, IsErrAnd, OnOk}
 use Rattle.std.proofs.lemmas.List.{length-map, map-append}
 use Rattle.std.proofs.lemmas.List.Elements.{All-push}
 use Rattle.romfs_format.specs.declared.rule.Profile.{Profile}
@@ -8,6 +9,9 @@ use Rattle.romfs_format.specs.Fields.{image}
 use Rattle.romfs_format.specs.Rules.{IsSound}
 use Rattle.strata.specs.declared.faults.Fault.{Fault}
 use Rattle.strata.specs.Faults.{AreSizes, IsFirstFault, IsImageFault}
+use Rattle.strata.specs.Texts.{size_lines}
+use Rattle.strata.specs.Ending.{AreGood, AreNotGood, ArePut}
+use Rattle.devices.specs.States.{SinkState}
 
 -- the images before those that are left are good, and these are their sizes
 pub record AreSized {X : Type 0} (v : X → List ℕ) (profile : Profile) (all : List (List ℕ)) (left : List X) (sizes : List ℕ) : Type 0 where
@@ -37,6 +41,17 @@ one_more {v = v} {profile} {sizes = sizes} s x rest l full f d = record {
   };
 }
 
+nothing : {X : Type 0} (xs : List X) → length xs ≡ 0 → xs ≡ []
+nothing [] none = refl
+nothing (x ∷ xs) none = absurd (omega (arith, none))
+
+-- where none is left, all are good
+pub all_sized : {X : Type 0} (v : X → List ℕ) (profile : Profile) (all : List (List ℕ)) (left : List X) (sizes : List ℕ)
+    → AreSized v profile all left sizes → length left ≡ 0 → AreSizes profile all sizes
+all_sized v profile all left sizes s none =
+    let same : all ≡ s.before = s.split ∙ ap (λ xs. s.before ++ map v xs) (nothing left none) ∙ append-nil s.before in
+    subst (λ xs. AreSizes profile xs sizes) (sym same) s.good
+
 -- an image that is not good is the first one
 pub first_refused : {X Y : Type 0} {v : X → List ℕ} {profile : Profile} {all : List (List ℕ)} {left : List X} {sizes : List ℕ}
     → AreSized v profile all left sizes → (x : X) (rest : List X) → left ≡ x ∷ rest → (n : ℕ) → n ≡ length sizes → (fault : Fault)
@@ -52,3 +67,17 @@ first_refused {v = v} {profile} {all} s x rest l n e fault f (Err told) same =
       refused = subst (λ n. IsImageFault profile n (v x) fault)
           (e ∙ ap (λ (xs : List ℕ). length xs) s.good.sizes_are ∙ length-map s.before (λ b. length (image b))) f;
     }))
+
+-- the lines of the sizes of good images are put
+pub good_put : {Y E : Type 0} (profile : Profile) (images : List (List ℕ)) (sizes lines : List ℕ) (old new : SinkState) (r : Result Y E)
+    → AreSizes profile images sizes → lines ≡ size_lines 0 sizes → OnOk r (ArePut lines old new) → OnOk r (AreGood profile images old new)
+good_put profile images sizes lines old new (Err fault) are is put = tt
+good_put profile images sizes lines old new (Ok y) are is put =
+    record { sizes = sizes; sizes_are = are; put = subst (λ xs. ArePut xs old new) is put }
+
+-- the fault of the first image that is not good is reported, and nothing is put
+pub not_good : {Y : Type 0} (profile : Profile) (images : List (List ℕ)) (fault : Fault) (state : SinkState) (r : Result Y Fault)
+    → IsFirstFault profile images fault → IsErrAnd r (λ told. told ≡ fault) → IfErr r (λ told. AreNotGood profile images told state state)
+not_good profile images fault state (Ok y) first same = absurd same
+not_good profile images fault state (Err told) first same =
+    subst (λ f. AreNotGood profile images f state state) (sym same) (inl (first, refl))

@@ -6,18 +6,19 @@ use Rattle.romfs_format.specs.declared.rule.Profile.{Profile}
 use Rattle.romfs_format.specs.Profiles.{profile_with}
 use Rattle.image_bytes.specs.Sources.{Source, held, unknown}
 use Rattle.image_files.specs.declared.image_data.ImageData.{ImageData}
-use Rattle.image_files.specs.declared.whole.Trailers.{Trailers}
-use Rattle.image_files.specs.declared.whole.Trailers.TheVariants.{Read, Left}
-use Rattle.image_files.specs.declared.opening.HeldImage.{HeldImage}
+use Rattle.image_files.specs.declared.loaded.LoadedImage.{LoadedImage}
+use Rattle.image_files.specs.declared.loaded.Loading.{Loading}
+use Rattle.image_files.specs.declared.loaded.Loading.TheVariants.{Whole}
+use Rattle.image_files.specs.declared.loaded.Trailers.{Trailers}
+use Rattle.image_files.specs.declared.loaded.Trailers.TheVariants.{Read, Left}
 use Rattle.image_files.specs.Data.{source_of}
 use Rattle.image_files.specs.Files.{IsHeldOf, IsOfFile}
-use Rattle.image_files.specs.Opened.{WasGathered}
-use Rattle.stack_prepare.specs.Layers.{contents_of}
+use Rattle.image_files.specs.Loaded.{WasGathered}
+use Rattle.held_image.specs.declared.image.HeldImage.{HeldImage}
+use Rattle.stack_prepare.specs.Layers.{held_contents, are_whole as all_held_whole}
 use Rattle.stack_prepare.specs.Preparing.{AreStacked}
 use Rattle.reply_model.specs.Readings.{Sourced}
 use Rattle.command_line.specs.declared.options.Line.{Line}
-use Rattle.strata.specs.declared.images.HeldImages.{HeldImages}
-use Rattle.strata.specs.declared.images.HeldImages.TheVariants.{Whole, Kept}
 
 -- the rules that a line holds images to, and whether their attributes are read
 abbrev pub profile_of : Line → Profile
@@ -31,21 +32,21 @@ trailers_of line = if line.attributes then Read else Left
 abbrev pub NamesAsMany : Line → List (List ℕ) → Type 0
 NamesAsMany line images = length images ≡ vec_len line.images
 
--- this is held of the images of a line, each of which was read from some file: all its bytes, those
--- that are known of it; or what the rules check, with the trailer if the line has attributes
-abbrev pub AreHeldFor : {F A : Type 0} → Line → (F → Option (List ℕ)) → List (HeldImage A) → Type 0
+-- this is held of the images of a line, each of which was read of some file: all its bytes, those
+-- that are known of it; or what the rules look at, with the trailer where the line asks for
+-- attributes
+abbrev pub AreHeldFor : {F A : Type 0} → Line → (F → Option (List ℕ)) → List (LoadedImage F A)
+    → Type 0
 AreHeldFor line known images =
     All (IsOfFile (λ file. IsHeldOf (known file) (trailers_of line))) images
 
 -- the bytes that are held of images
-abbrev pub bytes_of : {A : Type 0} → HeldImages A → List (List ℕ)
-bytes_of (Whole images) = contents_of images
-bytes_of (Kept images) = images.items
+abbrev pub bytes_of : {A B : Type 0} → Vec (HeldImage A) B → List (List ℕ)
+bytes_of images = held_contents images
 
 -- whether all bytes of images are held
-abbrev pub are_whole : {A : Type 0} → HeldImages A → Bool
-are_whole (Whole images) = true
-are_whole (Kept images) = false
+abbrev pub are_whole : {A B : Type 0} → Vec (HeldImage A) B → Bool
+are_whole images = all_held_whole images.items
 
 -- what reads of the data of images may give
 abbrev pub sources_of : {F A B : Type 0} → Vec (ImageData F A) B → List Source
@@ -85,8 +86,16 @@ pub record AreSmall (told : List (Option ℕ)) : Type 0 where
 abbrev pub AreReadWhole : Line → List (Option ℕ) → Type 0
 AreReadWhole line told = (line.whole ≡ true) ⊎ ((stay_in_files line ≡ false) × AreSmall told)
 
--- what the data of the images of a line are read from, by the reported size of each file: from
--- nothing, if they are read in full; else each from a source of its own
+-- how the images of a line are loaded, by what the file of each has told of its size: whole, or
+-- else so
+pub record IsLoadingOf (line : Line) (otherwise loading : Loading) : Type 0 where
+  pub told : List (Option ℕ)
+  pub each : length told ≡ vec_len line.images
+  pub is : (AreReadWhole line told × (loading ≡ Whole))
+      ⊎ ((¬ AreReadWhole line told) × (loading ≡ otherwise))
+
+-- what the data of the images of a line are read from, by what the file of each has told of its
+-- size: from nothing, where they are read in full; else each from a source of its own
 pub record HaveSources (line : Line) (whole : Bool) (images : List (List ℕ))
     (sources : List Source) : Type 0 where
   pub told : List (Option ℕ)

@@ -3,8 +3,7 @@
 ghost use Rattle.std.specs.Prelude.{◌≡◌, ◌<◌, ◌^◌, length, string_bytes, OnOk, IfOk, IfErr};
 ghost use Rattle.romfs_format.specs.Fields.{image};
 ghost use Rattle.romfs_format.specs.Rules.{IsSound};
-ghost use Rattle.romfs_check.specs.Refusals.{IsRefusal};
-ghost use Rattle.image_files.specs.Opening.{held_bytes, held_contents};
+ghost use Rattle.image_files.specs.Opening.{loaded_bytes, loaded_contents};
 ghost use Rattle.strata.specs.Faults.{AreSizes, IsFirstFault, IsImageFault};
 ghost use Rattle.strata.specs.Texts.{size_lines};
 ghost use Rattle.strata.specs.Ending.{AreGood, AreNotGood};
@@ -12,23 +11,23 @@ ghost use Rattle.strata.specs.Ending.{AreGood, AreNotGood};
 use crate::faults::Fault;
 use crate::lines::put_lines;
 use devices::Sink;
-use image_files::HeldImage;
-use romfs_check::{Check, CheckFault, Image, Profile, check_kept};
+use image_files::LoadedImage;
+use romfs_check::{CheckFault, Profile, check_held};
 use std::alloc::{AllocError, Allocator};
 use std::io::Write;
 
 /// Checks the images in order, by what is held of them, and puts a line for each if all are good.
 /// Else nothing is put.
-pub fn check<A: Allocator + Copy, K: Sink>(
+pub fn check<F: Drop, A: Allocator + Copy, K: Sink>(
     alloc: A,
-    images: Vec<HeldImage<A>, A>,
+    images: Vec<LoadedImage<F, A>, A>,
     profile: Profile,
     output: &mut K,
 ) -> Result<(), Fault>
     requires { (K.state output.old).counts.failures < 2 ^ 63 }
-    ensures done { OnOk result (AreGood profile (held_contents images)
+    ensures done { OnOk result (AreGood profile (loaded_contents images)
         (K.state output.old) (K.state output.new)) }
-    ensures stopped { IfErr result (λ fault. AreNotGood profile (held_contents images) fault
+    ensures stopped { IfErr result (λ fault. AreNotGood profile (loaded_contents images) fault
         (K.state output.old) (K.state output.new)) }
 {
     let sizes = checked_sizes(alloc, images, profile)?;
@@ -49,58 +48,39 @@ fn lines_of<A: Allocator>(alloc: A, sizes: &[u32]) -> Result<String<A>, AllocErr
 
 // How many bytes of each image are accessible, if all are good. Else it names the fault of the
 // first that is not.
-fn checked_sizes<A: Allocator + Copy>(
+fn checked_sizes<F: Drop, A: Allocator + Copy>(
     alloc: A,
-    images: Vec<HeldImage<A>, A>,
+    images: Vec<LoadedImage<F, A>, A>,
     profile: Profile,
 ) -> Result<Vec<u32, A>, Fault>
-    ensures ok { IfOk result (λ sizes. AreSizes profile (held_contents images) sizes.items) }
-    ensures err { IfErr result (λ fault. IsFirstFault profile (held_contents images) fault) }
+    ensures ok { IfOk result (λ sizes. AreSizes profile (loaded_contents images) sizes.items) }
+    ensures err { IfErr result (λ fault. IsFirstFault profile (loaded_contents images) fault) }
 {
     let mut sizes = Vec::with_capacity(alloc, images.len())?;
-    for held in images {
+    for loaded in images {
         let image = sizes.len() as u64;
-        sizes.push(checked_size(alloc, image, held, profile)?)?;
+        sizes.push(checked_size(alloc, image, loaded, profile)?)?;
     }
     Ok(sizes)
 }
 
 // How many bytes of the image of this number are accessible.
-fn checked_size<A: Allocator + Copy>(
+fn checked_size<F: Drop, A: Allocator + Copy>(
     alloc: A,
     number: u64,
-    held: HeldImage<A>,
+    loaded: LoadedImage<F, A>,
     profile: Profile,
 ) -> Result<u32, Fault>
-    ensures ok { IfOk result (λ full. (full ≡ length (image (held_bytes held)))
-        × IsSound profile (held_bytes held)) }
-    ensures err { IfErr result (λ fault. IsImageFault profile number (held_bytes held) fault) }
+    ensures ok { IfOk result (λ full. (full ≡ length (image (loaded_bytes loaded)))
+        × IsSound profile (loaded_bytes loaded)) }
+    ensures err { IfErr result (λ fault. IsImageFault profile number (loaded_bytes loaded) fault) }
 {
-    match full_size(alloc, held, profile) {
-        Ok(full) => Ok(full),
+    match check_held(alloc, loaded.held, profile) {
+        Ok((image, _rows)) => Ok(image.full()),
         Err(CheckFault::Broken(fault)) => Err(Fault::Broken {
             image: number,
             fault,
         }),
         Err(CheckFault::Memory) => Err(Fault::out_of_memory()),
-    }
-}
-
-// The same of any image.
-fn full_size<A: Allocator + Copy>(
-    alloc: A,
-    held: HeldImage<A>,
-    profile: Profile,
-) -> Result<u32, CheckFault>
-    ensures ok { IfOk result (λ full. (full ≡ length (image (held_bytes held)))
-        × IsSound profile (held_bytes held)) }
-    ensures err { IfErr result (IsRefusal profile (held_bytes held)) }
-{
-    match held {
-        HeldImage::Kept { image: kept, .. } => {
-            let (image, _rows) = check_kept(alloc, kept, profile)?;
-            Ok(image.full())
-        }
-        HeldImage::Whole(bytes) => Ok(Image::check_as(alloc, bytes, profile)?.full()),
     }
 }

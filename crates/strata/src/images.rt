@@ -1,15 +1,14 @@
 //! The images of a line, as they are read: in full, or what the rules check.
 
-ghost use Rattle.std.specs.Prelude.{◌≡◌, ◌↔◌, ℕ, List, Option, length, map, vec_len, IfOk, IfErr, IsTrue};
-ghost use Rattle.image_files.specs.declared.opening.HeldImage.TheVariants.{Whole};
+ghost use Rattle.std.specs.Prelude.{◌≡◌, ◌↔◌, ℕ, List, Option, length, vec_len, IfOk, IfErr, IsTrue};
 ghost use Rattle.strata.specs.Faults.{AreUnread};
-ghost use Rattle.strata.specs.Images.{AreHeldFor, AreReadWhole, AreSmall, NamesAsMany, HaveSources, are_whole, bytes_of, sources_of, trailers_of};
+ghost use Rattle.strata.specs.Images.{AreHeldFor, AreReadWhole, AreSmall, IsLoadingOf, NamesAsMany, HaveSources, are_whole, bytes_of, sources_of, trailers_of};
 
 use crate::faults::Fault;
 use command_line::Line;
-use held_image::Kept;
-use image_files::{HeldImage, ImageData, Trailers, apart, gather_images, open_images, read_images};
-use std::alloc::{AllocError, Allocator};
+use held_image::HeldImage;
+use image_files::{ImageData, LoadedImage, Loading, Trailers, apart, load};
+use std::alloc::Allocator;
 use std::fs;
 use std::fs::Files;
 use std::os::unix::fs::FileExt;
@@ -19,20 +18,11 @@ use std::thread::Threads;
 /// takes less time than to gather what the rules check.
 const SMALL_STACK: u64 = 32 << 20;
 
-/// What is held of images, the lowest layer first.
-#[derive(Drop)]
-pub enum HeldImages<A: Allocator> {
-    /// All bytes of each.
-    Whole(Vec<Vec<u8, A>, A>),
-    /// Of each what the rules look at.
-    Kept(Vec<Kept<A>, A>),
-}
-
-/// The images of a line: what is held of them, and what the data of each are read from, if they are
-/// not held in full.
+/// The images of a line, the lowest layer first: what is held of them, and what the data of each
+/// are read from, where they are not held whole.
 #[derive(Drop)]
 pub struct LineImages<F, A: Allocator> {
-    pub held: HeldImages<A>,
+    pub held: Vec<HeldImage<A>, A>,
     pub files: Vec<ImageData<F, A>, A>,
 }
 
@@ -53,20 +43,10 @@ where
         (sources_of images.files)) }
     ensures err { IfErr result (AreUnread (vec_len line.now.images)) }
 {
-    let paths = line.images.as_slice();
-    if are_read_whole(rt, line) {
-        let images = read_images(rt, alloc, paths)?;
-        return Ok(LineImages {
-            held: HeldImages::Whole(images),
-            files: Vec::new(alloc),
-        });
-    }
-    let images = open_images(rt, alloc, paths, trailers_of(line))?;
-    let (kept, files) = apart(alloc, images)?;
-    Ok(LineImages {
-        held: HeldImages::Kept(kept),
-        files,
-    })
+    let loading = loading_of(rt, line, Loading::Open(trailers_of(line)));
+    let images = load(rt, alloc, line.images.as_slice(), loading)?;
+    let (held, files) = apart(alloc, images)?;
+    Ok(LineImages { held, files })
 }
 
 /// What is held of the images of a line that checks, none of which stays open. They are read in
@@ -75,7 +55,7 @@ pub fn gather_all<R: Files + Threads + Sync, A: Allocator + Copy + Send + Sync>(
     rt: &R,
     alloc: A,
     line: &Line<'_>,
-) -> Result<Vec<HeldImage<A>, A>, Fault>
+) -> Result<Vec<LoadedImage<R::File, A>, A>, Fault>
 where
     R::File: FileExt + Send,
     R::Dir: Send,
@@ -84,26 +64,18 @@ where
         AreHeldFor line.now R.File.remaining images.items) }
     ensures err { IfErr result (AreUnread (vec_len line.now.images)) }
 {
-    let paths = line.images.as_slice();
-    if are_read_whole(rt, line) {
-        let images = read_images(rt, alloc, paths)?;
-        return Ok(all_whole(alloc, images)?);
-    }
-    Ok(gather_images(rt, alloc, paths, trailers_of(line))?)
+    let loading = loading_of(rt, line, Loading::Gather(trailers_of(line)));
+    Ok(load(rt, alloc, line.images.as_slice(), loading)?)
 }
 
-// Images held in full.
-fn all_whole<A: Allocator + Copy>(
-    alloc: A,
-    images: Vec<Vec<u8, A>, A>,
-) -> Result<Vec<HeldImage<A>, A>, AllocError>
-    ensures { IfOk result (λ held. held.items ≡ map Whole images.items) }
+// How the images of a line are loaded: all bytes where they are read in full, else so.
+fn loading_of<R: Files>(rt: &R, line: &Line<'_>, otherwise: Loading) -> Loading
+    ensures { IsLoadingOf line.now otherwise result }
 {
-    let mut held = Vec::with_capacity(alloc, images.len())?;
-    for bytes in images {
-        held.push(HeldImage::Whole(bytes))?;
+    if are_read_whole(rt, line) {
+        return Loading::Whole;
     }
-    Ok(held)
+    otherwise
 }
 
 // Whether the images of a line are read in full: with `--whole`; or if they are small together, and

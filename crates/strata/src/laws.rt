@@ -24,9 +24,9 @@ ghost use Rattle.strata.specs.Images.{ArePrepared, AreReadWhole, profile_of, tra
 ghost use Rattle.strata.specs.Readers.{status_of_end};
 ghost use Rattle.serve_core.specs.declared.stop.Stop.{Stop};
 ghost use Rattle.device_readers.specs.Ends.{end_of_stop};
-ghost use Rattle.image_files.specs.Opened.{WasGathered};
-ghost use Rattle.image_files.specs.Opening.{IsHeldWhole, held_bytes};
-ghost use Rattle.image_files.specs.declared.opening.HeldImage.{HeldImage};
+ghost use Rattle.image_files.specs.Loaded.{WasGathered};
+ghost use Rattle.image_files.specs.Opening.{IsHeldWhole, loaded_bytes};
+ghost use Rattle.image_files.specs.declared.loaded.LoadedImage.{LoadedImage};
 ghost use Rattle.romfs_check.specs.declared.refusal.CheckFault.{CheckFault};
 ghost use Rattle.romfs_check.specs.Refusals.{IsRefusal};
 ghost use Rattle.romfs_format.specs.Profiles.{asks_sums, reads_attributes};
@@ -172,11 +172,11 @@ pub fn opened_images_are_judged_as_their_data()
 /// An image held in full, such as one from a pipe, is judged as all bytes of its file are, if these
 /// are known.
 #[tactic(auto, using(crate::proofs::Rules::judged_whole))]
-pub fn whole_images_are_judged_as_their_files<A: Allocator>()
-    ensures { (line : Line) (bytes : List ℕ) (image : HeldImage A) →
+pub fn whole_images_are_judged_as_their_files<F, A: Allocator>()
+    ensures { (line : Line) (bytes : List ℕ) (image : LoadedImage F A) →
         IsHeldWhole (Some bytes) image →
-        (IsSound (profile_of line) (held_bytes image) ↔ IsSound (profile_of line) bytes)
-        × ((fault : CheckFault) → IsRefusal (profile_of line) (held_bytes image) fault
+        (IsSound (profile_of line) (loaded_bytes image) ↔ IsSound (profile_of line) bytes)
+        × ((fault : CheckFault) → IsRefusal (profile_of line) (loaded_bytes image) fault
         ↔ IsRefusal (profile_of line) bytes fault) }
 {}
 

@@ -9,13 +9,11 @@ ghost use Rattle.strata.specs.Ending.{IsStackListed, IsNotListed};
 ghost use Rattle.strata.specs.Images.{bytes_of, profile_of};
 
 use crate::faults::Fault;
-use crate::images::HeldImages;
-use crate::preparing::stack_held;
 use crate::settings::profile_of;
 use command_line::Line;
 use devices::Sink;
 use path_list::write_list;
-use stack_prepare::{Owner, Table};
+use stack_prepare::{FreePass, HeldImage, Owner, Table, prepare};
 use std::alloc::Allocator;
 use std::thread::Threads;
 
@@ -25,7 +23,7 @@ pub fn list<R: Threads + Sync, A: Allocator + Copy + Send + Sync, K: Sink>(
     rt: &R,
     alloc: A,
     line: &Line<'_>,
-    images: HeldImages<A>,
+    images: Vec<HeldImage<A>, A>,
     output: &mut K,
 ) -> Result<(), Fault>
     requires { (K.state output.old).counts.failures < 2 ^ 63 }
@@ -35,7 +33,8 @@ pub fn list<R: Threads + Sync, A: Allocator + Copy + Send + Sync, K: Sink>(
         IsNotListed (profile_of line.now) (bytes_of images) fault
         (K.state output.old) (K.state output.new)) }
 {
-    let table = stack_held(rt, alloc, images, profile_of(line), Owner::ROOT)?;
+    let profile = profile_of(line);
+    let table = prepare(rt, alloc, images, profile, Owner::ROOT, &FreePass)?;
     put_list(alloc, &table, output)
 }
 

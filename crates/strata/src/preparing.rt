@@ -1,16 +1,15 @@
 //! The images of a line, checked and stacked.
 
-ghost use Rattle.std.specs.Prelude.{◌≡◌, true, IfOk, IfErr};
+ghost use Rattle.std.specs.Prelude.{IfOk, IfErr};
 ghost use Rattle.reply_model.specs.Readings.{sourced};
 ghost use Rattle.stack_prepare.specs.Layers.{AreRefused};
-ghost use Rattle.stack_prepare.specs.Preparing.{AreStacked};
 ghost use Rattle.strata.specs.Images.{ArePrepared, HaveSources, are_whole, bytes_of, profile_of, sources_of};
 
-use crate::images::{HeldImages, LineImages};
+use crate::images::LineImages;
 use crate::settings::profile_of;
 use command_line::Line;
 use image_files::ImageData;
-use stack_prepare::{FreePass, Owner, Profile, Refusal, Table, prepare_kept, prepare_owned};
+use stack_prepare::{FreePass, Refusal, Table};
 use std::alloc::Allocator;
 use std::thread::Threads;
 
@@ -29,24 +28,7 @@ pub fn prepare<R: Threads + Sync, F: Drop, A: Allocator + Copy + Send + Sync>(
     ensures err { IfErr result (AreRefused (profile_of line.now) (bytes_of images.held)) }
 {
     let LineImages { held, files } = images;
-    let table = stack_held(rt, alloc, held, profile_of(line), line.owner)?;
+    let profile = profile_of(line);
+    let table = stack_prepare::prepare(rt, alloc, held, profile, line.owner, &FreePass)?;
     Ok((table, files))
-}
-
-/// The table of images, by what is held of them.
-pub fn stack_held<R: Threads + Sync, A: Allocator + Copy + Send + Sync>(
-    rt: &R,
-    alloc: A,
-    images: HeldImages<A>,
-    profile: Profile,
-    owner: Owner,
-) -> Result<Table<A>, Refusal>
-    ensures ok { IfOk result (AreStacked profile owner (bytes_of images)) }
-    ensures whole { IfOk result (λ table. are_whole images ≡ true → table.whole ≡ true) }
-    ensures err { IfErr result (AreRefused profile (bytes_of images)) }
-{
-    match images {
-        HeldImages::Whole(images) => prepare_owned(rt, alloc, images, profile, owner, &FreePass),
-        HeldImages::Kept(images) => prepare_kept(rt, alloc, images, profile, owner, &FreePass),
-    }
 }

@@ -1,4 +1,3 @@
-pub mod Joined
 pub mod Names
 pub mod Nodes
 pub mod Noting

@@ -1,13 +1,6 @@
 -- What loops push one by one: one more stands behind what was there.
 use Rattle.std.proofs.Common.{◌≡◌, ◌∙◌, sym, ap, ℕ, ◌+◌, ◌<◌, List, [], ◌∷◌, ◌++◌, length, map, take, get_or}
-use Rattle.std.proofs.lemmas.List.{append_assoc, take_more, map_more}
-
--- one more of a list, behind old ones
-pub one_pushed : {A : Type 0} (old xs now new : List A) (i : ℕ) (x y : A) → i < length xs → now ≡ old ++ take i xs
-    → new ≡ now ++ y ∷ [] → y ≡ x → x ≡ get_or xs i x → new ≡ old ++ take (i + 1) xs
-one_pushed old xs now new i x y l is push same at =
-    push ∙ ap (λ z. now ++ z ∷ []) (same ∙ at) ∙ ap (λ zs. zs ++ get_or xs i x ∷ []) is
-    ∙ append_assoc old (take i xs) (get_or xs i x ∷ []) ∙ ap (λ zs. old ++ zs) (sym (take_more xs i x l))
+use Rattle.std.proofs.lemmas.List.{map_more}
 
 -- what is made of one more
 pub one_mapped : {A B : Type 0} (f : A → B) (xs : List A) (now new : List B) (i : ℕ) (x : A) (y : B) → i < length xs

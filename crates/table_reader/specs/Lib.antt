@@ -1,4 +1,3 @@
-pub mod Layers
 pub mod Stacked
 pub mod Rows
 pub mod Directories

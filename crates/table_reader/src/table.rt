@@ -1,6 +1,7 @@
 //! The table of a stack.
 
-ghost use Rattle.std.specs.Prelude.{◌≡◌, ◌<◌, ◌+◌, ◌^◌, length, true, IfOk};
+ghost use Rattle.std.specs.Prelude.{◌≡◌, ◌<◌, ◌+◌, ◌^◌, length, true, slice_get, Some, None, MatchOption, IfOk};
+ghost use Rattle.romfs_reader.specs.Images.{all_whole, bytes_of};
 ghost use Rattle.stack_model.specs.Listing.{IsListing};
 ghost use Rattle.stack_model.specs.Numbers.{nodes};
 ghost use Rattle.stack_model.specs.Attributes.{blocks_all};
@@ -11,12 +12,13 @@ ghost use Rattle.table_reader.specs.Readers.{TellsNode, attr_at, parent_at, chil
 use crate::attributes::{Attributes, briefs_of};
 use crate::directory::{Directories, Directory};
 use crate::guess::Guess;
-use crate::layers::Layers;
+use crate::layer::{image_at, view_at};
 use crate::lookup::{Hints, attr_of, directory_at, hints_of, node_at, numbered, place_of};
 use crate::node::{Brief, Node};
 use crate::row::Row;
 use crate::stamped_rows::StampedRows;
 use node_attr::{Attr, Owner};
+use romfs_reader::{Image, ImageView};
 use std::alloc::{AllocError, Allocator, Global};
 use std::marker::Model;
 
@@ -45,7 +47,8 @@ use std::marker::Model;
 /// row of attributes. Rows are searched once, when the table is made.
 #[derive(Drop)]
 pub struct Table<A: Allocator> {
-    layers: Layers<A>,
+    // The images of the layers, the lowest first.
+    layers: Vec<Image<A>, A>,
     nodes: Vec<Node, A>,
     // The attributes of the nodes, in the same order.
     briefs: Vec<Brief, A>,
@@ -55,7 +58,7 @@ pub struct Table<A: Allocator> {
     directories: Directories<A>,
     hints: Hints<A>,
     blocks: u64,
-    ghost listing: { Listed layers.all } by { listed_once layers.all },
+    ghost listing: { Listed (bytes_of layers.items) } by { listed_once (bytes_of layers.items) },
 }
 
 const _: () = prove!(size_of::<Node>() <= 40);
@@ -67,27 +70,28 @@ const _: () = prove!(size_of::<Node>() + size_of::<Row<Global>>() + size_of::<u6
 const _: () = prove!(size_of::<Directory>() <= 32);
 
 impl<A: Allocator> Model for Table<A> {
+    ghost use Rattle.romfs_reader.specs.Images.{all_whole, bytes_of};
     ghost use Rattle.stack_model.specs.Listing.{Stacked};
     ghost use Rattle.table_reader.specs.Held.{IsHeld};
 
     ghost Value = { Stacked };
 
     ghost view = { λ held. record {
-      layers = held.layers.all;
+      layers = bytes_of held.layers.items;
       entries = held.listing.0;
       rows = held.rows.rows;
       owner = held.owner;
-      whole = held.layers.whole;
+      whole = all_whole held.layers.items;
     } };
 
     ghost invariant = { λ held.
         IsHeld
         (record {
-          layers = held.layers.all;
+          layers = bytes_of held.layers.items;
           entries = held.listing.0;
           rows = held.rows.rows;
           owner = held.owner;
-          whole = held.layers.whole;
+          whole = all_whole held.layers.items;
         })
         held.nodes.items held.briefs.items held.rows.stamps held.directories
         held.hints.filter held.blocks };
@@ -98,16 +102,16 @@ impl<A: Allocator + Copy> Table<A> {
     /// known besides their headers. Fails only if memory was refused.
     pub fn of_parts(
         alloc: A,
-        layers: Layers<A>,
+        layers: Vec<Image<A>, A>,
         nodes: Vec<Node, A>,
         directories: Directories<A>,
         blocks: u64,
         attributes: Attributes<A>,
     ) -> Result<Self, AllocError>
-        requires { IsSomeTable layers.all nodes.items directories blocks }
-        ensures stack { IfOk result (λ table. IsTableWith layers.all attributes.rows.items
-            attributes.owner table) }
-        ensures whole { IfOk result (λ table. table.whole ≡ layers.whole) }
+        requires { IsSomeTable (bytes_of layers.items) nodes.items directories blocks }
+        ensures stack { IfOk result (λ table. IsTableWith (bytes_of layers.items)
+            attributes.rows.items attributes.owner table) }
+        ensures whole { IfOk result (λ table. table.whole ≡ all_whole layers.items) }
     {
         let hints = hints_of(alloc, &nodes, &directories)?;
         let Attributes { rows, owner } = attributes;
@@ -135,12 +139,19 @@ impl<A: Allocator> Table<A> {
         self.nodes.len() as u64
     }
 
-    /// The images of the layers, the lowest first.
-    pub fn layers(&self) -> &Layers<A>
-        ensures all { result.now.all ≡ self.now.layers }
-        ensures whole { result.now.whole ≡ self.now.whole }
+    /// How many layers there are.
+    pub fn layer_count(&self) -> usize
+        ensures { result ≡ length self.now.layers }
     {
-        &self.layers
+        self.layers.len()
+    }
+
+    /// The image of a layer, lent; none where there is no such layer.
+    pub fn view(&self, layer: usize) -> Option<ImageView<'_>>
+        ensures { MatchOption result (slice_get self.now.layers layer ≡ None)
+            (λ view. slice_get self.now.layers layer ≡ Some view) }
+    {
+        view_at(&self.layers, layer)
     }
 
     /// The node of a number; none if the number is not in use.
@@ -236,7 +247,7 @@ impl<A: Allocator> Table<A> {
     {
         match node_at(&self.nodes, number) {
             Some(node) => {
-                let image = self.layers.image(node.place.layer as usize);
+                let image = image_at(&self.layers, node.place.layer as usize);
                 image.part(node.part)
             }
             None => &[],

@@ -1,7 +1,6 @@
-use Rattle.std.proofs.Common.{◌≡◌, ◌+◌, ◌++◌, inl, inr, sym, subst, length, vec_len, arith}
-use Rattle.std.proofs.lemmas.List.Elements.{All-append, All-same}
-use Rattle.image_files.specs.Files.{IsOfFile}
+use Rattle.std.proofs.Common.{◌≡◌, ◌+◌, sym, subst, length, vec_len, arith}
 use Rattle.image_files.specs.Unread.{IsReadUpTo}
+use Rattle.image_files.proofs.Loads.{both_loaded}
 use Rattle.image_files.proofs.images.+halves.Goals as goal
 
 pub split_at-requires : goal.split_at-requires
@@ -25,30 +24,24 @@ returns-clause-count g t c =
 pub returns-clause-read : goal.returns-clause-read
 returns-clause-read g t c =
     let (high, low) = c.join-high.result in
-    let is_read = IsOfFile (g.T.OfFile.is_read c.args.trailers) in
     let upper = c.join-high.ensures.first.1 in
     let lower = c.join-high.ensures.second.1 in
-    let all = c.both.result.images.items in
-    elim c.both.ensures.either [
-      | inl only ↦ All-same is_read all low.images.items only lower
-      | inr two ↦ All-same is_read all (low.images.items ++ high.images.items) two
-          (All-append is_read low.images.items high.images.items lower upper)
-    ]
+    both_loaded _ _ low.images.items high.images.items c.both.result.images.items c.both.ensures.either lower upper
 
 pub overflow_sub-less : goal.overflow_sub-less
 overflow_sub-less g t c = omega arith
 
-pub read_in_turn-requires : goal.read_in_turn-requires
-read_in_turn-requires g t c = c.requires
+pub load_in_turn-requires : goal.load_in_turn-requires
+load_in_turn-requires g t c = c.requires
 
 pub returns-then-forks-eq0-clause-count : goal.returns-then-forks-eq0-clause-count
-returns-then-forks-eq0-clause-count g t c = c.read_in_turn.ensures.count
+returns-then-forks-eq0-clause-count g t c = c.load_in_turn.ensures.count
 
 pub returns-then-forks-eq0-clause-read : goal.returns-then-forks-eq0-clause-read
-returns-then-forks-eq0-clause-read g t c = c.read_in_turn.ensures.read
+returns-then-forks-eq0-clause-read g t c = c.load_in_turn.ensures.read
 
 pub join+arg2-returns : goal.join+arg2-returns
-join+arg2-returns g t c = record { count = c.read_from.ensures.count; read = c.read_from.ensures.read }
+join+arg2-returns g t c = record { count = c.load_from.ensures.count; read = c.load_from.ensures.read }
 
 pub join+arg3-returns : goal.join+arg3-returns
-join+arg3-returns g t c = record { count = c.read_from.ensures.count; read = c.read_from.ensures.read }
+join+arg3-returns g t c = record { count = c.load_from.ensures.count; read = c.load_from.ensures.read }

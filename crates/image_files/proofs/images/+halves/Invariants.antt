@@ -2,8 +2,8 @@ use Rattle.std.proofs.Common.{◌*◌, ◌+◌}
 use Rattle.image_files.proofs.images.+halves.Given as goal
 
 -- how often its run may be cut yet, twice over: between two calls stands a thread
-abbrev pub decreases-read_from : goal.decreases-read_from
-decreases-read_from g l = 2 * l.forks
+abbrev pub decreases-load_from : goal.decreases-load_from
+decreases-load_from g l = 2 * l.forks
 
 -- how often the upper half's thread may cut its run
 abbrev pub decreases-join+arg2 : goal.decreases-join+arg2

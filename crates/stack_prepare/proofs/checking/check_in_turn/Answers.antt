@@ -1,27 +1,29 @@
-use Rattle.std.proofs.Common.{◌≡◌, ◌+◌, length, map, subst, sym, arith}
-use Rattle.std.proofs.lemmas.List.{length-map}
+use Rattle.std.proofs.Common.{◌≡◌, ◌+◌, length, map, subst, sym, refl, arith}
 use Rattle.std.specs.Vec.Iter.{into_iter_items}
+use Rattle.held_image.specs.Images.{held_bytes}
 use Rattle.romfs_check.specs.Refusals.{IsRefusal}
 use Rattle.stack_prepare.specs.declared.refusal.Refusal.TheVariants.{Layer}
-use Rattle.stack_prepare.specs.Checking.{IsBroken, seen_by}
-use Rattle.stack_prepare.proofs.Checked.{all_checked, both_are, next_breaks, none_taken, one_more, taken_within}
+use Rattle.stack_prepare.specs.Checking.{IsBroken}
+use Rattle.stack_prepare.proofs.Checked.{all_checked, held_as, next_breaks, none_taken, one_more, taken_within}
 use Rattle.stack_prepare.proofs.checking.check_in_turn.Goals as goal
 
 pub loop-image-init : goal.loop-image-init
 loop-image-init g c = record {
   can_next = tt;
   is_finite = tt;
-  done = rw (c.into_iter-image-iterator.ensures.into_iter_gives.0, c.in_ok-checked.ensures.items)
-      (none_taken g.U.Unchecked.bytes (seen_by g.U.Unchecked.accessible) c.args.profile c.args.images.items);
+  done = rw (c.into_iter-image-iterator.ensures.into_iter_gives.0, c.in_ok-checked.ensures.items, c.in_ok-rows.ensures.items)
+      (none_taken c.args.profile c.args.images.items);
 }
 
 pub loop-image-preserved : goal.loop-image-preserved
 loop-image-preserved g c =
+    let held = c.in-Ok.ensures in
     record {
       can_next = tt;
       is_finite = tt;
-      done = rw c.in_ok-push-in-Ok.ensures.items (one_more c.loop-image.invariant.done c.in-Some.image _ c.in-Some.ensures.steps.0
-          c.in-Ok.seen (both_are c.in-Ok.ensures.ok.0.0 c.in-Ok.ensures.ok.1) c.in-Ok.ensures.ok.0.1);
+      done = rw (c.in_ok-push-in-Ok.ensures.items, c.in_ok-push-in-Ok-2.ensures.items)
+          (one_more c.loop-image.invariant.done c.in-Some.image _ c.in-Some.ensures.steps.0 c.in-Ok.sound c.in-Ok.its_rows
+          (held_as c.in-Ok.sound _ _ held.ok.0.0 held.whole) held.ok.1 held.ok.0.1);
     }
 
 pub returns : goal.returns
@@ -31,37 +33,34 @@ returns g c =
       c.in-None.ensures.steps.0,
       c.loop-image.image-iterator.rest.ok,
     ) in (
-      all_checked c.loop-image.invariant.done none,
+      all_checked _ c.loop-image.invariant.done none refl refl,
       tt,
     )
 
 pub returns-in-Err-Broken : goal.returns-in-Err-Broken
 returns-in-Err-Broken g c =
     let image = c.in-Some.image in
-    let bytes = g.U.Unchecked.bytes image in
     let number : c.len-in-loop-image.result ≡ length c.loop-image.checked.items = omega (
       arith,
       c.len-in-loop-image.ensures,
       c.loop-image.checked.ok,
     ) in
-    let broken = subst (λ fault. IsRefusal c.args.profile bytes fault) c.in-Err-Broken.field-0-is c.in-Err-Broken.ensures.err in
+    let broken = subst (λ fault. IsRefusal c.args.profile (held_bytes image) fault) c.in-Err-Broken.field-0-is c.in-Err-Broken.ensures.err in
     let why = next_breaks c.loop-image.invariant.done image _ c.in-Some.ensures.steps.0 c.args.first c.len-in-loop-image.result
     c.in-Err-Broken.fault number broken in (
       tt,
-      subst (λ fault. IsBroken c.args.first c.args.profile (map g.U.Unchecked.bytes c.args.images.items)
+      subst (λ fault. IsBroken c.args.first c.args.profile (map held_bytes c.args.images.items)
           (Layer (c.args.first + c.len-in-loop-image.result) fault)) (sym c.in-Err-Broken.fault-is) why,
     )
 
 pub overflow_cast-layer : goal.overflow_cast-layer
 overflow_cast-layer g c =
     let taken = taken_within c.loop-image.invariant.done in
-    let all = length-map c.args.images.items g.U.Unchecked.bytes in
     omega (arith, c.len-in-loop-image.ensures, c.loop-image.checked.ok, c.requires)
 
 pub overflow_add-layer : goal.overflow_add-layer
 overflow_add-layer g c =
     let taken = taken_within c.loop-image.invariant.done in
-    let all = length-map c.args.images.items g.U.Unchecked.bytes in
     omega (arith, c.len-in-loop-image.ensures, c.loop-image.checked.ok, c.requires)
 
 pub returns-in-Err-Memory : goal.returns-in-Err-Memory

@@ -1,6 +1,4 @@
-use Rattle.std.proofs.Common.{map}
 use Rattle.std.specs.Vec.Iter.{into_iter_items}
-use Rattle.stack_prepare.specs.Checking.{seen_by}
 use Rattle.stack_prepare.proofs.Checked.{AreTaken}
 use Rattle.stack_prepare.proofs.checking.check_in_turn.Given as goal
 
@@ -9,6 +7,5 @@ abbrev pub invariant-loop-image : goal.invariant-loop-image
 invariant-loop-image g l = record {
   can_next : (goal.iterator-loop-image g).can_next l.image-iterator;
   is_finite : (goal.iterator-loop-image g).is_finite l.image-iterator;
-  done : AreTaken g.U.Unchecked.bytes (seen_by g.U.Unchecked.accessible) l.profile (map g.U.Unchecked.bytes l.fn.images.items)
-      (into_iter_items l.image-iterator) l.checked.items;
+  done : AreTaken l.profile l.fn.images.items (into_iter_items l.image-iterator) l.checked.items l.rows.items;
 }

@@ -1,22 +1,11 @@
-use Rattle.std.proofs.Common.{◌∙◌, sym, ap, length, arith}
-use Rattle.std.proofs.lemmas.List.{length-map}
-use Rattle.image_files.specs.declared.opening.HeldImage.TheVariants.{Whole}
-use Rattle.strata.proofs.Opened.{gathered_ones, whole_ones}
+use Rattle.std.proofs.Common.{subst}
+use Rattle.image_files.specs.declared.loaded.Loading.TheVariants as how
+use Rattle.strata.specs.Images.{IsLoadingOf}
+use Rattle.strata.proofs.Opened.{loaded_ones}
 use Rattle.strata.proofs.images.gather_all.Goals as goal
-
-pub returns-then-are_read_whole-clause-ok : goal.returns-then-are_read_whole-clause-ok
-returns-then-are_read_whole-clause-ok g c =
-    let held = c.in_ok-all_whole.field-0 in
-    let images = c.in_ok-images.images in
-    held.ok.0 ∙ ap length c.in_ok-all_whole.ensures ∙ length-map images.items Whole ∙ sym images.ok.0
-    ∙ omega (arith, c.in_ok-images.ensures.ok, c.as_slice-paths.ensures.len)
-
-pub returns-then-are_read_whole-clause-held : goal.returns-then-are_read_whole-clause-held
-returns-then-are_read_whole-clause-held g c =
-    let held = c.in_ok-all_whole.field-0 in
-    let images = c.in_ok-images.images in
-    whole_ones c.args.line.now _ images.items held.items c.in_ok-all_whole.ensures c.in_ok-images.ensures.bytes
 
 pub returns-clause-held : goal.returns-clause-held
 returns-clause-held g c =
-    gathered_ones c.args.line.now _ c.in_ok-gather_images.field-0.items _ c.trailers_of.ensures c.in_ok-gather_images.ensures.held
+    loaded_ones c.args.line.now g.R.File.Read.remaining c.loading_of-loading.result c.in_ok-load.field-0.items
+    (subst (λ t. IsLoadingOf c.args.line.now (how.Gather t) c.loading_of-loading.result) c.trailers_of.ensures c.loading_of-loading.ensures)
+    c.in_ok-load.ensures.loaded

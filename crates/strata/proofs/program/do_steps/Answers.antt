@@ -1,6 +1,6 @@
 use Rattle.std.proofs.Common.{List, ℕ, refl, subst}
 use Rattle.std.proofs.lemmas.Result.{IfOk-from_err}
-use Rattle.image_files.specs.Opening.{held_contents}
+use Rattle.image_files.specs.Opening.{loaded_contents}
 use Rattle.strata.specs.Ending.{AreGood, AreNotGood}
 use Rattle.command_line.specs.CommandLine.{IsLineOf}
 use Rattle.strata.proofs.Ended.{all_held, ended, unread}
@@ -74,11 +74,11 @@ returns-in_ok-images-in-Check g c =
     c.as_status-in-Check.result c.as_status-in-Check.ensures
     c.check.ensures.done c.check.ensures.stopped (λ d. (
       refl,
-      subst (λ p. AreGood p (held_contents c.in_ok-images-in-Check.images) (g.K.Sink.state c.args.output.now)
+      subst (λ p. AreGood p (loaded_contents c.in_ok-images-in-Check.images) (g.K.Sink.state c.args.output.now)
           (g.K.Sink.state c.check.new.output)) c.profile_of.ensures d,
     )) (λ fault s. (
       refl,
-      subst (λ p. AreNotGood p (held_contents c.in_ok-images-in-Check.images) fault (g.K.Sink.state c.args.output.now)
+      subst (λ p. AreNotGood p (loaded_contents c.in_ok-images-in-Check.images) fault (g.K.Sink.state c.args.output.now)
           (g.K.Sink.state c.check.new.output)) c.profile_of.ensures s,
     )) in
     record { over = λ words read. (both words read).0; stopped = λ words read. (both words read).1 }

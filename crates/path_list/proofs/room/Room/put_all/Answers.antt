@@ -12,13 +12,13 @@ returns-then-len-eq0 g c = puts_same (none c.args.table.now c.len.result c.len.e
 
 pub put_below-requires-clause-on : goal.put_below-requires-clause-on
 put_below-requires-clause-on g c =
-    let i : AreImages c.args.table.now.layers = subst AreImages c.layers.ensures.all c.are_images.ensures in
+    let i : AreImages c.args.table.now.layers = c.are_images.ensures in
     let b = begun c.args.table.now c.len.result i c.len.ensures.listing c.len.ensures.value c.if-len-eq0.false in
     subst (λ q. IsOnWay c.args.table.now 1 q) (sym c.requires.root) ([], b.visit)
 
 pub returns-in_err-put_line : goal.returns-in_err-put_line
 returns-in_err-put_line g c =
-    let i : AreImages c.args.table.now.layers = subst AreImages c.layers.ensures.all c.are_images.ensures in
+    let i : AreImages c.args.table.now.layers = c.are_images.ensures in
     let b = begun c.args.table.now c.len.result i c.len.ensures.listing c.len.ensures.value c.if-len-eq0.false in
     let line = puts_same (ap (λ q. line_as c.args.table.now 1 q) (c.printed.ensures ∙ ap printed c.requires.root))
     c.in_err-put_line.ensures in
@@ -26,7 +26,7 @@ returns-in_err-put_line g c =
 
 pub returns : goal.returns
 returns g c =
-    let i : AreImages c.args.table.now.layers = subst AreImages c.layers.ensures.all c.are_images.ensures in
+    let i : AreImages c.args.table.now.layers = c.are_images.ensures in
     let b = begun c.args.table.now c.len.result i c.len.ensures.listing c.len.ensures.value c.if-len-eq0.false in
     let line = puts_same (ap (λ q. line_as c.args.table.now 1 q) (c.printed.ensures ∙ ap printed c.requires.root))
     c.in_ok-put_line.ensures in
