@@ -1,6 +1,6 @@
 """Sees that the program names the logic that proves it: python3 checks logic
 
-`rt version` ends with the beginning of the checksum of the prover's logic. The program says it (`version.rt` of command_line),
+`rt version` ends with the beginning of the checksum of the prover's logic. The program says it (`version.rt` of strata_words),
 and README, USE and the checks of what is installed name it. A file that does not is a line each, and then the status is 1.
 """
 import sys
@@ -8,7 +8,7 @@ import sys
 from checks import ROOT
 from checks.gate.kit import said
 
-NAMING = ("crates/command_line/src/version.rt", "cases/words.case", "checks/installed/programs.py", "README.md", "docs/USE.md")
+NAMING = ("crates/strata_words/src/version.rt", "cases/words.case", "checks/installed/programs.py", "README.md", "docs/USE.md")
 
 
 def main():

@@ -8,7 +8,7 @@ from checks import ROOT
 from checks.installed.mounts import OTHER, STACK, hold_stack, places, servers, user
 from checks.installed.roots import LeftOut, hold, hold_in
 
-SOURCE = os.path.join(ROOT, "crates", "command_line", "src", "version.rt")
+SOURCE = os.path.join(ROOT, "crates", "strata_words", "src", "version.rt")
 LOGIC = "dac8208d650f15bf"
 # what takes longer to load than to mount
 HEAVY = ("argparse", "contextlib", "ctypes", "enum", "hashlib", "json", "re", "shutil", "signal", "socket", "subprocess",

@@ -357,7 +357,7 @@ def check_examples_of_the_page(room):
 
 
 def check_version(room):
-    source = os.path.join(ROOT, "crates", "command_line", "src", "version.rt")
+    source = os.path.join(ROOT, "crates", "strata_words", "src", "version.rt")
     if not os.path.exists(source):
         raise LeftOut("no %s" % source)
     with open(source, encoding="utf-8") as file:

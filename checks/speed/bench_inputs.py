@@ -208,7 +208,7 @@ def names_of_two_keys(count=65_000):
     return [layer(chained("regular", [(b"p", b"q")[number % 2] * 249 + b"%06d" % number for number in numbers]))]
 
 
-# what the words of a name of 24 bytes are multiplied by before their sum is its hash (`hashed` of name_lookup)
+# what the words of a name of 24 bytes are multiplied by before their sum is its hash (`hashed` of layer_names)
 FIRST, MIDDLE, LAST = 0xff51_afd7_ed55_8ccd, 0xc4ce_b9fe_1a85_ec53, 0xd6e8_feb8_6659_fd93
 
 

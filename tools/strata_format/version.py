@@ -6,7 +6,7 @@ import os
 TOP = os.path.dirname(os.path.dirname(os.path.realpath(__file__)))
 PACKAGES = ("strata_format", "strata_layers", "strata_mount")
 INSTALLED = os.path.join(TOP, "version")
-SOURCE = os.path.join(os.path.dirname(TOP), "crates", "command_line", "src", "version.rt")
+SOURCE = os.path.join(os.path.dirname(TOP), "crates", "strata_words", "src", "version.rt")
 CONSTANT = 'pub const VERSION: &str = "'
 
 

@@ -1,30 +1,44 @@
-//! Sources and sinks of bytes that count their calls.
+//! Where bytes come from and go to: streams that count their calls, and bytes by their place.
 //!
 //! - A [`Source`] gives bytes, a [`Sink`] takes bytes. Both tell contracts their bytes, where these
 //!   are known, and keep counts of their calls, ends and failures, so that a promise can say of a
-//!   failure that it was the device's.
-//! - [`Tap`] is a source over any reader of std, [`Spout`] a sink over any writer.
+//!   failure that it was the device's (`specs/Counting`, one function a call; a count stays at
+//!   2^64 - 1).
+//! - [`Tap`] is a source over any reader of std, [`Spout`] a sink over any writer; [`hand_on`]
+//!   pushes all of some bytes to a sink, and then flushes it.
 //! - [`Clients`] give one client after another, and count them and their failures; [`Listening`]
 //!   is those of a listener of std.
-//! - [`hand_on`] pushes all of some bytes to a sink, and then flushes it.
 //! - [`limits`] has the most bytes of a pull, and the most pulls.
+//! - [`Contents`] is what the bytes of an image are read from, a part at a time and by several at
+//!   once: [`InMemory`] never fails, [`InFile`] reads a file. [`fill`] reads on until a room is
+//!   full, however short the single reads are.
 //!
-//! What a call changes is said in `specs/Counting`, one function a call: a count stays at 2^64 - 1.
-//! No call takes memory beyond what the reader or writer takes. The crate uses only std.
+//! A contract sees bytes where they are known (`specs/Contents`). Of a file it sees none, so
+//! nothing is assumed of a file that changes. No call takes memory beyond what the reader or writer
+//! takes. The crate stands on std alone.
 #![tactic(auto)]
 
 mod clients;
+mod contents;
 pub mod counts;
 pub mod examples;
 pub mod failed;
+mod filling;
+mod in_file;
+mod in_memory;
+pub mod laws;
 pub mod limits;
 mod push;
 mod sink;
 mod source;
 
 pub use clients::{Clients, Listening};
+pub use contents::{Contents, Unread};
 pub use counts::{Accepts, LastPull, Pulls, Pushes};
 pub use failed::Failed;
+pub use filling::fill;
+pub use in_file::InFile;
+pub use in_memory::InMemory;
 pub use push::hand_on;
 pub use sink::{Sink, Spout};
 pub use source::{Source, Tap};

@@ -12,10 +12,10 @@ use Rattle.fuse_wire.specs.Structures.{dirent, direntplus}
 use Rattle.fuse_wire.proofs.Sizes.{length-dirent, length-direntplus}
 use Rattle.stack_model.specs.Attributes.{is_directory_at, mode_at, attr_of}
 use Rattle.stack_model.specs.Numbers.{Place, Child, number, node_of, parent, children}
-use Rattle.node_attr.specs.declared.attr.Attr.{Attr}
-use Rattle.table_reader.specs.Rows.{Line}
+use Rattle.stack_model.specs.declared.attr.Attr.{Attr}
+use Rattle.node_reader.specs.Rows.{Line}
 use Rattle.stack_model.specs.Listing.{Entry, Stacked}
-use Rattle.table_reader.specs.Readers.{parent_at, rows_at}
+use Rattle.node_reader.specs.Readers.{parent_at, rows_at}
 use Rattle.reply_model.specs.declared.moves.Move.{Move}
 use Rattle.reply_model.specs.Services.{give}
 use Rattle.reply_model.specs.Rows.{Row, fitting, is_child, is_too_small, rows, rows_after, dirent_of, direntplus_of}

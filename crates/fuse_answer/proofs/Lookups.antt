@@ -7,13 +7,13 @@ use Rattle.romfs_format.specs.declared.head.Kind.{Kind}
 use Rattle.romfs_format.specs.declared.head.Kind.TheVariants.{Directory}
 use Rattle.fuse_wire.specs.declared.errno.Errno.{Errno}
 use Rattle.fuse_wire.specs.declared.errno.Errno.TheVariants.{ENAMETOOLONG, ENOENT, ESTALE}
-use Rattle.node_attr.specs.declared.attr.Attr.{Attr}
+use Rattle.stack_model.specs.declared.attr.Attr.{Attr}
 use Rattle.fuse_wire.specs.declared.limits.TheConstants.{MAX_NAME_SIZE}
 use Rattle.fuse_wire.specs.Requests.{lookup}
 use Rattle.stack_model.specs.Attributes.{is_directory, is_directory_at, kind_at, attr_of}
 use Rattle.stack_model.specs.Numbers.{Place, number, node_of, parent, child}
 use Rattle.stack_model.specs.Listing.{Stacked}
-use Rattle.table_reader.specs.Readers.{attr_at}
+use Rattle.node_reader.specs.Readers.{attr_at}
 use Rattle.reply_model.specs.declared.session.Agreement.{Agreement}
 use Rattle.reply_model.specs.Lookups.{is_itself, is_parent, looked_up}
 use Rattle.reply_model.specs.Services.{refuse_if, unless_directory}

@@ -12,8 +12,8 @@ use Rattle.stack_model.specs.Numbers.{Place, node_of}
 use Rattle.stack_model.specs.Listing.{Stacked}
 use Rattle.reply_model.specs.declared.moves.Move.{Move}
 use Rattle.reply_model.specs.Moves.{take_back}
-use Rattle.lookup_balances.specs.Balances.{AreWithin, IsMoved, weight}
-use Rattle.lookup_balances.proofs.Sums.{moved_on, none_moved, within_less, within_moved}
+use Rattle.reply_model.specs.Balances.{AreWithin, IsMoved, weight}
+use Rattle.reply_model.proofs.Sums.{moved_on, none_moved, within_less, within_moved}
 use Rattle.fuse_answer.specs.declared.listing.Listing.{Listing}
 use Rattle.fuse_answer.specs.Answers.{taken_back}
 use Rattle.fuse_answer.specs.Puts.{Grows}

@@ -7,7 +7,7 @@ use Rattle.std.specs.Option.{option_map}
 use Rattle.std.proofs.lemmas.Bool.{le-ltb}
 use Rattle.std.proofs.lemmas.List.{length-take, take_all, take_min, take-take, drop-take, drop-drop, drop_at, drop_all}
 use Rattle.std.proofs.lemmas.Option.{slice_get-map}
-use Rattle.image_bytes.specs.Sources.{Source, MayGive, held}
+use Rattle.devices.specs.Sources.{Source, MayGive, held}
 use Rattle.romfs_format.specs.declared.head.Kind.TheVariants.{Regular}
 use Rattle.romfs_reader.specs.Readers.{bytes_at}
 use Rattle.fuse_wire.specs.declared.errno.Errno.{Errno}
@@ -21,8 +21,8 @@ use Rattle.fuse_wire.proofs.Telling.{held_told}
 use Rattle.stack_model.specs.Listing.{Stacked}
 use Rattle.stack_model.specs.Numbers.{Place}
 use Rattle.stack_model.specs.Attributes.{data_of, data_start}
-use Rattle.table_reader.specs.declared.node.Node.{Node}
-use Rattle.table_reader.specs.Readers.{HoldsData, IsNodeOf, placed}
+use Rattle.node_reader.specs.declared.node.Node.{Node}
+use Rattle.node_reader.specs.Readers.{HoldsData, IsNodeOf, placed}
 use Rattle.reply_model.specs.declared.session.Agreement.{Agreement}
 use Rattle.reply_model.specs.Readings.{sourced, data_reading}
 use Rattle.fuse_answer.specs.declared.outcome.Answer.TheVariants.{Data}

@@ -12,10 +12,10 @@ use Rattle.std.proofs.lemmas.List.Concat.{flat_map-append}
 use Rattle.fuse_wire.specs.Replies.{reply_with}
 use Rattle.fuse_wire.specs.Structures.{direntplus, zeros}
 use Rattle.fuse_wire.proofs.Sizes.{length-dirent, length-direntplus}
-use Rattle.node_attr.specs.declared.attr.Attr.{Attr}
-use Rattle.table_reader.specs.Rows.{Line}
+use Rattle.stack_model.specs.declared.attr.Attr.{Attr}
+use Rattle.node_reader.specs.Rows.{Line}
 use Rattle.stack_model.specs.Listing.{Stacked}
-use Rattle.table_reader.specs.Readers.{attr_at}
+use Rattle.node_reader.specs.Readers.{attr_at}
 use Rattle.fuse_answer.specs.declared.listing.Listing.{Listing}
 use Rattle.fuse_answer.specs.Listings.{IsPaddedAt, IsLineAt, IsWhole, NumberedLine, fit_count, fits_at, line_bytes, lines_of, listed_data, name_lengths, row_bytes_at, row_size, row_sizes, size_of, type_at, until_of}
 use Rattle.fuse_answer.proofs.Fitting.{fits_among, fits_few, fits_most, fits_total, length-sizes, size_named, total, total-append}

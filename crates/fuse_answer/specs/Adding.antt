@@ -1,6 +1,6 @@
 -- The effect of calls that add to balances what rows of a listing give.
 use Rattle.std.specs.Prelude.{ℕ, ◌-◌, ◌+◌, ◌^◌, ℤ, List}
-use Rattle.lookup_balances.specs.Balances.{AreWithin, IsMoved}
+use Rattle.reply_model.specs.Balances.{AreWithin, IsMoved}
 use Rattle.fuse_answer.specs.declared.listing.Listing.{Listing}
 use Rattle.fuse_answer.specs.Listings.{moves_before}
 

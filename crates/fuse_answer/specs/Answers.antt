@@ -6,7 +6,7 @@ use Rattle.fuse_wire.specs.declared.errno.Errno.{Errno}
 use Rattle.fuse_wire.specs.declared.errno.Errno.TheVariants.{ENOENT, ESTALE}
 use Rattle.fuse_wire.specs.declared.forget.Forget.{Forget}
 use Rattle.fuse_wire.specs.Requests.{NodeOp, Asked}
-use Rattle.image_bytes.specs.Sources.{Source}
+use Rattle.devices.specs.Sources.{Source}
 use Rattle.fuse_wire.specs.Told.{Reading}
 use Rattle.fuse_wire.specs.Reads.{items_of}
 use Rattle.fuse_wire.specs.Structures.{init_out, entry_out, negative_entry_out, attr_out, open_out, statfs_out}
@@ -14,8 +14,8 @@ use Rattle.romfs_format.specs.declared.head.Kind.{Kind}
 use Rattle.stack_model.specs.Attributes.{kind_at, is_directory_at, data_of}
 use Rattle.stack_model.specs.Numbers.{Place, number, node_of}
 use Rattle.stack_model.specs.Listing.{Stacked}
-use Rattle.table_reader.specs.declared.node.Node.{Node}
-use Rattle.table_reader.specs.Readers.{HoldsData, attr_at, placed}
+use Rattle.node_reader.specs.declared.node.Node.{Node}
+use Rattle.node_reader.specs.Readers.{HoldsData, attr_at, placed}
 use Rattle.reply_model.specs.declared.moves.Move.{Move}
 use Rattle.reply_model.specs.declared.session.Agreement.{Agreement}
 use Rattle.reply_model.specs.declared.session.Session.{Session}

@@ -3,4 +3,4 @@ pub mod Listings
 pub mod Puts
 pub mod Adding
 pub use Rattle.fuse_wire.specs.Reads
-pub use Rattle.lookup_balances.specs.Balances
+pub use Rattle.reply_model.specs.Balances

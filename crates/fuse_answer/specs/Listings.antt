@@ -5,9 +5,9 @@ use Rattle.std.specs.Option.{option_map_or}
 use Rattle.fuse_wire.specs.declared.limits.TheConstants.{MAX_DATA_SIZE}
 use Rattle.fuse_wire.specs.Structures.{dirent, direntplus, dirent_size}
 use Rattle.fuse_wire.specs.Requests.{NodeOp, readdir, readdirplus}
-use Rattle.table_reader.specs.Rows.{Line}
+use Rattle.node_reader.specs.Rows.{Line}
 use Rattle.stack_model.specs.Listing.{Stacked}
-use Rattle.table_reader.specs.Readers.{attr_at, parent_at, rows_at}
+use Rattle.node_reader.specs.Readers.{attr_at, parent_at, rows_at}
 use Rattle.reply_model.specs.declared.moves.Move.{Move}
 use Rattle.fuse_answer.specs.declared.listing.Listing.{Listing}
 

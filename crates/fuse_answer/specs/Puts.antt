@@ -2,7 +2,7 @@
 use Rattle.std.specs.Prelude.{◌≡◌, ◌+◌, ◌<◌, ◌≤◌, ◌^◌, ℤ, unsigned_abs, List, ◌++◌, length, map, Result, OnOk, OnErr, vec_len, vec_capacity}
 use Rattle.std.specs.List.{All}
 use Rattle.std.specs.declared.vec.Vec.{Vec}
-use Rattle.image_bytes.specs.Sources.{Source}
+use Rattle.devices.specs.Sources.{Source}
 use Rattle.fuse_wire.specs.Appends.{Filled}
 use Rattle.fuse_wire.specs.Told.{AppendsTold}
 use Rattle.fuse_wire.specs.Requests.{Asked}
@@ -12,7 +12,7 @@ use Rattle.reply_model.specs.declared.session.Session.{Session}
 use Rattle.reply_model.specs.Moves.{moves}
 use Rattle.reply_model.specs.Replies.{reply}
 use Rattle.reply_model.specs.Readings.{Sourced, sourced, reading_of}
-use Rattle.lookup_balances.specs.Balances.{IsMoved}
+use Rattle.reply_model.specs.Balances.{IsMoved}
 use Rattle.fuse_answer.specs.declared.served.Served.{Served}
 
 -- the call appends exactly these; or, if the vector has no room for them and gets none, nothing

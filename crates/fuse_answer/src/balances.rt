@@ -2,7 +2,7 @@
 
 ghost use Rattle.std.specs.Prelude.{◌≡◌, ◌≤◌, ◌<◌, ◌+◌, ◌-◌, ◌^◌, ◌∷◌, [], length};
 ghost use Rattle.fuse_wire.specs.Reads.{items_of};
-ghost use Rattle.lookup_balances.specs.Balances.{AreWithin, IsMoved};
+ghost use Rattle.reply_model.specs.Balances.{AreWithin, IsMoved};
 ghost use Rattle.fuse_answer.specs.Answers.{IsSized, answer_moves, taken_back};
 ghost use Rattle.fuse_answer.specs.Listings.{IsRow, IsWhole, listed_moves, row_given};
 ghost use Rattle.fuse_answer.specs.Adding.{AddsGiven};
@@ -11,9 +11,9 @@ use crate::listing::{Listing, fit};
 use crate::outcome::Answer;
 use crate::rows::line_at;
 use fuse_wire::forget::{Forget, Forgets};
-use lookup_balances::add_move;
+use node_reader::Table;
+use reply_model::add_move;
 use std::alloc::Allocator;
-use table_reader::Table;
 
 /// Adds what an answer gives and takes to the balances, in which node n has the place n - 1.
 #[inline(always)]

@@ -12,9 +12,9 @@ use crate::outcome::Answer;
 use crate::sessions::{agreement_of, is_spoken};
 use fuse_wire::forget::Forget;
 use fuse_wire::{Errno, InitOut, Op, Request, opcode};
+use node_reader::{Guess, Table};
 use reply_model::{Agreement, Session};
 use std::alloc::Allocator;
-use table_reader::{Guess, Table};
 
 /// What is decided about a request.
 #[inline(always)]

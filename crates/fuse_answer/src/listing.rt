@@ -14,10 +14,10 @@ use crate::node::kind_of;
 use crate::outcome::Answer;
 use fuse_wire::limits::MAX_DATA_SIZE;
 use fuse_wire::{Errno, dirent_size};
+use node_reader::{Row, Table};
 use reply_model::Agreement;
 use romfs_format::Kind;
 use std::alloc::Allocator;
-use table_reader::{Row, Table};
 
 /// The bytes of a `struct fuse_entry_out`, which precedes each row of READDIRPLUS.
 const ENTRY_SIZE: usize = 128;

@@ -9,10 +9,10 @@ use crate::node::kind_of;
 use crate::outcome::Answer;
 use fuse_wire::Errno;
 use fuse_wire::limits::MAX_NAME_SIZE;
+use node_reader::{Guess, Table};
 use reply_model::Agreement;
 use romfs_format::Kind;
 use std::alloc::Allocator;
-use table_reader::{Guess, Table};
 
 /// What LOOKUP is answered. In a session with `FUSE_EXPORT_SUPPORT` the name `.` finds the node
 /// itself, of any kind, and `..` the directory above. Lastingly, that a name finds nothing is no

@@ -16,9 +16,9 @@ use crate::outcome::Answer;
 use crate::rows::line_at;
 use fuse_wire::Request;
 use fuse_wire::forget::{Forget, Forgets};
+use node_reader::{Guess, Table};
 use reply_model::{Move, Session};
 use std::alloc::{AllocError, Allocator};
-use table_reader::{Guess, Table};
 
 /// Appends what a request gives and takes, in order: one lookup for the entry of a LOOKUP and for
 /// each row of a READDIRPLUS but `.` and `..`, and what FORGET and BATCH_FORGET take back. Numbers

@@ -9,10 +9,10 @@ use crate::outcome::{Answer, FilePart};
 use fuse_wire::Errno;
 use fuse_wire::flags::{FOPEN_CACHE_DIR, FOPEN_KEEP_CACHE};
 use fuse_wire::limits::MAX_DATA_SIZE;
+use node_reader::Table;
 use reply_model::Agreement;
 use romfs_format::Kind;
 use std::alloc::Allocator;
-use table_reader::Table;
 
 /// What GETATTR is answered.
 #[inline(always)]

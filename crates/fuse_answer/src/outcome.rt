@@ -3,8 +3,8 @@
 use crate::listing::Listing;
 use fuse_wire::forget::{Forget, Forgets};
 use fuse_wire::{Attr, InitOut};
+use node_reader::Node;
 use std::alloc::Allocator;
-use table_reader::Node;
 
 /// Some of a file's data.
 #[derive(Clone, Copy)]

@@ -5,7 +5,7 @@ ghost use Rattle.reply_model.specs.Moves.{moves};
 ghost use Rattle.reply_model.specs.Replies.{is_silent};
 ghost use Rattle.fuse_answer.specs.Answers.{Decides};
 ghost use Rattle.std.specs.Prelude.{◌≡◌, ◌^◌};
-ghost use Rattle.lookup_balances.specs.Balances.{AreWithin};
+ghost use Rattle.reply_model.specs.Balances.{AreWithin};
 ghost use Rattle.fuse_answer.specs.Puts.{AddsMoves, PutsReply, sourced_by};
 
 use crate::balances::add_answer_moves;
@@ -14,11 +14,11 @@ use crate::outcome::Answer;
 use crate::rows::put_rows_and_move;
 use crate::served::Served;
 use crate::write::write;
+use devices::Contents;
 use fuse_wire::{Errno, Op, Replies, Request, opcode, put_error};
-use image_bytes::Contents;
+use node_reader::Guess;
 use reply_model::Session;
 use std::alloc::{AllocError, Allocator};
-use table_reader::Guess;
 
 // A request, the session before it, and a guess of the row that it finds.
 #[derive(Clone, Copy)]

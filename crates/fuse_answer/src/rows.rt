@@ -4,9 +4,9 @@ ghost use Rattle.std.specs.Prelude.{◌≡◌, ◌≤◌, ◌<◌, ◌+◌, ◌/
 ghost use Rattle.std.specs.Option.{option_map_or};
 ghost use Rattle.fuse_wire.specs.Replies.{reply_with};
 ghost use Rattle.fuse_wire.specs.Appends.{Appends, MakesRoom, PutsUpTo};
-ghost use Rattle.table_reader.specs.Readers.{attr_at};
+ghost use Rattle.node_reader.specs.Readers.{attr_at};
 ghost use Rattle.fuse_answer.specs.Listings.{IsWhole, IsLineAt, IsPaddedAt, IsRow, listed_data, listed_moves, row_bytes_at, size_of, type_at};
-ghost use Rattle.lookup_balances.specs.Balances.{AreWithin, IsMoved};
+ghost use Rattle.reply_model.specs.Balances.{AreWithin, IsMoved};
 
 use crate::balances::add_row;
 use crate::listing::{Listing, count, fit, fits};
@@ -15,8 +15,8 @@ use fuse_wire::{
     Attr, Dirent, Replies, put_data_head, put_dirent, put_direntplus, put_short_direntplus,
     set_data_head,
 };
+use node_reader::Table;
 use std::alloc::{AllocError, Allocator};
-use table_reader::Table;
 
 /// The names of the first two rows, with zeros behind them.
 const DOT: &[u8; 22] = b".\0\0\0\0\0\0\0\0\0\0\0\0\0\0\0\0\0\0\0\0\0";

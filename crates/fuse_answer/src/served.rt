@@ -2,9 +2,9 @@
 
 ghost use Rattle.std.specs.Prelude.{◌≡◌, [], true};
 
-use image_bytes::InMemory;
+use devices::InMemory;
+use node_reader::Table;
 use std::alloc::{AllocError, Allocator};
-use table_reader::Table;
 
 /// The table of a stack, and the files with its layers' data, lowest first.
 ///

@@ -8,18 +8,18 @@ ghost use Rattle.fuse_wire.specs.Appends.{Appends};
 ghost use Rattle.fuse_wire.specs.Told.{AppendsTold};
 ghost use Rattle.reply_model.specs.Readings.{data_reading};
 ghost use Rattle.stack_model.specs.Attributes.{data_of};
-ghost use Rattle.table_reader.specs.Readers.{placed};
+ghost use Rattle.node_reader.specs.Readers.{placed};
 
 use crate::outcome::{Answer, FilePart};
 use crate::rows::put_rows_and_move;
 use crate::served::Served;
+use devices::Contents;
 use fuse_wire::{
     Replies, put_attr, put_data, put_entry, put_head, put_init, put_negative_entry, put_open,
     put_read, put_statfs,
 };
-use image_bytes::Contents;
+use node_reader::{Node, Part, Table};
 use std::alloc::{AllocError, Allocator};
-use table_reader::{Node, Part, Table};
 
 /// Appends the reply with an answer. Data in a file are read into it; if they cannot be read in
 /// full, the reply is EIO.

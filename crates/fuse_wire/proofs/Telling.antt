@@ -2,9 +2,9 @@
 -- or that of EIO, set over it (told_unread).
 use Rattle.std.proofs.Common.{◌≡◌, ◌∙◌, sym, ap, subst, ℕ, ◌+◌, ◌-◌, ◌<◌, ◌≤◌, List, ◌++◌, length, take, drop, Some, arith, inl, inr, true, false, refl, append_assoc, take-append-drop, length-append, length-drop}
 use Rattle.std.proofs.lemmas.List.{take_at, drop_at, take-take, length-take}
-use Rattle.image_bytes.specs.Sources.{Source, MayGive, MayLack, held}
-use Rattle.image_bytes.proofs.Held.{held_only}
-use Rattle.image_bytes.proofs.Given.{held_lacks}
+use Rattle.devices.specs.Sources.{Source, MayGive, MayLack, held}
+use Rattle.devices.proofs.Held.{held_only}
+use Rattle.devices.proofs.Given.{held_lacks}
 use Rattle.fuse_wire.specs.declared.errno.Errno.TheVariants.{EIO}
 use Rattle.fuse_wire.specs.declared.limits.TheConstants.{OUT_HEADER_SIZE}
 use Rattle.fuse_wire.specs.Replies.{reply_head, reply_with, error_reply}

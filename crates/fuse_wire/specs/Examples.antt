@@ -4,7 +4,7 @@ use Rattle.fuse_wire.specs.declared.flags.TheConstants.{ASYNC_READ, EXPORT_SUPPO
 use Rattle.fuse_wire.specs.declared.limits.TheConstants.{HEADER_SIZE, OUT_HEADER_SIZE, MAX_DATA_SIZE, MAX_READAHEAD, MAX_WRITE, MAX_MESSAGE_SIZE, MAX_REPLY_SIZE, MAX_NAME_SIZE, MAX_FORGETS}
 use Rattle.fuse_wire.specs.Requests.{init, at_node, lookup, getattr, readlink, open_file, read, opendir, readdir, readdirplus, statfs, done, release, fsync, flush, releasedir, fsyncdir, destroy, silent, forget, batch_forget, interrupt, modify, other, malformed, op_of, asked}
 use Rattle.byteorder.specs.Endian.{big_bytes}
-use Rattle.node_attr.specs.declared.attr.Attr.{Attr}
+use Rattle.stack_model.specs.declared.attr.Attr.{Attr}
 use Rattle.fuse_wire.specs.Structures.{u32, u64, zeros, attr, dirent}
 
 -- a body of 56 bytes: the numbers 2, 1, 9 and 7 of 64 bits, and zeros. As items of a BATCH_FORGET

@@ -1,6 +1,6 @@
 -- linux/fuse.h: how long the structures of requests are, and those of replies.
 use Rattle.std.specs.Prelude.{◌≡◌, ◌≢◌, ℕ, ◌+◌, ◌%◌, ◌<◌, ◌≤◌, List, length, Bool, Option, nat_lt, if◌then◌else◌}
-use Rattle.node_attr.specs.declared.attr.Attr.{Attr}
+use Rattle.stack_model.specs.declared.attr.Attr.{Attr}
 use Rattle.fuse_wire.specs.declared.reply.InitOut.TheVariants.{Version, Terms}
 use Rattle.fuse_wire.specs.Requests.{malformed, op_of}
 use Rattle.fuse_wire.specs.Structures.{init_out, entry_out, negative_entry_out, attr_out, open_out, statfs_out, dirent_size, dirent, direntplus}

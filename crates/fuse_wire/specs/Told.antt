@@ -1,7 +1,7 @@
 -- What a client may get: the defined reply; or, if its data are read, those that reads gave, after
 -- the same header, or EIO.
 use Rattle.std.specs.Prelude.{◌≡◌, ◌⊎◌, ◌<◌, ◌≤◌, ◌+◌, ◌-◌, ℕ, List, ◌++◌, length, take, drop, Bool, true, false, Option, Some, None, Result, OnOk, OnErr}
-use Rattle.image_bytes.specs.Sources.{Source, MayGive, MayLack}
+use Rattle.devices.specs.Sources.{Source, MayGive, MayLack}
 use Rattle.fuse_wire.specs.declared.errno.Errno.TheVariants.{EIO}
 use Rattle.fuse_wire.specs.declared.limits.TheConstants.{OUT_HEADER_SIZE}
 use Rattle.fuse_wire.specs.Replies.{error_reply}

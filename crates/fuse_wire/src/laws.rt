@@ -8,7 +8,7 @@ ghost use Rattle.fuse_wire.specs.declared.limits.TheConstants.{HEADER_SIZE, OUT_
 ghost use Rattle.fuse_wire.specs.Requests.{forgets_of};
 ghost use Rattle.fuse_wire.specs.Laws.{BodySizes, ReplySizes, RowSizes};
 ghost use Rattle.fuse_wire.specs.Told.{Reading, IsTold};
-ghost use Rattle.image_bytes.specs.Sources.{held};
+ghost use Rattle.devices.specs.Sources.{held};
 
 /// Every stream is cut into messages and a rest, in one way.
 #[tactic(auto, using(crate::proofs::Splits::one_split, crate::proofs::Splits::some_split))]

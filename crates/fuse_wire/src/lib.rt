@@ -8,7 +8,7 @@
 //! memory, and a few steps for each byte; names are borrowed. What appends asks for memory at most
 //! once, for the replies' growth, and leaves them unchanged if that is refused; with enough room
 //! nothing fails. [`put_read`] alone reads: the data of a reply, from an image's bytes. The crate
-//! uses `node_attr`, `image_bytes`, `byteorder`, `memchr`.
+//! uses `stack_model`, `devices`, `byteorder`, `memchr`.
 #![tactic(auto)]
 
 mod body;
@@ -31,7 +31,6 @@ mod structures;
 pub use errno::Errno;
 pub use forget::{Forget, Forgets};
 pub use framing::{Framed, frame};
-pub use node_attr::Attr;
 pub use put::{
     SHORT_ROW_SIZE, dirent_size, put_attr, put_data, put_data_head, put_dirent, put_direntplus,
     put_entry, put_error, put_head, put_init, put_negative_entry, put_open, put_short_direntplus,
@@ -41,3 +40,4 @@ pub use read::put_read;
 pub use replies::Replies;
 pub use reply::{Dirent, InitOut};
 pub use request::{Op, Request, glance};
+pub use stack_model::Attr;

@@ -8,7 +8,7 @@ use crate::Errno;
 use crate::limits::OUT_HEADER_SIZE;
 use crate::replies::Replies;
 use crate::structures::{error_head, head};
-use image_bytes::{Contents, fill};
+use devices::{Contents, fill};
 use std::alloc::{AllocError, Allocator};
 
 /// Appends a reply with this many bytes of data after its header, read from a place on, in one

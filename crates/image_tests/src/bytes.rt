@@ -1,7 +1,7 @@
 //! Reads of a file that gives little at a time, is interrupted, ends or fails; and of bytes that
 //! are held.
 
-use image_bytes::{Contents, InFile, InMemory, Unread, fill};
+use devices::{Contents, InFile, InMemory, Unread, fill};
 use std::cell::Cell;
 use std::io::{self, Error, ErrorKind};
 use std::os::unix::fs::FileExt;

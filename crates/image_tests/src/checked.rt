@@ -4,9 +4,9 @@
 //! bytes of data at 96; a symbolic link `l` at 112, with its target at 144; and a hard link `h` at
 //! 160 to the file. It ends at 192, followed by a file's bytes.
 
-use image_bytes::InMemory;
-use kept_image::gather;
-use romfs_check::{CheckFault, HeldImage, ImageFault, Profile, Rule, check_held};
+use devices::InMemory;
+use romfs_image::{CheckFault, HeldImage, ImageFault, Profile, Rule, check_held};
+use romfs_kept::gather;
 use romfs_reader::{Image, ImageView, Part};
 use std::alloc::Allocator;
 

@@ -3,12 +3,12 @@
 //! Each image has a regular file in its root, of 32 bytes of data. Its header is at 528, its name
 //! at 544, its data at 560; 592 bytes belong to the image.
 
-use held_image::read::word;
-use held_image::{Held, HeldImage};
-use image_bytes::{Contents, fill};
-use image_files::{
+use devices::{Contents, fill};
+use romfs_files::{
     FileKind, FilesFault, GatherFault, ImageData, Loading, Trailers, apart, load, load_as,
 };
+use romfs_held::read::word;
+use romfs_held::{Held, HeldImage};
 use std::alloc::{AllocError, Allocator};
 use std::fs::{self, File, Files};
 use std::os::unix::fs::FileExt;

@@ -5,9 +5,9 @@
 //! target of 20 bytes, and a regular file has data that look like headers. 832 of 900 bytes belong
 //! to it.
 
-use held_image::read::word;
-use image_bytes::{Contents, Unread};
-use kept_image::{GatherFault, gather, gather_with_trailer};
+use devices::{Contents, Unread};
+use romfs_held::read::word;
+use romfs_kept::{GatherFault, gather, gather_with_trailer};
 use std::alloc::Allocator;
 use std::cell::Cell;
 
@@ -100,7 +100,7 @@ fn file(size: usize, most: usize, fails_at: u32) -> Slow {
 
 impl Contents for Slow {
     ghost use Rattle.std.specs.Prelude.{None};
-    ghost use Rattle.image_bytes.specs.Sources.{unknown};
+    ghost use Rattle.devices.specs.Sources.{unknown};
 
     ghost contents = { λ _. None };
 

@@ -5,10 +5,10 @@ use Rattle.std.proofs.Common.{◌≡◌, ◌∙◌, sym, ap, subst, ℕ, List, r
 use Rattle.romfs_format.specs.Heads.{head_of}
 use Rattle.romfs_format.specs.Links.{IsFinal}
 use Rattle.stack_model.specs.Stack.{Path}
-use Rattle.whiteout_tree.specs.declared.place.Entry.{Entry}
-use Rattle.whiteout_tree.specs.Trees.{TreeRows, entry_at, entry_of, cuts_at, IsEntryOf, IsTreeOf}
+use Rattle.layer_paths.specs.declared.entries.Entry.{Entry}
+use Rattle.layer_paths.specs.Trees.{TreeRows, entry_at, entry_of, cuts_at, IsEntryOf, IsTreeOf}
 use Rattle.layer_tree.proofs.Joining.{some_and}
-use Rattle.whiteout_tree.proofs.Listed.{one_end}
+use Rattle.layer_paths.proofs.Listed.{one_end}
 
 -- a header has one entry in a run
 one_entry : (first : ℕ) (layers : List (List ℕ)) (i h : ℕ) (e f : Entry) → IsEntryOf first layers i h e → IsEntryOf first layers i h f

@@ -16,11 +16,11 @@ use Rattle.romfs_format.specs.Heads.{name_of}
 use Rattle.romfs_reader.specs.Images.{IsImage}
 use Rattle.romfs_reader.proofs.Paths.{short}
 use Rattle.stack_model.specs.Stack.{Path, IsMarker, marker}
-use Rattle.name_tree.specs.Rows.{Subtree, name_cmp, named, IsForest}
-use Rattle.name_tree.proofs.Names.{same_or_not, named_below}
-use Rattle.name_tree.proofs.Spread.{through}
-use Rattle.whiteout_tree.specs.declared.place.Entry.{Entry}
-use Rattle.whiteout_tree.specs.declared.place.Mark.{Mark}
+use Rattle.layer_paths.specs.Rows.{Subtree, name_cmp, named, IsForest}
+use Rattle.layer_paths.proofs.Names.{same_or_not, named_below}
+use Rattle.layer_paths.proofs.Spread.{through}
+use Rattle.layer_paths.specs.declared.entries.Entry.{Entry}
+use Rattle.layer_paths.specs.declared.entries.Mark.{Mark}
 use Rattle.layer_tree.specs.declared.members.KeyedMember.{KeyedMember}
 use Rattle.layer_tree.specs.Members.{NamedMember, member_in, members_in}
 use Rattle.layer_tree.specs.Reading.{IsBefore, NamedRise, IsNamedMember, IsAtDepth, AreMembersAt, IsBranchOf, RemovesFrom, IsBranchAlone, AreBranchesOf, IsMadeOf, AreBuilt, none_built, hidden, alone, built, AreWhiteouts, none_white, other, white}

@@ -31,8 +31,8 @@ use Rattle.romfs_reader.specs.Readers.{IsGiven, IsListed, AreMembers, passes_ove
 use Rattle.romfs_reader.proofs.Keeps.{good, not_twice, member_reached, reached_named}
 use Rattle.romfs_reader.proofs.Paths.{one_header}
 use Rattle.stack_model.specs.Stack.{marker}
-use Rattle.name_tree.specs.Rows.{name_cmp}
-use Rattle.name_tree.proofs.Lists.{get_of_map}
+use Rattle.layer_paths.specs.Rows.{name_cmp}
+use Rattle.layer_paths.proofs.Lists.{get_of_map}
 use Rattle.layer_tree.specs.declared.members.KeyedMember.{KeyedMember}
 use Rattle.layer_tree.specs.Members.{NamedMember, member_in, members_in, IsByName}
 use Rattle.layer_tree.specs.Reading.{IsBefore, NamedRise, IsNamedMember, AreByName}

@@ -2,10 +2,10 @@
 -- two trees of one run have the same entries, so have their children (same_children).
 use Rattle.std.proofs.Common.{◌≡◌, ◌∙◌, sym, ℕ, List, [], ◌∷◌, ◌++◌, refl, Option, Some, None}
 use Rattle.stack_model.specs.Stack.{Path}
-use Rattle.name_tree.specs.Rows.{Subtree, spread, named, at_path}
-use Rattle.name_tree.proofs.Spread.{through, at_spread}
-use Rattle.whiteout_tree.specs.declared.place.Entry.{Entry}
-use Rattle.whiteout_tree.specs.Trees.{TreeRows, entry_at, AreChildren, IsTreeOf}
+use Rattle.layer_paths.specs.Rows.{Subtree, spread, named, at_path}
+use Rattle.layer_paths.proofs.Spread.{through, at_spread}
+use Rattle.layer_paths.specs.declared.entries.Entry.{Entry}
+use Rattle.layer_paths.specs.Trees.{TreeRows, entry_at, AreChildren, IsTreeOf}
 use Rattle.layer_tree.specs.Merging.{value_of}
 use Rattle.layer_tree.proofs.Agreeing.{same_entries}
 

@@ -9,17 +9,17 @@ use Rattle.std.specs.List.{AllByRecursion}
 use Rattle.std.specs.declared.cmp.Ordering.TheVariants.{Less}
 use Rattle.stack_model.specs.Stack.{Path}
 use Rattle.stack_model.specs.Attributes.{is_directory}
-use Rattle.name_tree.specs.Rows.{Subtree, name_cmp, named, NamesRise, IsRising, at_path, spread, whole}
-use Rattle.tree_merge.specs.Laying.{laid_at}
-use Rattle.name_tree.proofs.Names.{same_or_not, named_below, not_below_itself}
-use Rattle.name_tree.proofs.Spread.{through, at_spread}
-use Rattle.tree_merge.proofs.Merging.{grown}
-use Rattle.whiteout_tree.specs.declared.place.Entry.{Entry}
-use Rattle.whiteout_tree.specs.declared.place.Mark.{Mark}
-use Rattle.whiteout_tree.specs.Marks.{cuts_itself, cuts_below, cut_by, marked, mark_of, covered_by, removed_by}
+use Rattle.layer_paths.specs.Rows.{Subtree, name_cmp, named, NamesRise, IsRising, at_path, spread, whole}
+use Rattle.layer_paths.specs.Laying.{laid_at}
+use Rattle.layer_paths.proofs.Names.{same_or_not, named_below, not_below_itself}
+use Rattle.layer_paths.proofs.Spread.{through, at_spread}
+use Rattle.layer_paths.proofs.Merging.{grown}
+use Rattle.layer_paths.specs.declared.entries.Entry.{Entry}
+use Rattle.layer_paths.specs.declared.entries.Mark.{Mark}
+use Rattle.layer_paths.specs.Marks.{cuts_itself, cuts_below, cut_by, marked, mark_of, covered_by, removed_by}
 use Rattle.layer_tree.specs.Laying.{unless, IsFrom, is_uncut, IsBare, IsLeafAt, Clash, AreClashes, IsClashMark}
-use Rattle.whiteout_tree.specs.Marks.{upper}
-use Rattle.whiteout_tree.proofs.Cutting.{nothing_cut, cut_same}
+use Rattle.layer_paths.specs.Marks.{upper}
+use Rattle.layer_paths.proofs.Cutting.{nothing_cut, cut_same}
 use Rattle.layer_tree.proofs.Removing.{IsFile, both_ways, cut_extends, covering_file, file_covers, removed_extends}
 use Rattle.layer_tree.proofs.Stepping.{unless_none, all_cut, still_same}
 

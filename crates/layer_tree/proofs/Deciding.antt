@@ -20,8 +20,8 @@ use Rattle.romfs_reader.proofs.Hops.{is_hard, LeavesWithin, hops, count}
 use Rattle.romfs_reader.proofs.Given.{sets_out}
 use Rattle.romfs_reader.proofs.Paths.{leads_to}
 use Rattle.stack_model.specs.Stack.{Path, IsPlain, marker, opaque, IsIn, Cuts}
-use Rattle.name_tree.proofs.Names.{same_or_not}
-use Rattle.whiteout_tree.specs.Marks.{is_plain}
+use Rattle.layer_paths.proofs.Names.{same_or_not}
+use Rattle.layer_paths.specs.Marks.{is_plain}
 use Rattle.layer_tree.specs.Reading.{HasNamed, CutsFrom}
 use Rattle.layer_tree.proofs.Plain.{plain_is}
 use Rattle.layer_tree.proofs.Layered.{opened_directory, cuts_is}

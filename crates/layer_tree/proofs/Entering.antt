@@ -10,8 +10,8 @@ use Rattle.romfs_reader.specs.Images.{IsImage}
 use Rattle.romfs_reader.proofs.Keeps.{not_directory}
 use Rattle.romfs_reader.proofs.Given.{From, from_inside, hard_member}
 use Rattle.romfs_reader.specs.Readers.{IsGiven}
-use Rattle.whiteout_tree.specs.declared.place.Entry.{Entry}
-use Rattle.whiteout_tree.specs.Trees.{entry_of}
+use Rattle.layer_paths.specs.declared.entries.Entry.{Entry}
+use Rattle.layer_paths.specs.Trees.{entry_of}
 use Rattle.layer_tree.specs.Reading.{IsEntryIn}
 
 -- no hard link leads on from a directory

@@ -18,9 +18,9 @@ use Rattle.romfs_reader.specs.Images.{IsImage}
 use Rattle.romfs_reader.proofs.Paths.{one_header, all_paths}
 use Rattle.stack_model.specs.Stack.{Path, IsPlain, IsIn, IsFree, IsTop}
 use Rattle.stack_model.specs.Listing.{Entry, path_cmp, Rises, IsAmong, IsShown, IsListing}
-use Rattle.name_lookup.proofs.Places.{equal}
+use Rattle.layer_names.proofs.Places.{equal}
 use Rattle.layer_tree.proofs.Joining.{top_in}
-use Rattle.whiteout_tree.proofs.Listed.{one_end}
+use Rattle.layer_paths.proofs.Listed.{one_end}
 use Rattle.layer_tree.proofs.Parents.{AreImages}
 use Rattle.layer_tree.proofs.Deciding.{IsDecided, both_decided, not_decided, plain_decided, first_or_later, has_decided, cut_decided, has_end}
 

@@ -11,20 +11,20 @@ use Rattle.romfs_reader.specs.Images.{IsImage}
 use Rattle.romfs_reader.proofs.Paths.{one_header}
 use Rattle.stack_model.specs.Stack.{Path, IsPlain, marker, opaque}
 use Rattle.stack_model.specs.Attributes.{is_directory}
-use Rattle.name_tree.specs.Rows.{Subtree, spread, whole, named, at_path, IsForest}
-use Rattle.tree_merge.specs.Laying.{AreLaid}
-use Rattle.name_tree.proofs.Spread.{through, at_spread}
-use Rattle.tree_merge.proofs.Rising.{branch_rises}
-use Rattle.name_tree.proofs.Lists.{all_get}
-use Rattle.whiteout_tree.specs.declared.place.Entry.{Entry}
-use Rattle.whiteout_tree.specs.declared.place.Mark.{Mark}
+use Rattle.layer_paths.specs.Rows.{Subtree, spread, whole, named, at_path, IsForest}
+use Rattle.layer_paths.specs.Laying.{AreLaid}
+use Rattle.layer_paths.proofs.Spread.{through, at_spread}
+use Rattle.layer_paths.proofs.Rising.{branch_rises}
+use Rattle.layer_paths.proofs.Lists.{all_get}
+use Rattle.layer_paths.specs.declared.entries.Entry.{Entry}
+use Rattle.layer_paths.specs.declared.entries.Mark.{Mark}
 use Rattle.layer_tree.specs.Members.{NamedMember}
-use Rattle.whiteout_tree.specs.Marks.{cut_by, mark_of, covered_by, removed_by}
-use Rattle.whiteout_tree.specs.Marks.{united}
+use Rattle.layer_paths.specs.Marks.{cut_by, mark_of, covered_by, removed_by}
+use Rattle.layer_paths.specs.Marks.{united}
 use Rattle.layer_tree.specs.Reading.{IsNamedMember, AreByName, HasNamed, CutsFrom, CutsAt, IsEntryIn, IsBranchOf, RemovesFrom, IsBranchAlone, AreBranchesOf, IsMadeOf, IsBlank, AreBuilt, AreWhiteouts, rest_of_opaque}
-use Rattle.whiteout_tree.proofs.NoDirectory.{not_directory}
-use Rattle.whiteout_tree.proofs.Cutting.{nothing_cut, cut_same, cut_through, by_name, by_through}
-use Rattle.whiteout_tree.proofs.Listed.{kind_read}
+use Rattle.layer_paths.proofs.NoDirectory.{not_directory}
+use Rattle.layer_paths.proofs.Cutting.{nothing_cut, cut_same, cut_through, by_name, by_through}
+use Rattle.layer_paths.proofs.Listed.{kind_read}
 use Rattle.layer_tree.proofs.Removing.{file_covers}
 use Rattle.layer_tree.proofs.Joining.{cut_united}
 use Rattle.layer_tree.proofs.Stepping.{all_cut}

@@ -7,14 +7,14 @@ use Rattle.std.proofs.lemmas.Bool.{or_cases, or_right}
 use Rattle.romfs_format.specs.declared.head.Kind.TheVariants.{Directory}
 use Rattle.stack_model.specs.Stack.{Path, IsPlain, Shows, IsTop, IsFree, IsCut}
 use Rattle.stack_model.proofs.Joined.{shows_joined, cuts_joined, free_is}
-use Rattle.name_tree.specs.Rows.{Subtree, whole, at_path}
-use Rattle.tree_merge.specs.Laying.{laid_at, IsLaid}
-use Rattle.whiteout_tree.specs.declared.place.Entry.{Entry}
-use Rattle.whiteout_tree.specs.declared.place.Mark.{Mark}
-use Rattle.whiteout_tree.specs.Marks.{cuts_itself, cuts_below, cut_by, mark_of, is_plain}
-use Rattle.whiteout_tree.specs.Trees.{TreeRows, entry_at, removes, cuts_at, IsEntryOf, IsTreeOf}
+use Rattle.layer_paths.specs.Rows.{Subtree, whole, at_path}
+use Rattle.layer_paths.specs.Laying.{laid_at, IsLaid}
+use Rattle.layer_paths.specs.declared.entries.Entry.{Entry}
+use Rattle.layer_paths.specs.declared.entries.Mark.{Mark}
+use Rattle.layer_paths.specs.Marks.{cuts_itself, cuts_below, cut_by, mark_of, is_plain}
+use Rattle.layer_paths.specs.Trees.{TreeRows, entry_at, removes, cuts_at, IsEntryOf, IsTreeOf}
 use Rattle.layer_tree.specs.Laying.{unless, IsKept, AreRootClashes, Lays}
-use Rattle.whiteout_tree.specs.Marks.{upper, united}
+use Rattle.layer_paths.specs.Marks.{upper, united}
 use Rattle.layer_tree.proofs.Plain.{plain_is}
 use Rattle.layer_tree.proofs.Clashing.{upper_wins, what_is_left, what_both_remove}
 

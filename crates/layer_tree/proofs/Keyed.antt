@@ -15,9 +15,9 @@ use Rattle.std.proofs.lemmas.List.Elements.{All-map, All-push}
 use Rattle.std.proofs.lemmas.List.Prefix.{front_rest}
 use Rattle.romfs_format.specs.declared.head.Head.{Head}
 use Rattle.romfs_format.specs.Heads.{name_of, head_of}
-use Rattle.name_lookup.specs.Keys.{key, AreBytes}
-use Rattle.name_lookup.proofs.Order.{all_bytes, each_byte, bytes-drop, key_order, cmp-front}
-use Rattle.name_tree.specs.Rows.{name_cmp}
+use Rattle.layer_names.specs.Keys.{key, AreBytes}
+use Rattle.layer_names.proofs.Order.{all_bytes, each_byte, bytes-drop, key_order, cmp-front}
+use Rattle.layer_paths.specs.Rows.{name_cmp}
 use Rattle.layer_tree.specs.declared.members.KeyedMember.{KeyedMember}
 use Rattle.layer_tree.specs.Members.{member_in, members_in, HasFront, HaveFront, ShareFront, IsRead, IsKeyed, AreKeyedBehind, AreToldApart, keyed_past, key_and_name, IsByName}
 

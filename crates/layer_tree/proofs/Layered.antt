@@ -11,12 +11,12 @@ use Rattle.romfs_reader.specs.Images.{IsImage}
 use Rattle.romfs_reader.proofs.Keeps.{root_directory}
 use Rattle.stack_model.specs.Stack.{Path, IsPlain, marker, opaque, Cuts, Shows, IsCut}
 use Rattle.stack_model.proofs.Joined.{alone}
-use Rattle.name_tree.specs.Rows.{Subtree, whole, at_path}
-use Rattle.whiteout_tree.specs.declared.place.Entry.{Entry}
-use Rattle.whiteout_tree.specs.declared.place.Mark.{Mark}
-use Rattle.whiteout_tree.specs.Marks.{covered_by, removed_by, is_plain}
-use Rattle.whiteout_tree.specs.Trees.{IsEntryOf, IsTreeOf}
-use Rattle.whiteout_tree.proofs.Listed.{kind_read}
+use Rattle.layer_paths.specs.Rows.{Subtree, whole, at_path}
+use Rattle.layer_paths.specs.declared.entries.Entry.{Entry}
+use Rattle.layer_paths.specs.declared.entries.Mark.{Mark}
+use Rattle.layer_paths.specs.Marks.{covered_by, removed_by, is_plain}
+use Rattle.layer_paths.specs.Trees.{IsEntryOf, IsTreeOf}
+use Rattle.layer_paths.proofs.Listed.{kind_read}
 use Rattle.layer_tree.specs.Reading.{CutsFrom, CutsAt, IsEntryIn, IsBranchOf, RemovesFrom}
 use Rattle.layer_tree.proofs.Plain.{plain_is}
 

@@ -5,12 +5,12 @@ use Rattle.std.proofs.Common.{◌≡◌, ◌∙◌, sym, ap, subst, ℕ, ◌+◌
 use Rattle.std.specs.Prelude.{option_map}
 use Rattle.std.specs.List.{AllByRecursion}
 use Rattle.stack_model.specs.Stack.{Path}
-use Rattle.name_tree.specs.Rows.{Subtree, named, NamesRise, spread, whole}
-use Rattle.name_tree.proofs.Names.{same_or_not, not_below_itself}
-use Rattle.name_tree.proofs.Spread.{at_spread}
-use Rattle.tree_merge.proofs.Merging.{grown}
-use Rattle.whiteout_tree.specs.declared.place.Mark.{Mark}
-use Rattle.whiteout_tree.specs.Marks.{marked}
+use Rattle.layer_paths.specs.Rows.{Subtree, named, NamesRise, spread, whole}
+use Rattle.layer_paths.proofs.Names.{same_or_not, not_below_itself}
+use Rattle.layer_paths.proofs.Spread.{at_spread}
+use Rattle.layer_paths.proofs.Merging.{grown}
+use Rattle.layer_paths.specs.declared.entries.Mark.{Mark}
+use Rattle.layer_paths.specs.Marks.{marked}
 use Rattle.layer_tree.specs.Laying.{IsFrom, Clash, AreClashes, AreApart, IsApart}
 use Rattle.layer_tree.proofs.Clashing.{clash_same, no_files, no_others, marked_in}
 use Rattle.layer_tree.proofs.Stepping.{still_same, named_measure}

@@ -11,9 +11,9 @@ use Rattle.romfs_reader.specs.Images.{IsImage}
 use Rattle.romfs_reader.proofs.Keeps.{root_directory}
 use Rattle.romfs_reader.proofs.Paths.{one_header}
 use Rattle.stack_model.specs.Stack.{Path, IsPlain, IsIn, HasDirectory, Cuts, IsFree, IsTop}
-use Rattle.whiteout_tree.specs.declared.place.Entry.{Entry}
-use Rattle.whiteout_tree.specs.Trees.{TreeRows, entry_at, IsEntryOf, IsTreeOf}
-use Rattle.whiteout_tree.proofs.Listed.{kind_read}
+use Rattle.layer_paths.specs.declared.entries.Entry.{Entry}
+use Rattle.layer_paths.specs.Trees.{TreeRows, entry_at, IsEntryOf, IsTreeOf}
+use Rattle.layer_paths.proofs.Listed.{kind_read}
 use Rattle.layer_tree.proofs.Layered.{final_directory, last_member, opened_directory}
 
 -- all layers are sound images

@@ -6,12 +6,12 @@ use Rattle.std.proofs.lemmas.List.{append-nil}
 use Rattle.std.specs.declared.cmp.Ordering.TheVariants.{Less}
 use Rattle.std.specs.List.{AllByRecursion}
 use Rattle.stack_model.specs.Stack.{Path}
-use Rattle.name_tree.specs.Rows.{Subtree, name_cmp, named, NamesRise, IsForest, IsPlaceOf, IsGapFor, at_path, spread}
-use Rattle.name_tree.proofs.Names.{IsSameOrNot, same_or_not, below_differs, named_below, all_at, above_of}
-use Rattle.tree_merge.proofs.Merging.{grown}
-use Rattle.whiteout_tree.specs.declared.place.Mark.{Mark}
-use Rattle.whiteout_tree.specs.Marks.{cut_by}
-use Rattle.whiteout_tree.proofs.Cutting.{cut_through, by_name}
+use Rattle.layer_paths.specs.Rows.{Subtree, name_cmp, named, NamesRise, IsForest, IsPlaceOf, IsGapFor, at_path, spread}
+use Rattle.layer_paths.proofs.Names.{IsSameOrNot, same_or_not, below_differs, named_below, all_at, above_of}
+use Rattle.layer_paths.proofs.Merging.{grown}
+use Rattle.layer_paths.specs.declared.entries.Mark.{Mark}
+use Rattle.layer_paths.specs.Marks.{cut_by}
+use Rattle.layer_paths.proofs.Cutting.{cut_through, by_name}
 use Rattle.layer_tree.specs.Laying.{unless, AreKept, IsLeftOut, IsKept}
 use Rattle.layer_tree.proofs.Stepping.{Keeps, None_left, Untouched, Left_out, Kept, are_kept, no_marks}
 

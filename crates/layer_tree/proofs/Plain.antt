@@ -4,7 +4,7 @@ use Rattle.std.proofs.Common.{◌≡◌, ◌∙◌, sym, ◌↔◌, [], ◌∷�
 use Rattle.std.specs.Prelude.{nat_eq}
 use Rattle.std.specs.List.{starts_with}
 use Rattle.stack_model.specs.Stack.{Path, IsPlain, marker}
-use Rattle.whiteout_tree.specs.Marks.{is_plain}
+use Rattle.layer_paths.specs.Marks.{is_plain}
 
 -- the test passes exactly the plain paths
 pub plain_is : (path : Path) → (is_plain path ≡ true) ↔ IsPlain path

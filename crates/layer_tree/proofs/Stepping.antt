@@ -7,18 +7,18 @@ use Rattle.std.proofs.lemmas.List.{append-nil}
 use Rattle.std.proofs.lemmas.Cmp.{nat_list_cmp_total}
 use Rattle.std.specs.declared.cmp.Ordering.TheVariants.{Less, Equal, Greater}
 use Rattle.std.specs.List.{AllByRecursion}
-use Rattle.name_tree.specs.Rows.{Subtree, name_cmp, named, NamesRise, IsRising, IsForest, at_path, spread, whole}
-use Rattle.tree_merge.specs.Laying.{PassesWith, TakesChildren}
-use Rattle.name_tree.proofs.Names.{same_or_not, not_below_itself, named_below, all_above, above_of}
-use Rattle.name_tree.proofs.Spread.{through, at_spread}
-use Rattle.tree_merge.proofs.Rising.{branch_rises}
-use Rattle.tree_merge.proofs.Merging.{grown}
+use Rattle.layer_paths.specs.Rows.{Subtree, name_cmp, named, NamesRise, IsRising, IsForest, at_path, spread, whole}
+use Rattle.layer_paths.specs.Laying.{PassesWith, TakesChildren}
+use Rattle.layer_paths.proofs.Names.{same_or_not, not_below_itself, named_below, all_above, above_of}
+use Rattle.layer_paths.proofs.Spread.{through, at_spread}
+use Rattle.layer_paths.proofs.Rising.{branch_rises}
+use Rattle.layer_paths.proofs.Merging.{grown}
 use Rattle.std.proofs.lemmas.Map.Lookups.{exact_bytes}
 use Rattle.stack_model.specs.Stack.{Path}
-use Rattle.whiteout_tree.specs.declared.place.Mark.{Mark}
-use Rattle.whiteout_tree.specs.Marks.{cut_by}
+use Rattle.layer_paths.specs.declared.entries.Mark.{Mark}
+use Rattle.layer_paths.specs.Marks.{cut_by}
 use Rattle.layer_tree.specs.Laying.{unless, AreKept, AreChildrenLeft, IsLeft, IsLeftOut, IsKept, IsFrom, KeepsFirst}
-use Rattle.whiteout_tree.proofs.Cutting.{nothing_cut, cut_same, cut_through, by_name}
+use Rattle.layer_paths.proofs.Cutting.{nothing_cut, cut_same, cut_through, by_name}
 
 -- some branches were passed over, all with names before this one
 pub record IsPassed {T : Type 0} (name : List ℕ) (branches rest : List (Subtree T)) : Type 0 where

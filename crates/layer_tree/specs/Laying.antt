@@ -2,14 +2,14 @@
 -- is left, and the marks are united, with marks for what the upper one's directories cover of the
 -- lower one's files.
 use Rattle.std.specs.Prelude.{◌≡◌, ◌≢◌, ℕ, ◌⊎◌, List, [], ◌∷◌, ◌++◌, Bool, true, false, not, ◌||◌, Option, Some, None, MatchOption, option_to_list, if◌then◌else◌}
-use Rattle.name_tree.specs.Rows.{Subtree, name_cmp, named, NamesRise, spread, whole, at_path, IsRising, IsForest, PathsRise}
+use Rattle.layer_paths.specs.Rows.{Subtree, name_cmp, named, NamesRise, spread, whole, at_path, IsRising, IsForest, PathsRise}
 use Rattle.std.specs.declared.cmp.Ordering.TheVariants.{Less}
-use Rattle.tree_merge.specs.Laying.{laid_at, IsLaid}
+use Rattle.layer_paths.specs.Laying.{laid_at, IsLaid}
 use Rattle.stack_model.specs.Stack.{Path}
-use Rattle.whiteout_tree.specs.declared.place.Entry.{Entry}
-use Rattle.whiteout_tree.specs.declared.place.Mark.{Mark}
-use Rattle.whiteout_tree.specs.Marks.{upper, united, cuts_itself, cut_by, mark_of, marked}
-use Rattle.whiteout_tree.specs.Trees.{TreeRows, entry_at, removes}
+use Rattle.layer_paths.specs.declared.entries.Entry.{Entry}
+use Rattle.layer_paths.specs.declared.entries.Mark.{Mark}
+use Rattle.layer_paths.specs.Marks.{upper, united, cuts_itself, cut_by, mark_of, marked}
+use Rattle.layer_paths.specs.Trees.{TreeRows, entry_at, removes}
 
 -- the value, unless it is cut
 abbrev pub unless : {T : Type 0} → Bool → Option T → Option T

@@ -4,8 +4,8 @@ use Rattle.std.specs.List.Sorted.{IsSorted}
 use Rattle.romfs_format.specs.declared.head.Head.{Head}
 use Rattle.romfs_format.specs.Heads.{name_of, head_of}
 use Rattle.romfs_reader.specs.Readers.{IsGiven}
-use Rattle.name_lookup.specs.Keys.{key, AreBytes}
-use Rattle.name_tree.specs.Rows.{name_cmp}
+use Rattle.layer_names.specs.Keys.{key, AreBytes}
+use Rattle.layer_paths.specs.Rows.{name_cmp}
 use Rattle.layer_tree.specs.declared.members.KeyedMember.{KeyedMember}
 
 -- a member of a directory: its name, and its header

@@ -1,8 +1,8 @@
 -- Terms of the laws of trees.
 use Rattle.std.specs.Prelude.{◌≡◌, ℕ, List, [], ◌∷◌, ◌++◌, Option, Some, None, codes}
 use Rattle.stack_model.specs.Stack.{Path, IsIn, HasOther}
-use Rattle.name_tree.specs.Rows.{Subtree}
-use Rattle.whiteout_tree.specs.declared.place.Entry.{Entry}
+use Rattle.layer_paths.specs.Rows.{Subtree}
+use Rattle.layer_paths.specs.declared.entries.Entry.{Entry}
 
 -- all along the path the layer has no marker for the next name, no opaque marker, and no entry that
 -- is no directory

@@ -11,14 +11,14 @@ use Rattle.romfs_format.specs.Links.{IsFinal}
 use Rattle.romfs_reader.specs.Images.{IsImage}
 use Rattle.romfs_reader.specs.Readers.{IsGiven}
 use Rattle.stack_model.specs.Stack.{Path, IsPlain, IsMarker, marker, opaque}
-use Rattle.name_tree.specs.Rows.{Subtree, name_cmp, whole, at_path, IsRising}
-use Rattle.whiteout_tree.specs.declared.place.Entry.{Entry}
-use Rattle.whiteout_tree.specs.declared.place.Mark.{Mark}
+use Rattle.layer_paths.specs.Rows.{Subtree, name_cmp, whole, at_path, IsRising}
+use Rattle.layer_paths.specs.declared.entries.Entry.{Entry}
+use Rattle.layer_paths.specs.declared.entries.Mark.{Mark}
 use Rattle.layer_tree.specs.declared.members.KeyedMember.{KeyedMember}
 use Rattle.layer_tree.specs.declared.reading.Branches.{Branches}
 use Rattle.layer_tree.specs.Members.{NamedMember, members_in, IsRead}
-use Rattle.whiteout_tree.specs.Marks.{removed_by}
-use Rattle.whiteout_tree.specs.Trees.{IsReadIn}
+use Rattle.layer_paths.specs.Marks.{removed_by}
+use Rattle.layer_paths.specs.Trees.{IsReadIn}
 
 -- the member comes before the other one by its name
 abbrev pub IsBefore : NamedMember → NamedMember → Type 0

@@ -4,14 +4,13 @@
 //! nothing is made.
 
 ghost use Rattle.std.specs.Prelude.{◌≡◌, IsTrue};
-ghost use Rattle.name_tree.specs.Rows.{IsForest};
+ghost use Rattle.layer_paths.specs.Rows.{IsForest};
 ghost use Rattle.layer_tree.specs.Laying.{AreApart, IsApart};
 
 use crate::clashes::is_bare;
 use crate::laying::seek;
-use name_tree::Branch;
+use layer_paths::{Branch, Cuts};
 use std::alloc::Allocator;
-use whiteout_tree::Cuts;
 
 /// Whether the branches of two directories are known not to clash.
 #[cycle(meeting)]

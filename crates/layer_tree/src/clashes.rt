@@ -5,15 +5,14 @@
 //! is no mark but that of the root.
 
 ghost use Rattle.std.specs.Prelude.{◌≡◌, [], true, false, IfOk, IsTrue};
-ghost use Rattle.name_tree.specs.Rows.{IsForest};
+ghost use Rattle.layer_paths.specs.Rows.{IsForest};
 ghost use Rattle.layer_tree.specs.Laying.{AreClashes, HasClash, AreRootClashes, IsBare};
 
 use crate::apart::are_apart;
 use crate::laying::seek;
 use crate::reading::{CUT, UNCUT, leaf};
-use name_tree::{Branch, Name};
+use layer_paths::{Branch, Cuts, Mark, Name};
 use std::alloc::{AllocError, Allocator};
-use whiteout_tree::{Cuts, Mark};
 
 /// The marks of all paths at which one of two trees has a file, and the other one a directory or
 /// something below: of the files of the upper tree, and of those of the lower one. Both roots are

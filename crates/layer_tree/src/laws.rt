@@ -7,10 +7,10 @@ ghost use Rattle.romfs_reader.specs.Images.{IsImage};
 ghost use Rattle.romfs_format.specs.Chains.{Has};
 ghost use Rattle.stack_model.specs.Listing.{Entry as Listed, IsListing};
 ghost use Rattle.stack_model.specs.Stack.{Path, IsPlain, IsIn, Shows};
-ghost use Rattle.name_tree.specs.Rows.{Subtree, spread, named, at_path};
-ghost use Rattle.whiteout_tree.specs.declared.place.Entry.{Entry};
+ghost use Rattle.layer_paths.specs.Rows.{Subtree, spread, named, at_path};
+ghost use Rattle.layer_paths.specs.declared.entries.Entry.{Entry};
 ghost use Rattle.layer_tree.specs.Merging.{IsUnremoved, value_of};
-ghost use Rattle.whiteout_tree.specs.Trees.{TreeRows, entry_at, cuts_at, AreChildren, IsTreeOf, listing};
+ghost use Rattle.layer_paths.specs.Trees.{TreeRows, entry_at, cuts_at, AreChildren, IsTreeOf, listing};
 
 /// The entries of a tree whose layers are numbered from 0, in the order of their paths, are the
 /// listing of these layers.

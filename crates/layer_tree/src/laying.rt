@@ -8,18 +8,18 @@
 //! A result that passes through `?` and `Ok` gets a promise in other terms.
 
 ghost use Rattle.std.specs.Prelude.{◌≡◌, ◌<◌, ◌+◌, [], ◌∷◌, ◌++◌, ℕ, List, length, IfOk, OnOk, false};
-ghost use Rattle.name_tree.specs.Rows.{NamesRise, IsForest, IsFirstNamed};
-ghost use Rattle.whiteout_tree.specs.Marks.{mark_of};
-ghost use Rattle.whiteout_tree.specs.Trees.{IsTreeOf};
+ghost use Rattle.layer_paths.specs.Rows.{NamesRise, IsForest, IsFirstNamed};
+ghost use Rattle.layer_paths.specs.Marks.{mark_of};
+ghost use Rattle.layer_paths.specs.Trees.{IsTreeOf};
 ghost use Rattle.layer_tree.specs.Laying.{AreKept, AreChildrenLeft, AreUnited, AreEntriesLaid, CoverTheKept, IsKept, KeepsFirst, IsFrom, Lays};
 
 use crate::clashes::clashes_both_ways;
-use name_tree::{Branch, place};
+use layer_paths::{
+    Branch, Child, Mark, Tree, cover, drop_first, pass_first, pass_with, place, take_children,
+};
 use std::alloc::{AllocError, Allocator};
 use std::cmp::Ordering;
 use std::collections::VecDeque;
-use tree_merge::{cover, drop_first, pass_first, pass_with, take_children};
-use whiteout_tree::{Child, Mark, Tree};
 
 /// How many marks at most are looked for one by one.
 const FEW: usize = 8;

@@ -1,12 +1,12 @@
 //! Layers as trees: the tree of one layer, and trees laid on one another.
 //!
 //! [`Tree::of`](OfLayer::of) gives the tree of one layer, [`tree_of`] that of one whose image is
-//! lent, and [`lay`] that of two runs of layers from theirs. `whiteout_tree` defines what a tree
+//! lent, and [`lay`] that of two runs of layers from theirs. `layer_paths` defines what a tree
 //! shows and cuts, and how it is read. `reading` makes the tree of one layer, from the members of
 //! directories in the order of their names (`members`), whose headers and names it reads ahead
 //! (`ahead`); `laying` lays one tree on another, `clashes` finds where one has a file and the other
-//! more than a leaf, and `apart` finds that there is no such path. The crate uses `whiteout_tree`,
-//! `name_tree` and `tree_merge` for trees, `romfs_reader` for images and `stack_model` for what
+//! more than a leaf, and `apart` finds that there is no such path. The crate uses `layer_paths`,
+//! `layer_paths` and `layer_paths` for trees, `romfs_reader` for images and `stack_model` for what
 //! stacks show.
 #![tactic(auto)]
 
@@ -18,6 +18,6 @@ mod laying;
 mod members;
 mod reading;
 
+pub use layer_paths::{Branch, Child, Entry, Mark, Place, Tree};
 pub use laying::lay;
 pub use reading::{OfLayer, tree_of};
-pub use whiteout_tree::{Branch, Child, Entry, Mark, Place, Tree};

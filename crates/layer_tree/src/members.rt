@@ -12,15 +12,15 @@ ghost use Rattle.romfs_format.specs.Heads.{name_of, head_of};
 ghost use Rattle.romfs_reader.specs.Images.{IsImage};
 ghost use Rattle.romfs_reader.specs.Readers.{IsGiven};
 ghost use Rattle.stack_model.specs.Stack.{marker, IsMarker};
-ghost use Rattle.name_lookup.specs.Keys.{key, AreBytes};
-ghost use Rattle.name_tree.specs.Rows.{name_cmp};
+ghost use Rattle.layer_names.specs.Keys.{key, AreBytes};
+ghost use Rattle.layer_paths.specs.Rows.{name_cmp};
 ghost use Rattle.layer_tree.specs.Members.{members_in, IsRead, HasFront, ShareFront, IsKeyed, AreKeyedBehind, AreToldApart, keyed_past, key_and_name, IsByName};
 ghost use Rattle.layer_tree.specs.Reading.{AreSorted};
 
+use layer_paths::is_marker;
 use romfs_reader::{Head, ImageView, Kind, Members};
 use std::alloc::{AllocError, Allocator};
 use std::cmp::Ordering;
-use whiteout_tree::is_marker;
 
 /// How many members a directory gets room for at once: most have no more.
 const FEW: usize = 16;
@@ -99,7 +99,7 @@ fn key_of(name: &[u8]) -> u64
     ensures value { result ≡ key 8 name.now }
     ensures bytes { AreBytes name.now }
 {
-    name_lookup::key_of(name)
+    layer_names::key_of(name)
 }
 
 /// What names begin with that all begin with this front, and this name, too; with no name before
@@ -117,7 +117,7 @@ fn shared<'a>(x: &'a [u8], y: &[u8]) -> &'a [u8]
     ensures first { HasFront result.now x.now }
     ensures second { HasFront result.now y.now }
 {
-    &x[..name_lookup::shared(x, y)]
+    &x[..layer_names::shared(x, y)]
 }
 
 /// Gives members whose names begin alike keys that distinguish them.

@@ -10,19 +10,17 @@
 
 ghost use Rattle.std.specs.Prelude.{◌≡◌, ◌≢◌, [], ◌∷◌, ◌++◌, ◌↔◌, length, All, IfOk, OnOk, IsTrue, MatchOption, is_some};
 ghost use Rattle.romfs_reader.specs.Images.{IsImage};
-ghost use Rattle.whiteout_tree.specs.Trees.{IsTreeOf, entry_of};
-ghost use Rattle.name_tree.specs.Rows.{NamesRise, named};
+ghost use Rattle.layer_paths.specs.Trees.{IsTreeOf, entry_of};
+ghost use Rattle.layer_paths.specs.Rows.{NamesRise, named};
 ghost use Rattle.layer_tree.specs.Members.{members_in, IsRead};
 ghost use Rattle.layer_tree.specs.Reading.{IsReadable, IsAtDepth, AddsMade, AreMadeOf, IsBlank, AreBuilt, AreWhiteouts, AreMembersAt, IsFolder, rest_of_opaque};
 
 use crate::ahead::NamesAhead;
 use crate::members::{KeyedMember, sorted_members, whiteout_of};
-use name_tree::{Branch, Name, child};
+use layer_paths::{Branch, Child, Entry, Mark, Name, Place, Tree, child, is_marker, merge};
 use romfs_format::limits::MAX_NAMES;
 use romfs_reader::{Ends, Head, Image, ImageView, Kind};
 use std::alloc::{AllocError, Allocator};
-use tree_merge::merge;
-use whiteout_tree::{Child, Entry, Mark, Place, Tree, is_marker};
 
 /// The name of an opaque marker after `.wh.`.
 const WHOLE: &[u8; 8] = b".wh..opq";

@@ -9,15 +9,15 @@ use Rattle.std.proofs.lemmas.List.{append-nil, map_push, take_all, take_rest, dr
 use Rattle.romfs_format.specs.declared.head.Kind.{Kind}
 use Rattle.romfs_format.specs.declared.head.Kind.TheVariants.{Directory}
 use Rattle.stack_model.specs.Attributes.{is_directory}
-use Rattle.name_tree.specs.Rows.{Subtree, whole, NamesRise, name_cmp}
-use Rattle.whiteout_tree.specs.declared.place.Place.{Place}
-use Rattle.whiteout_tree.specs.declared.place.Entry.{Entry}
-use Rattle.name_lookup.specs.Names.{Rise}
-use Rattle.table_reader.specs.Rows.{Line, names}
-use Rattle.table_reader.specs.Directories.{HeldDirectories}
+use Rattle.layer_paths.specs.Rows.{Subtree, whole, NamesRise, name_cmp}
+use Rattle.layer_paths.specs.declared.entries.Place.{Place}
+use Rattle.layer_paths.specs.declared.entries.Entry.{Entry}
+use Rattle.layer_names.specs.Names.{Rise}
+use Rattle.node_reader.specs.Rows.{Line, names}
+use Rattle.node_reader.specs.Directories.{HeldDirectories}
 use Rattle.node_table.specs.declared.building.First.{First}
 use Rattle.node_table.specs.Building.{line_in, count_directories, HasNumberAndSize, AreFollowing, AddsRows, AddsLinked, AddsNothing, AddsByKind}
-use Rattle.whiteout_tree.proofs.NoDirectory.{not_directory}
+use Rattle.layer_paths.proofs.NoDirectory.{not_directory}
 use Rattle.node_table.proofs.Lists.{take_one_more}
 
 -- how far the rows of children have come

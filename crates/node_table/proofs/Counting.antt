@@ -12,13 +12,13 @@ use Rattle.std.proofs.lemmas.List.Elements.{All-push}
 use Rattle.std.proofs.lemmas.List.Recursion.{is_count_by}
 use Rattle.std.proofs.lemmas.List.Sums.{fold-append, sum_by-append}
 use Rattle.std.proofs.lemmas.Option.{slice_get_within, slice_get_read, get_or_from_slice_get}
-use Rattle.duplicate_keys.proofs.Keyed.{below_or_at}
+use Rattle.romfs_sets.proofs.Keyed.{below_or_at}
 use Rattle.stack_model.specs.Listing.{Entry as Listed, IsAmong}
 use Rattle.stack_model.specs.Numbers.{Place as ModelPlace, place, same_place, noted, nodes, number_of, node_of}
 use Rattle.stack_model.proofs.Numbering.{number_used, number_listed, entries_numbered}
-use Rattle.whiteout_tree.specs.declared.place.Place.{Place}
-use Rattle.whiteout_tree.specs.declared.place.Entry.{Entry}
-use Rattle.table_reader.specs.Readers.{placed}
+use Rattle.layer_paths.specs.declared.entries.Place.{Place}
+use Rattle.layer_paths.specs.declared.entries.Entry.{Entry}
+use Rattle.node_reader.specs.Readers.{placed}
 use Rattle.node_table.specs.Walks.{Visit}
 use Rattle.node_table.specs.Firsts.{IsFirstOf, AreFirsts, AreThemselves}
 use Rattle.node_table.specs.Numbering.{place_key, key_of, one_more, visit_place, bare, seen, paths_of, IsFirstVisit, AreKeys, IsNumbered, AreNumbered, Numbering, numbers_apart, numbering_of}

@@ -12,17 +12,17 @@ use Rattle.stack_model.specs.Stack.{Path}
 use Rattle.stack_model.specs.Listing.{Entry as Listed}
 use Rattle.stack_model.specs.Numbers.{Place as ModelPlace, Child, place, same_place, number, parent, children}
 use Rattle.stack_model.specs.Attributes.{is_directory, is_directory_at, data_of}
-use Rattle.name_tree.specs.Rows.{Subtree, Rows, prefixed, spread, whole, NamesRise, IsForest, length_prefixed}
-use Rattle.whiteout_tree.specs.declared.place.Entry.{Entry}
-use Rattle.whiteout_tree.specs.Trees.{TreeRows, IsTreeOf, listed}
-use Rattle.whiteout_tree.proofs.Listed.{is_listing}
+use Rattle.layer_paths.specs.Rows.{Subtree, Rows, prefixed, spread, whole, NamesRise, IsForest, length_prefixed}
+use Rattle.layer_paths.specs.declared.entries.Entry.{Entry}
+use Rattle.layer_paths.specs.Trees.{TreeRows, IsTreeOf, listed}
+use Rattle.layer_paths.proofs.Listed.{is_listing}
 use Rattle.stack_model.specs.Listing.{Stacked, stacked}
-use Rattle.table_reader.specs.Readers.{placed}
+use Rattle.node_reader.specs.Readers.{placed}
 use Rattle.node_table.specs.Walks.{Visit, Walk, no_walk, under, IsLocated, visit_size, StandsAt, IsBelow, AreWalked, AddsWalk}
 use Rattle.node_table.specs.Numbering.{visit_place, bare, seen, paths_of, number_among, IsFirstVisit, IsNumbered}
 use Rattle.node_table.specs.Building.{line_in, HasNumberAndSize, AreFollowing, number_above, StandAtStarts}
 use Rattle.node_table.specs.Agreement.{shown_line, AgreeBelow, AgreesAtPlace, AgreeWithSomeListing}
-use Rattle.name_tree.proofs.Lists.{all_get}
+use Rattle.layer_paths.proofs.Lists.{all_get}
 use Rattle.node_table.proofs.Lists.{element_below, index_map}
 use Rattle.node_table.proofs.Paths.{spread_append, under_append, child_located}
 use Rattle.node_table.proofs.Sizes.{same_value, same_size, ends_within}

@@ -6,17 +6,17 @@ use Rattle.std.specs.Prelude.{slice_range}
 use Rattle.std.proofs.lemmas.List.{drop-append-le, drop_at, length-drop, length-map, take-append-le, take_all}
 use Rattle.stack_model.specs.Numbers.{Place as ModelPlace, number, parent}
 use Rattle.stack_model.specs.Attributes.{is_directory_at}
-use Rattle.whiteout_tree.specs.declared.place.Place.{Place}
-use Rattle.whiteout_tree.specs.declared.place.Entry.{Entry}
-use Rattle.name_tree.specs.Rows.{Subtree}
-use Rattle.name_lookup.specs.Keys.{key}
-use Rattle.name_lookup.specs.Keyed.{AreKeyed}
-use Rattle.table_reader.specs.declared.node.Node.{Node}
-use Rattle.table_reader.specs.declared.directory.Directory.{Directory}
+use Rattle.layer_paths.specs.declared.entries.Place.{Place}
+use Rattle.layer_paths.specs.declared.entries.Entry.{Entry}
+use Rattle.layer_paths.specs.Rows.{Subtree}
+use Rattle.layer_names.specs.Keys.{key}
+use Rattle.layer_names.specs.Keyed.{AreKeyed}
+use Rattle.node_reader.specs.declared.node.Node.{Node}
+use Rattle.node_reader.specs.declared.directory.Directory.{Directory}
 use Rattle.stack_model.specs.Listing.{Stacked}
-use Rattle.table_reader.specs.Rows.{Line, names}
-use Rattle.table_reader.specs.Directories.{HeldDirectories}
-use Rattle.table_reader.specs.Held.{IsHeldDirectory, IsNode}
+use Rattle.node_reader.specs.Rows.{Line, names}
+use Rattle.node_reader.specs.Directories.{HeldDirectories}
+use Rattle.node_reader.specs.Held.{IsHeldDirectory, IsNode}
 use Rattle.node_table.specs.Building.{line_in, IsMade}
 use Rattle.node_table.specs.Agreement.{AgreeBelow}
 use Rattle.node_table.proofs.Lists.{get_front}

@@ -13,13 +13,13 @@ use Rattle.std.specs.declared.cmp.Ordering.TheVariants.{Less}
 use Rattle.stack_model.specs.Stack.{Path}
 use Rattle.stack_model.specs.Listing.{Entry as Listed, IsAmong}
 use Rattle.stack_model.specs.Numbers.{Place as ModelPlace, Child, place, same_place, same_name, same_path, noted, nodes, number_of, path_of, parent, name_below, child_in, children}
-use Rattle.name_tree.specs.Rows.{Subtree, Rows, prefixed, spread, whole, IsForest, IsRising, name_cmp}
-use Rattle.whiteout_tree.specs.declared.place.Entry.{Entry}
-use Rattle.whiteout_tree.specs.Trees.{listed}
-use Rattle.table_reader.specs.Readers.{placed}
+use Rattle.layer_paths.specs.Rows.{Subtree, Rows, prefixed, spread, whole, IsForest, IsRising, name_cmp}
+use Rattle.layer_paths.specs.declared.entries.Entry.{Entry}
+use Rattle.layer_paths.specs.Trees.{listed}
+use Rattle.node_reader.specs.Readers.{placed}
 use Rattle.node_table.specs.Walks.{Visit, under, extends, IsApart, IsLocated, IsBelow}
 use Rattle.node_table.specs.Numbering.{visit_place, bare, seen, IsFirstVisit}
-use Rattle.name_tree.proofs.Lists.{get_of_map}
+use Rattle.layer_paths.proofs.Lists.{get_of_map}
 use Rattle.node_table.proofs.Lists.{get_end, get_map}
 use Rattle.node_table.proofs.Paths.{same_itself as name_itself, under_append}
 use Rattle.node_table.proofs.Counting.{not_among, same_itself as place_itself}

@@ -15,21 +15,21 @@ use Rattle.romfs_reader.specs.Readers.{data_size, data_start_of}
 use Rattle.stack_model.specs.Listing.{Entry as Listed}
 use Rattle.stack_model.specs.Numbers.{Place as ModelPlace, Child, place, same_place, nodes, children}
 use Rattle.stack_model.specs.Attributes.{is_directory, is_directory_at, kind_at, mode_of, mode, size_of, size_at, rdev_of, rdev, nlink, blocks_all}
-use Rattle.whiteout_tree.specs.declared.place.Place.{Place}
-use Rattle.whiteout_tree.specs.declared.place.Entry.{Entry}
-use Rattle.table_reader.specs.declared.node.Node.{Node}
-use Rattle.table_reader.specs.declared.directory.Directory.{Directory}
+use Rattle.layer_paths.specs.declared.entries.Place.{Place}
+use Rattle.layer_paths.specs.declared.entries.Entry.{Entry}
+use Rattle.node_reader.specs.declared.node.Node.{Node}
+use Rattle.node_reader.specs.declared.directory.Directory.{Directory}
 use Rattle.stack_model.specs.Listing.{Stacked, stacked}
-use Rattle.table_reader.specs.Rows.{Line}
-use Rattle.table_reader.specs.Directories.{HeldDirectories}
-use Rattle.table_reader.specs.Readers.{placed}
-use Rattle.table_reader.specs.Held.{HoldsDirectory, IsNode, AreNodes, IsSomeTable}
+use Rattle.node_reader.specs.Rows.{Line}
+use Rattle.node_reader.specs.Directories.{HeldDirectories}
+use Rattle.node_reader.specs.Readers.{placed}
+use Rattle.node_reader.specs.Held.{HoldsDirectory, IsNode, AreNodes, IsSomeTable}
 use Rattle.node_table.specs.declared.building.First.{First}
 use Rattle.node_table.specs.Walks.{Visit, Walk}
 use Rattle.node_table.specs.Numbering.{visit_place, number_among}
 use Rattle.node_table.specs.Building.{line_in, HasChildrenAfter, HasAbove, number_above, StandAtStarts, IsReadFrom, IsReadOf, AddsLinked, AddsNothing, AddsNode, completed}
 use Rattle.node_table.specs.Agreement.{AgreeBelow, AgreesAtPlace, AgreeWithListing, AreMade}
-use Rattle.name_tree.proofs.Lists.{get_of_map}
+use Rattle.layer_paths.proofs.Lists.{get_of_map}
 use Rattle.node_table.proofs.Lists.{element_below, get_end, get_push, get_map}
 use Rattle.node_table.proofs.Keeping.{still_node, level_made, is_made}
 

@@ -7,8 +7,8 @@ use Rattle.std.specs.List.{AllByRecursion}
 use Rattle.std.specs.Option.{option_map}
 use Rattle.std.proofs.lemmas.List.{take_at, length_push, length-map, map-append}
 use Rattle.std.specs.declared.cmp.Ordering.TheVariants.{Less}
-use Rattle.name_tree.specs.Rows.{Subtree, Rows, prefixed, spread, whole, name_cmp, NamesRise}
-use Rattle.name_tree.proofs.Names.{same_or_not, below_differs}
+use Rattle.layer_paths.specs.Rows.{Subtree, Rows, prefixed, spread, whole, name_cmp, NamesRise}
+use Rattle.layer_paths.proofs.Names.{same_or_not, below_differs}
 use Rattle.stack_model.specs.Stack.{Path}
 use Rattle.stack_model.specs.Numbers.{same_name, same_path}
 use Rattle.node_table.specs.Walks.{under, extends, IsApart, IsLocated}

@@ -11,8 +11,8 @@ use Rattle.std.proofs.lemmas.Bool.{cases_lt, cases_order}
 use Rattle.std.proofs.lemmas.Bool.Decides.{nat_tests}
 use Rattle.std.proofs.lemmas.List.{get_or_append_left, get_or_push, get_or_default}
 use Rattle.std.proofs.lemmas.List.Sorted.{All-permutation, Contains-permutation}
-use Rattle.duplicate_keys.specs.Once.{IsOnce}
-use Rattle.duplicate_keys.proofs.Keyed.{below_or_at}
+use Rattle.romfs_sets.specs.Once.{IsOnce}
+use Rattle.romfs_sets.proofs.Keyed.{below_or_at}
 use Rattle.node_table.specs.Firsts.{ArePlacesByKey, AreThemselves, IsFirstOf, AreFirsts}
 
 -- of the first keys, those that may stand at other places too are put with their places

@@ -25,14 +25,14 @@ use Rattle.stack_model.specs.Stack.{Path}
 use Rattle.stack_model.specs.Listing.{IsAmong}
 use Rattle.stack_model.specs.Attributes.{kind_at, size_of, data_of}
 use Rattle.stack_model.proofs.Listings.{led_to}
-use Rattle.name_tree.specs.Rows.{Rows, at_path, PathsRise, name_cmp}
-use Rattle.name_tree.proofs.Paths.{same_path_or_not}
-use Rattle.whiteout_tree.specs.declared.place.Entry.{Entry}
-use Rattle.whiteout_tree.specs.Trees.{TreeRows, IsTreeOf, IsReadIn, listed, listing}
+use Rattle.layer_paths.specs.Rows.{Rows, at_path, PathsRise, name_cmp}
+use Rattle.layer_paths.proofs.Paths.{same_path_or_not}
+use Rattle.layer_paths.specs.declared.entries.Entry.{Entry}
+use Rattle.layer_paths.specs.Trees.{TreeRows, IsTreeOf, IsReadIn, listed, listing}
 use Rattle.romfs_reader.proofs.Paths.{leads_to}
-use Rattle.whiteout_tree.proofs.Listed.{is_listing, kind_read}
-use Rattle.table_reader.specs.Readers.{placed}
-use Rattle.name_tree.proofs.Lists.{all_get}
+use Rattle.layer_paths.proofs.Listed.{is_listing, kind_read}
+use Rattle.node_reader.specs.Readers.{placed}
+use Rattle.layer_paths.proofs.Lists.{all_get}
 
 -- an entry's place is in an image of the stack, which gives its header, and the entry says what that
 -- header says

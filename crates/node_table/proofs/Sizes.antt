@@ -5,8 +5,8 @@ use Rattle.std.proofs.Common.{◌≡◌, ◌∙◌, sym, ap, ℕ, ◌+◌, ◌�
 use Rattle.std.specs.Prelude.{slice_get}
 use Rattle.std.proofs.lemmas.List.{append-nil}
 use Rattle.stack_model.specs.Stack.{Path}
-use Rattle.name_tree.specs.Rows.{Subtree, Rows, whole}
-use Rattle.whiteout_tree.specs.declared.place.Entry.{Entry}
+use Rattle.layer_paths.specs.Rows.{Subtree, Rows, whole}
+use Rattle.layer_paths.specs.declared.entries.Entry.{Entry}
 use Rattle.node_table.specs.Walks.{under, extends, IsApart, IsLocated}
 use Rattle.node_table.proofs.Counting.{count, count_append}
 use Rattle.node_table.proofs.Paths.{same_itself, length_under}

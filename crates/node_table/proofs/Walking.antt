@@ -6,7 +6,7 @@ use Rattle.std.proofs.Common.{◌≡◌, ◌∙◌, sym, ap, subst, ℕ, zero, s
 use Rattle.std.specs.Prelude.{slice_get, slice_index, slice_set, map}
 use Rattle.std.proofs.lemmas.List.{get_or_append_left, get_or-append-add, length-map, map-append, set_at, take_all}
 use Rattle.std.proofs.lemmas.Option.{slice_get_within}
-use Rattle.name_tree.specs.Rows.{Subtree, Rows, prefixed, spread, NamesRise, IsForest, length_prefixed}
+use Rattle.layer_paths.specs.Rows.{Subtree, Rows, prefixed, spread, NamesRise, IsForest, length_prefixed}
 use Rattle.node_table.specs.Walks.{Visit, visit_size, StandsAt, IsBelow, Walk, AddsWalk}
 use Rattle.node_table.proofs.Lists.{get_front, get_end, get_append, take_one_more}
 use Rattle.node_table.proofs.Paths.{spread_append, child_located}

@@ -4,16 +4,16 @@ use Rattle.romfs_reader.specs.Readers.{data_of_header as data_in}
 use Rattle.stack_model.specs.Listing.{Entry as Listed, IsListing, Stacked, stacked}
 use Rattle.stack_model.specs.Numbers.{Place, Child, nodes, number, parent, children}
 use Rattle.stack_model.specs.Attributes.{kind_at, is_directory_at, nlink, data_of}
-use Rattle.name_tree.specs.Rows.{Subtree, spread, IsForest}
-use Rattle.whiteout_tree.specs.declared.place.Place.{Place as TreePlace}
-use Rattle.whiteout_tree.specs.declared.place.Entry.{Entry}
-use Rattle.table_reader.specs.declared.node.Node.{Node}
-use Rattle.table_reader.specs.Rows.{Line}
-use Rattle.table_reader.specs.Directories.{HeldDirectories}
+use Rattle.layer_paths.specs.Rows.{Subtree, spread, IsForest}
+use Rattle.layer_paths.specs.declared.entries.Place.{Place as TreePlace}
+use Rattle.layer_paths.specs.declared.entries.Entry.{Entry}
+use Rattle.node_reader.specs.declared.node.Node.{Node}
+use Rattle.node_reader.specs.Rows.{Line}
+use Rattle.node_reader.specs.Directories.{HeldDirectories}
 use Rattle.node_table.specs.Walks.{Visit, Walk}
 use Rattle.node_table.specs.Numbering.{visit_place, number_among}
 use Rattle.node_table.specs.Building.{line_in, count_directories, number_above, HasGivenHeader, StandAtStarts, completed}
-use Rattle.table_reader.specs.Held.{AreNodes}
+use Rattle.node_reader.specs.Held.{AreNodes}
 
 -- the row of a shown child
 abbrev pub shown_line : List Listed → Child → Line

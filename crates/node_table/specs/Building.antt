@@ -5,15 +5,15 @@ use Rattle.romfs_format.specs.Fields.{exec, spec}
 use Rattle.romfs_format.specs.Heads.{head_of}
 use Rattle.romfs_reader.specs.Readers.{IsGiven, IsDataPart}
 use Rattle.stack_model.specs.Attributes.{is_directory, mode_of, rdev_of}
-use Rattle.name_tree.specs.Rows.{Subtree, spread, whole, IsForest}
-use Rattle.whiteout_tree.specs.declared.place.Place.{Place}
-use Rattle.whiteout_tree.specs.declared.place.Entry.{Entry}
-use Rattle.whiteout_tree.specs.Trees.{IsReadIn}
-use Rattle.table_reader.specs.declared.node.Node.{Node}
-use Rattle.table_reader.specs.declared.directory.Directory.{Directory}
-use Rattle.name_lookup.specs.Keyed.{AddsKeys}
-use Rattle.table_reader.specs.Rows.{Line, names}
-use Rattle.table_reader.specs.Directories.{HeldDirectories}
+use Rattle.layer_paths.specs.Rows.{Subtree, spread, whole, IsForest}
+use Rattle.layer_paths.specs.declared.entries.Place.{Place}
+use Rattle.layer_paths.specs.declared.entries.Entry.{Entry}
+use Rattle.layer_paths.specs.Trees.{IsReadIn}
+use Rattle.node_reader.specs.declared.node.Node.{Node}
+use Rattle.node_reader.specs.declared.directory.Directory.{Directory}
+use Rattle.layer_names.specs.Keyed.{AddsKeys}
+use Rattle.node_reader.specs.Rows.{Line, names}
+use Rattle.node_reader.specs.Directories.{HeldDirectories}
 use Rattle.node_table.specs.declared.building.First.{First}
 use Rattle.node_table.specs.Walks.{Visit, Walk}
 use Rattle.node_table.specs.Numbering.{number_among}

@@ -3,7 +3,7 @@ use Rattle.std.specs.Prelude.{◌≡◌, ◌≢◌, ℕ, ◌<◌, ◌⊎◌, Lis
 use Rattle.std.specs.List.{Contains}
 use Rattle.std.specs.List.Sorted.{IsSorted}
 use Rattle.std.specs.Ordering.{nat_cmp, ordering_then}
-use Rattle.duplicate_keys.specs.Once.{IsOnce}
+use Rattle.romfs_sets.specs.Once.{IsOnce}
 
 -- keys with their places, all but some that occur once, in the order of keys, then of places
 pub record ArePlacesByKey (keys : List ℕ) (by_key : List (ℕ × ℕ)) : Type 0 where

@@ -4,5 +4,5 @@ pub mod Numbering
 pub mod Building
 pub mod Agreement
 pub use Rattle.romfs_reader.specs.Readers
-pub use Rattle.whiteout_tree.specs.Trees
-pub use Rattle.table_reader.specs.Stacked
+pub use Rattle.layer_paths.specs.Trees
+pub use Rattle.node_reader.specs.Stacked

@@ -3,9 +3,9 @@ use Rattle.std.specs.Prelude.{◌≡◌, ℕ, ◌+◌, ◌-◌, ◌*◌, ◌^◌
 use Rattle.std.specs.List.{range_with_len}
 use Rattle.stack_model.specs.Listing.{Entry as Listed}
 use Rattle.stack_model.specs.Numbers.{Place as ModelPlace, place, same_place, nodes, number_of}
-use Rattle.whiteout_tree.specs.declared.place.Place.{Place}
-use Rattle.whiteout_tree.specs.declared.place.Entry.{Entry}
-use Rattle.table_reader.specs.Readers.{placed}
+use Rattle.layer_paths.specs.declared.entries.Place.{Place}
+use Rattle.layer_paths.specs.declared.entries.Entry.{Entry}
+use Rattle.node_reader.specs.Readers.{placed}
 use Rattle.node_table.specs.declared.numbering.Form.{Form}
 use Rattle.node_table.specs.declared.numbering.Form.TheVariants.{Apart, Shared}
 use Rattle.node_table.specs.Walks.{Visit}

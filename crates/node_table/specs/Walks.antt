@@ -5,7 +5,7 @@ use Rattle.std.specs.List.{AllByRecursion}
 use Rattle.std.specs.Option.{option_map}
 use Rattle.stack_model.specs.Stack.{Path}
 use Rattle.stack_model.specs.Numbers.{same_name, same_path}
-use Rattle.name_tree.specs.Rows.{Subtree, Rows, whole}
+use Rattle.layer_paths.specs.Rows.{Subtree, Rows, whole}
 use Rattle.node_table.specs.declared.walk.Walked.{Walked}
 
 -- a branch, as it is lent

@@ -9,12 +9,11 @@ ghost use Rattle.node_table.specs.Agreement.{StandAndAgree, AreMade};
 
 use crate::numbering::Numbered;
 use crate::walk::Walked;
-use name_lookup::add_keys;
-use name_tree::Branch;
+use layer_names::add_keys;
+use layer_paths::{Branch, Child, Entry};
+use node_reader::{Directories, Directory, Node, Row};
 use romfs_reader::{ImageView, Kind};
 use std::alloc::{AllocError, Allocator};
-use table_reader::{Directories, Directory, Node, Row};
-use whiteout_tree::{Child, Entry};
 
 /// What a table is made from besides its images.
 #[derive(Drop)]

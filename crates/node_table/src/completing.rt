@@ -7,10 +7,10 @@ ghost use Rattle.romfs_reader.specs.Images.{IsImage};
 ghost use Rattle.stack_model.specs.Attributes.{blocks_all, mode_of, rdev_of};
 ghost use Rattle.node_table.specs.Building.{completed};
 
+use node_reader::Node;
 use rayon::prelude::*;
 use romfs_reader::{ImageView, Kind};
 use std::thread::Threads;
-use table_reader::Node;
 
 /// Fewer nodes than this are completed by the caller alone, since a thread costs more.
 const MANY: usize = 0x2_0000;

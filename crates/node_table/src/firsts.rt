@@ -5,7 +5,7 @@
 ghost use Rattle.std.specs.Prelude.{IfOk};
 ghost use Rattle.node_table.specs.Firsts.{ArePlacesByKey, AreFirsts, AreThemselves};
 
-use duplicate_keys::seen_once;
+use romfs_sets::seen_once;
 use std::alloc::{AllocError, Allocator};
 
 // For each place of a list the first place with the same key. It takes n log n steps.

@@ -4,8 +4,8 @@ ghost use Rattle.std.specs.Prelude.{◌≡◌, ◌≤◌, length, IfOk};
 ghost use Rattle.std.specs.List.{AllByRecursion};
 ghost use Rattle.stack_model.specs.declared.limits.TheConstants.{MAX_LAYERS};
 ghost use Rattle.romfs_reader.specs.Images.{IsImage, all_whole, bytes_of};
-ghost use Rattle.whiteout_tree.specs.Trees.{IsTreeOf};
-ghost use Rattle.table_reader.specs.Stacked.{IsTableOf, IsTableWith};
+ghost use Rattle.layer_paths.specs.Trees.{IsTreeOf};
+ghost use Rattle.node_reader.specs.Stacked.{IsTableOf, IsTableWith};
 ghost use Rattle.stack_model.specs.Attributes.{blocks_all};
 ghost use Rattle.node_table.specs.Agreement.{AreMade};
 
@@ -13,11 +13,11 @@ use crate::building::{TableParts, make};
 use crate::completing::{blocks_of, complete_all};
 use crate::numbering::number_places;
 use crate::walk::{Walked, count_branches, walk};
+use layer_paths::Tree;
+use node_reader::{Attributes, Table};
 use romfs_reader::{Image, ImageView, views_of};
 use std::alloc::{AllocError, Allocator};
 use std::thread::Threads;
-use table_reader::{Attributes, Table};
-use whiteout_tree::Tree;
 
 /// What is made of the tree of a stack.
 pub trait OfTree: Sized {
@@ -56,7 +56,7 @@ impl<A: Allocator + Copy> OfTree for Table<A> {
     ghost use Rattle.std.specs.Prelude.{◌≤◌, length};
     ghost use Rattle.std.specs.Thread.{IsSync};
     ghost use Rattle.romfs_reader.specs.Images.{bytes_of};
-    ghost use Rattle.whiteout_tree.specs.Trees.{IsTreeOf};
+    ghost use Rattle.layer_paths.specs.Trees.{IsTreeOf};
     ghost use Rattle.stack_model.specs.declared.limits.TheConstants.{MAX_LAYERS};
 
     ghost fits = { λ tree images.

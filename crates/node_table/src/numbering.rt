@@ -8,10 +8,9 @@ ghost use Rattle.node_table.specs.Firsts.{AreFirsts, AreThemselves};
 ghost use Rattle.node_table.specs.Numbering.{place_key, one_more, AreKeys, AreNumbered};
 
 use crate::firsts::firsts_of;
-use name_tree::Branch;
+use layer_paths::{Branch, Entry, Place};
 use std::alloc::{AllocError, Allocator};
 use std::marker::Model;
-use whiteout_tree::{Entry, Place};
 
 /// The places of branches, numbered from 1 in the order of their first branch. A clause sees three
 /// lists: the position of each place's first branch among all branches; how many branches have the

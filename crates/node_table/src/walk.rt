@@ -3,7 +3,7 @@
 ghost use Rattle.std.specs.Prelude.{◌≡◌, ◌≤◌, length, IfOk, OnOk};
 ghost use Rattle.node_table.specs.Walks.{walk_of, no_walk, AddsWalk};
 
-use name_tree::Branch;
+use layer_paths::Branch;
 use std::alloc::{AllocError, Allocator};
 
 /// Branches in the order of their paths.

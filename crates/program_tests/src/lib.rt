@@ -6,7 +6,7 @@
 //! and too few turns (`serving`). They share runs of the program and files of the test's own
 //! (`program`). Real mounts and the cases over a device test what a mount does.
 //!
-//! The devices of `fuse_device` are tested here, too, over readers and writers that misbehave: no
+//! The devices of `serve_device` are tested here, too, over readers and writers that misbehave: no
 //! contract says how often these are called, nor what errors they met. `messages` is a source over
 //! a reader that gives one complete message a read, `replies` a sink over a writer that takes one
 //! complete reply a write.

@@ -7,7 +7,7 @@ use mathlib.Core.Logic.{dite}
 use native.Mathlib.Decide.{dec_le}
 use Rattle.std.proofs.lemmas.List.{length-take, drop-drop, drop-take, drop_all, take_all, take-take, take_min, drop_at}
 use Rattle.std.proofs.lemmas.Option.{slice_get-map, get_or_from_slice_get}
-use Rattle.image_bytes.specs.Sources.{Source, held}
+use Rattle.devices.specs.Sources.{Source, held}
 use Rattle.romfs_format.specs.Fields.{name, data_at}
 use Rattle.fuse_wire.specs.declared.limits.TheConstants.{OUT_HEADER_SIZE}
 use Rattle.fuse_wire.specs.declared.errno.Errno.{Errno}

@@ -10,3 +10,4 @@ pub mod Balances
 pub mod Widths
 pub mod Following
 pub mod HeldData
+pub mod Sums

@@ -10,7 +10,7 @@ use Rattle.romfs_format.specs.declared.head.Kind.{Kind}
 use Rattle.romfs_format.specs.declared.head.Kind.TheVariants.{HardLink, Directory, Regular, SymLink, Block, Character, Socket, Fifo}
 use Rattle.romfs_format.specs.declared.attribute_row.AttributeRow.{AttributeRow}
 use Rattle.romfs_format.specs.Fields.{word, exec, size, spec}
-use Rattle.node_attr.specs.declared.owner.Owner.{Owner}
+use Rattle.stack_model.specs.declared.owner.Owner.{Owner}
 use Rattle.stack_model.specs.Listing.{Entry, Stacked}
 use Rattle.stack_model.specs.Numbers.{Place, nodes, number_of, number}
 use Rattle.stack_model.specs.Attributes.{mode_of, mode_by, owner_by, size_of, device, rdev_of, layer_of, kind_at, row_of, attr_of}

@@ -2,8 +2,8 @@
 use Rattle.std.specs.Prelude.{◌≡◌, ℕ, ◌⊎◌, ◌+◌, ◌<◌, ◌≤◌, List, [], ◌∷◌, ◌++◌, length, map, filter, take, slice_get, slice_index, slice_index_or, ◌^◌, Some, Bool, true, false}
 use Rattle.std.specs.List.{flat_map}
 use Rattle.fuse_wire.specs.declared.errno.Errno.{Errno}
-use Rattle.node_attr.specs.declared.attr.Attr.{Attr}
-use Rattle.node_attr.specs.declared.owner.Owner.{Owner}
+use Rattle.stack_model.specs.declared.attr.Attr.{Attr}
+use Rattle.stack_model.specs.declared.owner.Owner.{Owner}
 use Rattle.romfs_format.specs.declared.attribute_row.AttributeRow.{AttributeRow}
 use Rattle.fuse_wire.specs.Requests.{Op, Asked, at_node, lookup, readdirplus, silent, forget, batch_forget}
 use Rattle.fuse_wire.specs.Structures.{u32, u64, entry_out, negative_entry_out}

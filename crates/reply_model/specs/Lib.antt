@@ -11,3 +11,4 @@ pub mod Examples
 pub mod LastingExamples
 pub mod Laws
 pub mod Lasting
+pub mod Balances

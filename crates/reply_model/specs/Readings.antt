@@ -1,7 +1,7 @@
 -- pread(2): what the data of replies are read from, at the place of a file in its image.
 use Rattle.std.specs.Prelude.{ℕ, ◌+◌, List, [], ◌∷◌, slice_get, Option, None}
 use Rattle.std.specs.Option.{option_map, option_and_then}
-use Rattle.image_bytes.specs.Sources.{Source}
+use Rattle.devices.specs.Sources.{Source}
 use Rattle.fuse_wire.specs.Requests.{NodeOp, Op, Asked, at_node, read}
 use Rattle.fuse_wire.specs.Told.{Reading, IsTold}
 use Rattle.stack_model.specs.Listing.{Stacked}

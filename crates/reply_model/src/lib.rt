@@ -1,15 +1,22 @@
-//! What a FUSE server answers over a stack of layers: definitions, laws and worked examples alone,
-//! with no code but the types of a session and of a move.
+//! What a FUSE server answers over a stack of layers: definitions, laws and worked examples, with
+//! no code but the types of a session and of a move, and the sums of moves.
 //!
-//! `specs/` defines which requests are refused and with which error, the answers to the others, and
-//! the replies to a whole stream, over the visible paths of a stack (`stack_model`) and the
+//! `specs/` says which requests are refused and with which error, what the others are answered, and
+//! what a whole stream is replied, over the shown paths of a stack (`stack_model`) and the
 //! structures of linux/fuse.h (`fuse_wire`).
+//!
+//! Balances tell how many lookups of each node a client holds, node n at the place n - 1:
+//! [`add_move`] adds one move to them, [`add_moves`] several. What many moves come to says
+//! `specs/Balances`, with the bound that keeps each sum within 128 bits: a request moves no more
+//! than 2^64 for each of its bytes.
 #![tactic(auto)]
 
+mod adding;
 pub mod examples;
 pub mod laws;
 pub mod moves;
 pub mod session;
 
+pub use adding::{add_move, add_moves};
 pub use moves::Move;
 pub use session::{Agreement, Session};

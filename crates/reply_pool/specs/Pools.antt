@@ -3,7 +3,7 @@ use Rattle.std.specs.Prelude.{ℕ, List, Result, IfOk}
 use Rattle.std.specs.Fn.{Shared}
 use denote.Ref.{Bor}
 use Rattle.reply_model.specs.declared.session.Session.{Session}
-use Rattle.reply_pieces.specs.Spread.{IsSpreadable}
+use Rattle.reply_rounds.specs.Spread.{IsSpreadable}
 
 -- workers that are called with a stream, a session and how many of its first messages: they take
 -- what may be spread out, and their result is complete and answers the stream

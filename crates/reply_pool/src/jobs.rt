@@ -4,14 +4,14 @@ ghost use Rattle.std.specs.Prelude.{◌≡◌, ◌+◌, ◌≤◌, ◌^◌, ◌+
 ghost use Rattle.serve_loop.specs.declared.limits.TheConstants.{MAX_ROUND_MESSAGES};
 ghost use Rattle.fuse_answer.specs.Puts.{AreSmall, sourced_by};
 ghost use Rattle.fuse_wire.specs.Reads.{asked_of};
-ghost use Rattle.lookup_balances.specs.Balances.{weight};
-ghost use Rattle.reply_pieces.specs.Jobs.{HasFewItems, IsReplyTo, IsRounded, moved_by};
+ghost use Rattle.reply_model.specs.Balances.{weight};
+ghost use Rattle.reply_rounds.specs.Jobs.{HasFewItems, IsReplyTo, IsRounded, moved_by};
 
+use devices::Contents;
 use fuse_answer::{Served, answer, moves};
 use fuse_wire::{Op, Replies, Request};
-use image_bytes::Contents;
 use reply_model::{Move, Session};
-use reply_pieces::{Rounded, sums};
+use reply_rounds::{Rounded, sums};
 use std::alloc::{AllocError, Allocator};
 
 // Answers jobs one after another.

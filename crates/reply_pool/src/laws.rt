@@ -4,20 +4,20 @@ ghost use Rattle.std.specs.Prelude.{◌≡◌, ◌<◌, ◌≤◌, ℕ, List, le
 ghost use Rattle.draw_board.specs.Hands.{total_of};
 ghost use Rattle.fuse_answer.specs.Puts.{sourced_by};
 ghost use Rattle.reply_model.specs.declared.moves.Move.{Move};
-ghost use Rattle.reply_pieces.specs.Batches.{batches};
-ghost use Rattle.reply_pieces.specs.Sums.{AreSums};
-ghost use Rattle.reply_pieces.specs.Workers.{AreWhole, IsLast, WorksAlone};
+ghost use Rattle.reply_rounds.specs.Batches.{batches};
+ghost use Rattle.reply_rounds.specs.Sums.{AreSums};
+ghost use Rattle.reply_rounds.specs.Workers.{AreWhole, IsLast, WorksAlone};
 
+use devices::Contents;
 use draw_board::{Board, Hand};
 use fuse_answer::Served;
 use fuse_wire::Request;
-use image_bytes::Contents;
 use reply_model::Session;
-use reply_pieces::Piece;
+use reply_rounds::Piece;
 use std::alloc::Allocator;
 
 /// Moves have one list of sums.
-#[tactic(auto, using(reply_pieces::proofs::Ordered::one_form))]
+#[tactic(auto, using(reply_rounds::proofs::Ordered::one_form))]
 pub fn sums_are_one()
     ensures { (moves xs ys : List Move) → AreSums moves xs → AreSums moves ys → xs ≡ ys }
 {}

@@ -2,18 +2,17 @@
 
 ghost use Rattle.std.specs.Prelude.{◌≡◌, ◌≤◌, ◌^◌, length, IfOk, IfSome};
 ghost use Rattle.serve_loop.specs.declared.limits.TheConstants.{MAX_ROUND_MESSAGES};
-ghost use Rattle.lookup_balances.specs.Balances.{AreWithin};
+ghost use Rattle.reply_model.specs.Balances.{AreWithin};
 ghost use Rattle.serve_loop.specs.Rounds.{output, AppendsAnswer};
-ghost use Rattle.reply_pieces.specs.Answers.{answering_from};
+ghost use Rattle.reply_rounds.specs.Answers.{answering_from};
 ghost use Rattle.fuse_answer.specs.Puts.{sourced_by};
 ghost use Rattle.reply_pool.specs.Pools.{SpreadsRounds};
 
+use devices::Contents;
 use fuse_answer::{Served, after, answer_and_move};
 use fuse_wire::{Replies, Request};
-use image_bytes::Contents;
 use reply_model::Session;
-use reply_pieces::Gathered;
-use round_plan::{LookupsAhead, Plan, pass_batch, worth_workers};
+use reply_rounds::{Gathered, LookupsAhead, Plan, pass_batch, worth_workers};
 use serve_loop::{AnswersOne, AnswersRounds, RoundEnd, walk};
 use std::alloc::{AllocError, Allocator};
 use work_gate::Gate;

@@ -1,22 +1,21 @@
 //! A round of a stream, answered by several workers.
 //!
 //! The first messages of the stream are read as jobs, and the workers draw batches of these. The
-//! pieces that they give back, `reply_pieces` appends to the loop's replies.
+//! pieces that they give back, `reply_rounds` appends to the loop's replies.
 
 ghost use Rattle.std.specs.Prelude.{◌<◌, ◌≤◌, ◌^◌, ◌⊎◌, drop, length, IfOk};
 ghost use Rattle.serve_loop.specs.declared.limits.TheConstants.{MAX_ROUND_MESSAGES};
 ghost use Rattle.work_gate.specs.declared.limits.TheConstants.{MAX_BATCH};
 ghost use Rattle.fuse_wire.specs.Stream.{IsRest};
 ghost use Rattle.fuse_answer.specs.Puts.{sourced_by};
-ghost use Rattle.reply_pieces.specs.Spread.{AreFirstJobs, SpreadsFrom};
+ghost use Rattle.reply_rounds.specs.Spread.{AreFirstJobs, SpreadsFrom};
 
 use crate::workers::answer_batches;
+use devices::Contents;
 use fuse_answer::{Served, after};
 use fuse_wire::{Framed, Request, frame};
-use image_bytes::Contents;
 use reply_model::Session;
-use reply_pieces::RoundPieces;
-use round_plan::Plan;
+use reply_rounds::{Plan, RoundPieces};
 use serve_loop::RoundEnd;
 use std::alloc::{AllocError, Allocator};
 use std::thread::Threads;

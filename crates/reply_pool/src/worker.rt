@@ -5,16 +5,16 @@ ghost use Rattle.serve_loop.specs.declared.limits.TheConstants.{MAX_ROUND_MESSAG
 ghost use Rattle.work_gate.specs.declared.limits.TheConstants.{MAX_BATCH};
 ghost use Rattle.draw_board.specs.Hands.{IsHandOf, total_of};
 ghost use Rattle.fuse_answer.specs.Puts.{sourced_by};
-ghost use Rattle.reply_pieces.specs.Batches.{AreLight, batches};
-ghost use Rattle.reply_pieces.specs.Workers.{HasWorked, KeepsHand};
+ghost use Rattle.reply_rounds.specs.Batches.{AreLight, batches};
+ghost use Rattle.reply_rounds.specs.Workers.{HasWorked, KeepsHand};
 
 use crate::jobs::answer_jobs;
+use devices::Contents;
 use draw_board::{Board, Hand};
 use fuse_answer::Served;
 use fuse_wire::Request;
-use image_bytes::Contents;
 use reply_model::Session;
-use reply_pieces::{Piece, Rounded, batch};
+use reply_rounds::{Piece, Rounded, batch};
 use std::alloc::{AllocError, Allocator};
 use std::thread::Threads;
 use work_gate::{Gate, Work};

@@ -1,10 +1,10 @@
 //! Rounds of jobs, answered by several workers.
 //!
 //! ```text
-//! jobs     -> batches        reply_pieces
+//! jobs     -> batches        reply_rounds
 //! batches  -> pieces         worker:  draw a number, answer its batch (jobs), until none is left
 //!                            workers: a hand for each of the threads, rejoined after them
-//! pieces   -> a loop's replies (RoundPieces), or one Rounded (`round`): reply_pieces
+//! pieces   -> a loop's replies (RoundPieces), or one Rounded (`round`): reply_rounds
 //! ```
 
 ghost use Rattle.std.specs.Prelude.{◌≡◌, ◌≤◌, length, IfOk};
@@ -14,19 +14,18 @@ ghost use Rattle.serve_loop.specs.declared.limits.TheConstants.{MAX_ROUND_MESSAG
 ghost use Rattle.work_gate.specs.declared.limits.TheConstants.{MAX_BATCH};
 ghost use Rattle.draw_board.specs.Hands.{KeepsShare};
 ghost use Rattle.fuse_answer.specs.Puts.{sourced_by};
-ghost use Rattle.reply_pieces.specs.Batches.{AreLight};
-ghost use Rattle.reply_pieces.specs.Jobs.{IsRounded};
-ghost use Rattle.reply_pieces.specs.Spread.{AnswerAll};
-ghost use Rattle.reply_pieces.specs.Workers.{AreBoth, CanDraw, HasAll};
+ghost use Rattle.reply_rounds.specs.Batches.{AreLight};
+ghost use Rattle.reply_rounds.specs.Jobs.{IsRounded};
+ghost use Rattle.reply_rounds.specs.Spread.{AnswerAll};
+ghost use Rattle.reply_rounds.specs.Workers.{AreBoth, CanDraw, HasAll};
 
 use crate::worker::work;
+use devices::Contents;
 use draw_board::{Board, Hand};
 use fuse_answer::Served;
 use fuse_wire::Request;
-use image_bytes::Contents;
 use reply_model::Session;
-use reply_pieces::{Piece, Rounded, count_batches, in_order};
-use round_plan::Plan;
+use reply_rounds::{Piece, Plan, Rounded, count_batches, in_order};
 use std::alloc::{AllocError, Allocator};
 use std::thread::{Threads, join};
 use work_gate::Gate;

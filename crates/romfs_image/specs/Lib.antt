@@ -1,5 +1,6 @@
-pub mod Texts
-pub use Rattle.romfs_check.specs.Checks
-pub use Rattle.romfs_check.specs.Refusals
+pub mod SampleTexts
 pub use Rattle.romfs_format.specs.Rules
 pub use Rattle.romfs_reader.specs.Images
+pub mod Checks
+pub mod Refusals
+pub mod Texts

@@ -1,10 +1,10 @@
--- Why images are not built, as printed.
+-- Refusals as printed.
 use Rattle.std.specs.Prelude.{ℕ, List, codes}
-use Rattle.romfs_image.specs.declared.sample.BuildFault.{BuildFault}
-use Rattle.romfs_image.specs.declared.sample.BuildFault.TheVariants as build
+use Rattle.romfs_format.specs.Texts.{text_of}
+use Rattle.romfs_image.specs.declared.refusal.CheckFault.{CheckFault}
+use Rattle.romfs_image.specs.declared.refusal.CheckFault.TheVariants.{Broken, Memory}
 
--- why an image cannot be built
-abbrev pub build_text : BuildFault → List ℕ
-build_text build.Listing = codes "bad listing"
-build_text build.Size = codes "image too large"
-build_text build.Memory = codes "out of memory"
+-- why an image is refused
+abbrev pub refusal_text : CheckFault → List ℕ
+refusal_text (Broken fault) = text_of fault.rule
+refusal_text Memory = codes "out of memory"

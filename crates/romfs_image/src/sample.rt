@@ -59,7 +59,7 @@ pub enum BuildFault {
 
 impl fmt::Display for BuildFault {
     ghost use Rattle.std.specs.Prelude.{Some};
-    ghost use Rattle.romfs_image.specs.Texts.{build_text};
+    ghost use Rattle.romfs_image.specs.SampleTexts.{build_text};
 
     ghost output = { λ fault. Some (build_text fault) };
 

@@ -5,7 +5,7 @@ use Rattle.std.specs.Prelude.{unwrap_or}
 use Rattle.std.specs.Option.{option_map_or}
 use Rattle.romfs_format.specs.Fields.{name, is_dot_name}
 use Rattle.romfs_format.specs.Heads.{name_of}
-use Rattle.held_image.proofs.NameBytes.{text_bytes}
+use Rattle.romfs_held.proofs.NameBytes.{text_bytes}
 
 some_text : (o : Option (List ℕ)) → length (unwrap_or o []) ≢ 0 → IsSome o
 some_text None n = absurd (n refl)

@@ -17,7 +17,7 @@ use Rattle.romfs_reader.specs.Readers.{bytes_at, data_of_header, data_of_kind, d
 use Rattle.romfs_reader.specs.Walks.{places, chain_from, members_from, IsWalk, EndsWithin}
 use Rattle.romfs_reader.proofs.Keeps.{root_directory, not_data_outside, good}
 use Rattle.romfs_reader.proofs.Given.{From, from_inside, from_named, from_aligned, from_opened, used}
-use Rattle.held_image.proofs.NameBytes.{name_taken, name_within}
+use Rattle.romfs_held.proofs.NameBytes.{name_taken, name_within}
 use Rattle.romfs_reader.proofs.Chain.{IsStart, ends, listed}
 use Rattle.romfs_reader.proofs.Listing.{are_members, are_given}
 

@@ -13,10 +13,10 @@ ghost use Rattle.romfs_reader.specs.Images.{IsImage};
 ghost use Rattle.romfs_reader.specs.Readers.{IsGiven};
 ghost use Rattle.romfs_reader.specs.Ends.{AreEnds};
 
-use held_image::Held;
-use held_image::read::head_at;
 use romfs_format::head::{Head, Kind};
 use romfs_format::read::cleared;
+use romfs_held::Held;
+use romfs_held::read::head_at;
 use std::alloc::{AllocError, Allocator};
 use std::collections::BTreeMap;
 use std::marker::Model;

@@ -6,7 +6,7 @@ ghost use Rattle.romfs_format.specs.Fields.{image, root as root_of, name, word};
 ghost use Rattle.romfs_format.specs.Links.{IsFinal};
 ghost use Rattle.romfs_format.specs.Rules.{IsSound};
 ghost use Rattle.romfs_format.specs.declared.limits.TheConstants.{HEAD_SIZE};
-ghost use Rattle.held_image.specs.Images.{held_bytes, is_whole};
+ghost use Rattle.romfs_held.specs.Images.{held_bytes, is_whole};
 ghost use Rattle.romfs_reader.specs.Images.{IsImage};
 ghost use Rattle.romfs_format.specs.Heads.{name_of, head_of};
 ghost use Rattle.romfs_reader.specs.Readers.{data_of_header, bytes_at, IsHeadAt, IsGiven, IsPart, AreMembers};
@@ -14,9 +14,9 @@ ghost use Rattle.romfs_reader.specs.Readers.{data_of_header, bytes_at, IsHeadAt,
 use crate::members::Members;
 use crate::parts::{Part, bytes_in, data_in};
 use crate::view::ImageView;
-use held_image::HeldImage;
-use held_image::read::{root_of, word};
 use romfs_format::{Head, Kind};
+use romfs_held::HeldImage;
+use romfs_held::read::{root_of, word};
 use std::alloc::Allocator;
 use std::marker::Model;
 
@@ -37,7 +37,7 @@ pub struct Image<A: Allocator> {
 impl<A: Allocator> Model for Image<A> {
     ghost use Rattle.std.specs.Prelude.{◌≡◌};
     ghost use Rattle.romfs_format.specs.Fields.{root as root_of};
-    ghost use Rattle.held_image.specs.Images.{held_bytes, is_whole};
+    ghost use Rattle.romfs_held.specs.Images.{held_bytes, is_whole};
     ghost use Rattle.romfs_reader.specs.Images.{HeldBytes, IsImage};
 
     ghost Value = { HeldBytes };

@@ -1,4 +1,4 @@
-//! What is read from romfs images that keep all rules. Whether bytes do, `romfs_check` says.
+//! What is read from romfs images that keep all rules. Whether bytes do, `romfs_image` says.
 //!
 //! [`Image`] owns an image: all its bytes, or what is kept of one that stays in its file. It lends
 //! an [`ImageView`], which gives headers, and for these the members of a directory, where hard

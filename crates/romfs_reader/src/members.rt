@@ -10,11 +10,11 @@ ghost use Rattle.romfs_reader.specs.Readers.{passes_over};
 ghost use Rattle.romfs_reader.specs.Walks.{IsWalk, IsNextMember, members_from};
 
 use crate::parts::name_in;
-use held_image::Held;
-use held_image::read::{byte_at, head_at, word};
 use romfs_format::head::Head;
 use romfs_format::limits::HEAD_SIZE;
 use romfs_format::read::{cleared, is_dot_name};
+use romfs_held::Held;
+use romfs_held::read::{byte_at, head_at, word};
 use std::marker::Model;
 
 /// How many bytes a short name takes with its padding.

@@ -8,11 +8,11 @@ ghost use Rattle.romfs_format.specs.Heads.{name_of, head_of, IsHeadIn};
 ghost use Rattle.romfs_reader.specs.Readers.{data_of_header, IsHeadAt, IsGiven, IsPart, IsDataPart, AreMembers, bytes_at};
 
 use crate::members::Members;
-use held_image::Held;
-use held_image::read::{byte_at, head_at, name_of, slice_at, text_at};
 use romfs_format::head::{Head, Kind};
 use romfs_format::limits::HEAD_SIZE;
 use romfs_format::read::{cleared, padded};
+use romfs_held::Held;
+use romfs_held::read::{byte_at, head_at, name_of, slice_at, text_at};
 
 /// A part of an image's bytes: its start, from the image's first byte on, and its length.
 #[derive(Clone, Copy, Debug, PartialEq, Eq)]

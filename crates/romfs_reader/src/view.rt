@@ -13,10 +13,10 @@ use crate::members::Members;
 use crate::parts::{
     Part, byte_in, data_part, end_of, members_of, name_in, named_at, part_of, place_at, said_part,
 };
-use held_image::Held;
-use held_image::read::{copy_some, head_at, head_named, name_of};
-use image_bytes::{Contents, Unread};
+use devices::{Contents, Unread};
 use romfs_format::{Head, Kind};
+use romfs_held::Held;
+use romfs_held::read::{copy_some, head_at, head_named, name_of};
 use std::alloc::{AllocError, Allocator};
 use std::marker::Model;
 
@@ -208,7 +208,7 @@ impl<'a> ImageView<'a> {
 /// What is held of an image is read as it is. No read fails.
 impl<'a> Contents for ImageView<'a> {
     ghost use Rattle.std.specs.Prelude.{Some};
-    ghost use Rattle.image_bytes.specs.Sources.{held};
+    ghost use Rattle.devices.specs.Sources.{held};
 
     ghost contents = { λ lent. Some lent };
 

@@ -9,14 +9,14 @@ use Rattle.std.proofs.lemmas.List.{length-set, length-replicate}
 use Rattle.std.proofs.lemmas.Bool.{cases_eq}
 use Rattle.romfs_format.specs.Fields.{root, IsInside, cleared}
 use Rattle.romfs_format.specs.Chains.{IsFirst, IsNext, IsAt, IsInChain, IsOpened, at_root, below}
-use Rattle.slot_sets.specs.Sets.{IsClear}
-use Rattle.slot_sets.proofs.Unions.{over_to}
+use Rattle.romfs_sets.specs.Sets.{IsClear}
+use Rattle.romfs_sets.proofs.Unions.{over_to}
 use Rattle.romfs_rules.specs.Marks.{IsMarked, AreMarks, IsInRootChain, IsElsewhere, Opens}
 use Rattle.romfs_rules.specs.Leads.{IsTheOne, IsFirstBelow, LeadsOn, on, down, IsStart, AreStarts, Adds}
 use Rattle.romfs_rules.proofs.Lists.{none_in, one_in, has_one}
 use Rattle.romfs_rules.proofs.Slots.{cleared_at, cleared_in_chain, one_more}
 use Rattle.romfs_rules.proofs.Standing.{opened_in}
-use Rattle.successor_graph.proofs.Marks.{no_marks, newly_set, still_set, unmarked, marks_fall}
+use Rattle.romfs_sets.proofs.Marks.{no_marks, newly_set, still_set, unmarked, marks_fall}
 
 -- g has been marked, lies outside, or is still to come
 abbrev pub IsSettled : List ℕ → List ℕ → List Bool → ℕ → Type 0

@@ -12,10 +12,10 @@ use Rattle.romfs_rules.specs.Marks.{IsVolumeImage, IsMarked, AreMarks}
 use Rattle.romfs_rules.specs.Leads.{IsTheOne}
 use Rattle.romfs_rules.specs.Twice.{IsSlotOf, Counts, CountsBoth}
 use Rattle.romfs_rules.specs.Leads.{IsInSomeChain}
-use Rattle.slot_sets.proofs.Unions.{over_to}
+use Rattle.romfs_sets.proofs.Unions.{over_to}
 use Rattle.romfs_rules.proofs.Slots.{IsGap, twice_cleared, cleared_root, cleared_in_chain, inside_opened, cleared_opened}
 use Rattle.romfs_rules.proofs.Standing.{opened, in_some_chain}
-use Rattle.successor_graph.proofs.Marks.{no_marks, newly_set, still_set, was_set}
+use Rattle.romfs_sets.proofs.Marks.{no_marks, newly_set, still_set, was_set}
 
 -- what one link counts for
 module _ (a : List ℕ) (to : Option ℕ) (once twice : List Bool) where

@@ -21,7 +21,7 @@ use Rattle.romfs_rules.specs.Depth.{NotesDeep, waiting, LeadsDown, on, down}
 use Rattle.romfs_rules.proofs.Lists.{none_in, one_in, has_one}
 use Rattle.romfs_rules.proofs.Slots.{cleared_in_chain}
 use Rattle.romfs_rules.proofs.Standing.{opened}
-use Rattle.successor_graph.proofs.Marks.{unmarked, marks_fall, few_marks, newly_set, still_set, was_set}
+use Rattle.romfs_sets.proofs.Marks.{unmarked, marks_fall, few_marks, newly_set, still_set, was_set}
 use Rattle.romfs_rules.proofs.OnePath.{IsBelow, StandsBelow, no_root, one_standing, inside_member, deep_at, stands_member, is_deep, too_deep}
 
 -- the header h as it waits, with n names that lead to its directory

@@ -10,10 +10,10 @@ use Rattle.romfs_format.specs.Links.{IsHardLink, destination, IsDestination, her
 use Rattle.romfs_rules.specs.Marks.{IsMarked, AreMarks}
 use Rattle.romfs_rules.specs.Targets.{IsFollowed, IsClosed, FollowsLink}
 use Rattle.romfs_rules.specs.Leads.{IsInSomeChain}
-use Rattle.slot_sets.proofs.Unions.{over_to}
+use Rattle.romfs_sets.proofs.Unions.{over_to}
 use Rattle.romfs_rules.proofs.Slots.{IsGap, twice_cleared, cleared_in_chain}
 use Rattle.romfs_rules.proofs.Standing.{member_in_chain}
-use Rattle.successor_graph.proofs.Marks.{unmarked, no_marks, marks_fall, newly_set, still_set, was_set}
+use Rattle.romfs_sets.proofs.Marks.{unmarked, no_marks, marks_fall, newly_set, still_set, was_set}
 
 -- where a hard link on a destination chain leads is on that chain too
 pub goes_on : (a : List ℕ) {h g : ℕ} → IsDestination a h g → IsHardLink a g → IsDestination a h (destination a g)

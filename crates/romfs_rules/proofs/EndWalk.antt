@@ -13,8 +13,8 @@ use Rattle.romfs_format.specs.Links.{IsHardLink, IsTarget, IsFinal, here, stays,
 use Rattle.romfs_format.specs.Chains.{IsSomeMember}
 use Rattle.romfs_rules.specs.Marks.{AreMarks}
 use Rattle.romfs_rules.proofs.Destined.{goes_on}
-use Rattle.slot_sets.specs.Words.{Words}
-use Rattle.slot_sets.proofs.Unions.{over_to}
+use Rattle.romfs_sets.specs.Words.{Words}
+use Rattle.romfs_sets.proofs.Unions.{over_to}
 use Rattle.romfs_rules.proofs.Slots.{IsGap, twice_cleared, cleared_destination}
 use Rattle.romfs_rules.specs.Ends.{HasEnds, AreWalkedEnds, KnowsEnd, Passes, IsUnpassedTarget}
 

@@ -6,13 +6,13 @@ use Rattle.std.proofs.lemmas.List.{get_or_append_left, get_or_default, length_pu
 use Rattle.std.proofs.lemmas.List.Elements.{Contains-append_left, Contains-append_right, Contains-append_cases}
 use Rattle.std.proofs.lemmas.Bool.{cases_order, cases_lt, false≢true}
 use Rattle.romfs_rules.proofs.Lists.{one_in}
-use Rattle.slot_sets.proofs.Ranks.{rank_below}
-use Rattle.slot_sets.proofs.Listing.{places, last}
-use Rattle.slot_sets.specs.Sets.{rank}
-use Rattle.slot_sets.specs.Listed.{AreCollected}
+use Rattle.romfs_sets.proofs.Ranks.{rank_below}
+use Rattle.romfs_sets.proofs.Listing.{places, last}
+use Rattle.romfs_sets.specs.Sets.{rank}
+use Rattle.romfs_sets.specs.Listed.{AreCollected}
 use Rattle.romfs_rules.specs.Marks.{AreMarks, IsListOf}
-use Rattle.successor_graph.specs.Climb.{AreBelow}
-use Rattle.duplicate_keys.specs.Names.{AreClasses}
+use Rattle.romfs_sets.specs.Climb.{AreBelow}
+use Rattle.romfs_sets.specs.Names.{AreClasses}
 use Rattle.romfs_rules.specs.SameNames.{IsNextNumber, AreNextNumbers, AreChosen}
 
 -- the list has, for each of the first headers, the number of the header after it

@@ -3,9 +3,9 @@
 use Rattle.std.proofs.Common.{◌≡◌, ◌≢◌, ◌∙◌, sym, ap, ℕ, ◌+◌, ◌<◌, inl, inr, List, [], ◌∷◌, ◌++◌, length, Bool, Option, Some, None, arith, length-append}
 use Rattle.std.specs.Prelude.{slice_index}
 use Rattle.std.proofs.lemmas.List.{get_or_at, get_or_append_left}
-use Rattle.duplicate_keys.specs.Once.{AreSeenOnce}
-use Rattle.duplicate_keys.specs.Names.{name_hash, AreNamesApart}
-use Rattle.duplicate_keys.proofs.Keyed.{below_or_at}
+use Rattle.romfs_sets.specs.Once.{AreSeenOnce}
+use Rattle.romfs_sets.specs.Names.{name_hash, AreNamesApart}
+use Rattle.romfs_sets.proofs.Keyed.{below_or_at}
 use Rattle.romfs_rules.specs.Names.{AreNameHashes, HaveTheirsAlone}
 
 -- existing names that are equal as such are equal

@@ -5,8 +5,8 @@ use Rattle.std.proofs.Common.{◌≡◌, ◌∙◌, sym, ap, subst, ℕ, zero, s
 use Rattle.std.specs.List.{count_by}
 use Rattle.std.proofs.lemmas.List.{length-set, get_or_at, get_or_append_left}
 use Rattle.std.proofs.lemmas.Bool.{true≢false, cases_lt}
-use Rattle.duplicate_keys.proofs.Keyed.{below_or_at}
-use Rattle.duplicate_keys.specs.Names.{name_hash}
+use Rattle.romfs_sets.proofs.Keyed.{below_or_at}
+use Rattle.romfs_sets.specs.Names.{name_hash}
 use Rattle.romfs_format.specs.Fields.{name}
 use Rattle.romfs_format.specs.Chains.{IsFirst, IsNext, IsAt}
 use Rattle.romfs_rules.specs.declared.plain.Folder.{Folder}
@@ -16,7 +16,7 @@ use Rattle.romfs_rules.specs.Names.{kept_name, kept_names, AreNameHashes}
 use Rattle.romfs_rules.specs.Plain.{IsPlainHeader, WalkState, IsPassed, PassesFront, PassesChain, AddsFolder}
 use Rattle.romfs_rules.proofs.NameHashes.{one_hash}
 use Rattle.romfs_rules.proofs.SameNaming.{kept}
-use Rattle.successor_graph.proofs.Marks.{unmarked, marks_fall, newly_set, still_set}
+use Rattle.romfs_sets.proofs.Marks.{unmarked, marks_fall, newly_set, still_set}
 
 -- those without a mark are counted
 pub counted : (marks : List Bool) → count_by not marks ≡ unmarked marks

@@ -14,7 +14,7 @@ use Rattle.romfs_rules.specs.Plain.{IsPlainHeader, folder, WalkState, PassesFold
 use Rattle.romfs_rules.proofs.Lists.{none_in, one_in, has_one}
 use Rattle.romfs_rules.proofs.SameNaming.{one_at}
 use Rattle.romfs_rules.proofs.PlainChain.{counted}
-use Rattle.successor_graph.proofs.Marks.{unmarked}
+use Rattle.romfs_sets.proofs.Marks.{unmarked}
 
 -- a directory is still to come, or was gone along
 abbrev pub IsKnown : List Folder → List Folder → Folder → Type 0

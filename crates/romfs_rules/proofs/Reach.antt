@@ -12,7 +12,7 @@ use Rattle.romfs_rules.specs.Outside.{NamesDestination, NamesBySpec, Names, IsLe
 use Rattle.romfs_rules.specs.declared.outside.Outside.{Outside}
 use Rattle.romfs_rules.proofs.Slots.{cleared_root, cleared_in_chain, inside_opened, cleared_opened, cleared_destination, IsGap}
 use Rattle.romfs_rules.specs.Leads.{IsInSomeChain}
-use Rattle.slot_sets.proofs.Unions.{over_to}
+use Rattle.romfs_sets.proofs.Unions.{over_to}
 use Rattle.romfs_rules.proofs.Standing.{opened, in_some_chain, member_in_chain}
 use Rattle.romfs_rules.proofs.Destined.{goes_on}
 use Rattle.std.proofs.lemmas.Bool.Decides.{nat_tests}

@@ -7,7 +7,7 @@ use Rattle.romfs_format.specs.Fields.{root, IsInside, next, spec, cleared}
 use Rattle.romfs_format.specs.Chains.{IsFirst, IsNext, IsAt}
 use Rattle.romfs_rules.specs.Marks.{IsVolumeImage, IsMarked, AreMarks, IsInRootChain}
 use Rattle.romfs_rules.proofs.Slots.{cleared_at, one_more}
-use Rattle.successor_graph.proofs.Marks.{no_marks, newly_set, still_set}
+use Rattle.romfs_sets.proofs.Marks.{no_marks, newly_set, still_set}
 
 -- g comes next, lies outside or is marked
 abbrev IsDone : List ℕ → List Bool → ℕ → ℕ → Type 0

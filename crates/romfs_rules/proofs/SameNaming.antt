@@ -8,17 +8,17 @@ use Rattle.std.specs.Prelude.{◌==◌, ◌||◌, Contains}
 use Rattle.romfs_format.specs.Fields.{root, IsInside, name, next, is_dot_name}
 use Rattle.romfs_format.specs.Chains.{IsNext, IsAt, IsInChain, IsPassedOver, IsDotted, IsOpened, IsMember}
 use Rattle.romfs_rules.specs.Marks.{IsElsewhere, HasSameName, AreMarks}
-use Rattle.successor_graph.specs.Climb.{After, one, more, AreNoted}
-use Rattle.duplicate_keys.specs.Names.{AreNamesApart}
+use Rattle.romfs_sets.specs.Climb.{After, one, more, AreNoted}
+use Rattle.romfs_sets.specs.Names.{AreNamesApart}
 use Rattle.romfs_rules.specs.Names.{unless_dotted, kept_name, AreClassesOf}
-use Rattle.slot_sets.specs.Listed.{AreCollected}
+use Rattle.romfs_sets.specs.Listed.{AreCollected}
 use Rattle.romfs_rules.specs.SameNames.{IsLinked, AreNumbered, IsNextNumber, AreNextNumbers, AreChosen, HaveSameNames}
 use Rattle.romfs_rules.specs.Leads.{IsInSomeChain}
 use Rattle.romfs_rules.proofs.Standing.{in_some_chain}
 use Rattle.romfs_rules.proofs.Links.{standing}
 use Rattle.romfs_rules.proofs.Slots.{cleared_in_chain}
-use Rattle.slot_sets.specs.Sets.{rank}
-use Rattle.slot_sets.proofs.Ranks.{rank_below}
+use Rattle.romfs_sets.specs.Sets.{rank}
+use Rattle.romfs_sets.proofs.Ranks.{rank_below}
 
 -- g comes after h along next
 pub data Follows (a : List ℕ) : ℕ → ℕ → Type 0 where

@@ -8,8 +8,8 @@ use Rattle.romfs_format.specs.declared.limits.TheConstants.{HEAD_SIZE}
 use Rattle.romfs_format.specs.Fields.{root, text_at, text_end, IsInside, spec, cleared}
 use Rattle.romfs_format.specs.Chains.{IsAt, IsInChain, IsOpened, at_root, below}
 use Rattle.romfs_format.specs.Links.{IsDestination, here, there}
-use Rattle.slot_sets.specs.Sets.{IsClear, IsUnion}
-use Rattle.successor_graph.proofs.Marks.{was_set}
+use Rattle.romfs_sets.specs.Sets.{IsClear, IsUnion}
+use Rattle.romfs_sets.proofs.Marks.{was_set}
 use Rattle.romfs_rules.specs.Marks.{HasSlot, IsVolumeImage, IsMarked, AreMarks}
 
 -- the root's header stands at a multiple of 16

@@ -16,9 +16,9 @@ use Rattle.romfs_format.specs.Rules.{IsVolume, BreaksHeader, Breaks, IsUsed, rul
 use Rattle.romfs_format.proofs.Faults.{one_rule}
 use Rattle.romfs_rules.specs.Marks.{HasSlot, IsVolumeImage, AreMarks, IsElsewhere}
 use Rattle.romfs_rules.specs.Leads.{IsInSomeChain}
-use Rattle.slot_sets.specs.Sets.{IsNextInEither}
+use Rattle.romfs_sets.specs.Sets.{IsNextInEither}
 use Rattle.romfs_rules.specs.Headers.{IsAsked}
-use Rattle.slot_sets.proofs.Unions.{over_to}
+use Rattle.romfs_sets.proofs.Unions.{over_to}
 use Rattle.romfs_rules.proofs.Slots.{IsGap, clear_gap, root_slot, cleared_root, cleared_in_chain, cleared_destination, slot_inside}
 use Rattle.romfs_format.specs.declared.rule.ImageFault.{ImageFault}
 use Rattle.romfs_rules.specs.Outside.{IsLeast, IsBeforeRoot, IsPastEnd}

@@ -4,7 +4,7 @@ use Rattle.romfs_format.specs.declared.head.End.{End}
 use Rattle.romfs_format.specs.declared.head.End.TheVariants.{AtDirectory}
 use Rattle.romfs_format.specs.Links.{IsHardLink, IsTarget, EndsAs}
 use Rattle.romfs_rules.specs.Marks.{AreMarks}
-use Rattle.slot_sets.specs.Words.{Words}
+use Rattle.romfs_sets.specs.Words.{Words}
 
 -- by slot, walks has the number of the walk that passed there, or 0; by walk, from 1, ends has the
 -- end of its chain

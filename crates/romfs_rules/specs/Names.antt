@@ -1,7 +1,7 @@
 -- The names of headers, and classes of their numbers by them.
 use Rattle.std.specs.Prelude.{◌≡◌, ℕ, ◌==◌, ◌<◌, List, length, get_or, slice_index, Option, Some, None, Bool, true, false, if◌then◌else◌}
 use Rattle.romfs_format.specs.Fields.{root, name, is_dot_name}
-use Rattle.duplicate_keys.specs.Names.{name_hash, IsItsAlone, AreClasses, AreNamesApart}
+use Rattle.romfs_sets.specs.Names.{name_hash, IsItsAlone, AreClasses, AreNamesApart}
 
 -- the name, unless it is . or ..
 abbrev pub unless_dotted : Option (List ℕ) → Option (List ℕ)

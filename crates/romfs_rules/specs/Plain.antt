@@ -1,6 +1,6 @@
 -- What a walk down from the root finds in an image that plainly keeps every rule.
 use Rattle.std.specs.Prelude.{◌≡◌, ◌≢◌, ℕ, ◌+◌, ◌/◌, ◌<◌, ◌≤◌, ◌⊎◌, List, length, get_or, Bool, true, false, not, count_by, Some, Contains}
-use Rattle.duplicate_keys.specs.Names.{name_hash}
+use Rattle.romfs_sets.specs.Names.{name_hash}
 use Rattle.romfs_format.specs.declared.head.Kind.TheVariants.{HardLink, Directory}
 use Rattle.romfs_format.specs.declared.limits.TheConstants.{MAX_NAMES}
 use Rattle.romfs_format.specs.declared.rule.Profile.TheVariants.{Usual}

@@ -3,7 +3,7 @@ use Rattle.std.specs.Prelude.{◌≡◌, ℕ, ◌+◌, ◌/◌, ◌<◌, List, l
 use Rattle.romfs_format.specs.Fields.{root, IsInside}
 use Rattle.romfs_format.specs.Chains.{IsNext, Stands}
 use Rattle.romfs_rules.specs.Marks.{HasSameName, IsElsewhere}
-use Rattle.slot_sets.specs.Sets.{rank}
+use Rattle.romfs_sets.specs.Sets.{rank}
 
 -- exactly the headers with the name of a member of their directory at a lower place, rising and
 -- each once

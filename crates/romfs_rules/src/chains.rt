@@ -14,9 +14,9 @@ ghost use Rattle.romfs_rules.specs.InChains.{AreChains};
 use crate::lead::{first_below, next_of};
 use crate::slot::{is_fresh, no_marks};
 use crate::volume::Volume;
-use held_image::read::word;
 use romfs_format::read::cleared;
-use slot_sets::SlotSet;
+use romfs_held::read::word;
+use romfs_sets::SlotSet;
 use std::alloc::{AllocError, Allocator};
 
 /// The headers in chains. Which of them are in the root's and which elsewhere matters only for the

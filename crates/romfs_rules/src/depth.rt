@@ -18,7 +18,7 @@ use crate::slot::{is_fresh, no_marks};
 use crate::volume::Volume;
 use romfs_format::limits::MAX_NAMES;
 use romfs_format::rule::Rule;
-use slot_sets::SlotSet;
+use romfs_sets::SlotSet;
 use std::alloc::{AllocError, Allocator};
 
 /// The least header whose path has more than [`MAX_NAMES`] names, in an image that breaks no other

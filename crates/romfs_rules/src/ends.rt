@@ -17,10 +17,10 @@ ghost use Rattle.romfs_rules.specs.Ends.{HasEnds, AreWalkedEnds, KnowsEnd, Passe
 
 use crate::slot::{is_hard_link, is_inside};
 use crate::volume::Volume;
-use held_image::read::word;
 use romfs_format::head::{End, Kind};
 use romfs_format::read::{cleared, kind_of};
-use slot_sets::{SlotSet, SlotWords};
+use romfs_held::read::word;
+use romfs_sets::{SlotSet, SlotWords};
 use std::alloc::{AllocError, Allocator};
 
 /// The ends of the chains of the hard links that members' hard links lead over.

@@ -20,10 +20,10 @@ use crate::same_names::find_same_names;
 use crate::targets::mark_targets;
 use crate::twice::find_twice;
 use crate::volume::{Volume, image_of, volume_fault};
-use attribute_rows::trailer_fault;
-use held_image::Held;
-use held_image::read::{root_of, word};
 use romfs_format::{ImageFault, Profile};
+use romfs_held::Held;
+use romfs_held::read::{root_of, word};
+use romfs_rows::trailer_fault;
 use std::alloc::{AllocError, Allocator};
 
 /// The fault of some bytes as an image, under a profile; none if they break no rule of it.

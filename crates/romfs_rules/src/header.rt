@@ -15,11 +15,11 @@ ghost use Rattle.romfs_format.specs.Rules.{HasBadSum, BreaksHeader, rule_number}
 ghost use Rattle.romfs_rules.specs.Judge.{KeepsBefore, KeepsHeaderRules, IsFirstRule, IsFirstRuleBelow, IsFirstAt};
 
 use crate::volume::Volume;
-use held_image::read::{sum, text_at, word};
 use romfs_format::head::{End, Kind};
 use romfs_format::limits::{HEAD_SIZE, MAX_MAJOR, MAX_TARGET_SIZE};
 use romfs_format::read::{kind_of, padded};
 use romfs_format::rule::{ImageFault, Profile, Rule};
+use romfs_held::read::{sum, text_at, word};
 use std::marker::Model;
 
 /// A reached header inside an image. A clause sees the image and the header's place.

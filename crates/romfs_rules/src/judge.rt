@@ -20,11 +20,11 @@ use crate::member::is_member_by;
 use crate::outside::Outside;
 use crate::slot::is_hard_link;
 use crate::volume::Volume;
-use held_image::read::text_at;
 use romfs_format::head::End;
 use romfs_format::limits::HEAD_SIZE;
 use romfs_format::rule::{ImageFault, Profile, Rule};
-use slot_sets::{SlotSet, is_listed};
+use romfs_held::read::text_at;
+use romfs_sets::{SlotSet, is_listed};
 use std::alloc::Allocator;
 use std::marker::Model;
 

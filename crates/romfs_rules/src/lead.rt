@@ -8,9 +8,9 @@ ghost use Rattle.romfs_rules.specs.Leads.{IsTheOne, IsFirstBelow};
 
 use crate::member::opens;
 use crate::volume::Volume;
-use held_image::read::word;
 use romfs_format::head::Kind;
 use romfs_format::read::{cleared, kind_of};
+use romfs_held::read::word;
 
 /// The header after a header in its chain.
 #[tactic(auto, using(crate::proofs::Leads::next_none, crate::proofs::Leads::next_some))]

@@ -2,15 +2,15 @@
 //!
 //! [`first_fault`] answers for every list of bytes, whatever a stranger made: directories whose
 //! chains merge, loop or lead anywhere, links to links, names that come twice. It reads a held
-//! image, in full or in part (`held_image`). Most images keep every rule, and one walk down from
+//! image, in full or in part (`romfs_held`). Most images keep every rule, and one walk down from
 //! the root shows it (`plain`, `plain_header`). For all others it collects sets of headers
 //! (`chains`, `same_names`, `twice`, `targets`, `ends`), as a bit for every 16 bytes of the image
-//! or as a rising list (`slot_sets`); then it scans the reached headers once, upward (`judge`), for
+//! or as a rising list (`romfs_sets`); then it scans the reached headers once, upward (`judge`), for
 //! the first rule that each breaks (`header`); then it checks the depth (`depth`), and at last the
-//! attribute trailer (`attribute_rows`). Each walk is a loop, and each visits a header a constant
+//! attribute trailer (`romfs_rows`). Each walk is a loop, and each visits a header a constant
 //! number of times. What [`first_fault`] promises is `IsFaultOf`, of `romfs_format`.
 //!
-//! Images are read by `held_image`, so the result is the same for an image held in full and for
+//! Images are read by `romfs_held`, so the result is the same for an image held in full and for
 //! what is kept of one that stays in its file.
 #![tactic(auto)]
 

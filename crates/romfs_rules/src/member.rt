@@ -11,10 +11,10 @@ ghost use Rattle.romfs_rules.specs.InChains.{AreChains};
 
 use crate::chains::Chains;
 use crate::volume::Volume;
-use held_image::read::{byte_at, text_at, word};
 use romfs_format::head::Kind;
 use romfs_format::limits::HEAD_SIZE;
 use romfs_format::read::{is_dot_name, kind_of};
+use romfs_held::read::{byte_at, text_at, word};
 use std::alloc::Allocator;
 
 /// Whether a header is named `.` or `..`.

@@ -7,15 +7,15 @@
 ghost use Rattle.std.specs.Prelude.{◌≡◌, ◌+◌, ◌<◌, ◌≤◌, ◌^◌, ℕ, IfOk, IsTrue, MatchOption, length, get_or, slice_index};
 ghost use Rattle.std.specs.Option.{option_map};
 ghost use Rattle.romfs_format.specs.declared.limits.TheConstants.{HEAD_SIZE};
-ghost use Rattle.duplicate_keys.specs.Once.{AreSeenOnce};
-ghost use Rattle.duplicate_keys.specs.Names.{HoldTheShared};
+ghost use Rattle.romfs_sets.specs.Once.{AreSeenOnce};
+ghost use Rattle.romfs_sets.specs.Names.{HoldTheShared};
 ghost use Rattle.romfs_rules.specs.Names.{kept_name, kept_names, AreClassesOf, AreNameHashes, HaveNamesApart, HaveTheirsAlone};
 
 use crate::volume::Volume;
-use duplicate_keys::{NumberedName, classes, hash_of, seen_once};
-use held_image::read::text_at;
 use romfs_format::limits::HEAD_SIZE;
 use romfs_format::read::is_dot_name;
+use romfs_held::read::text_at;
+use romfs_sets::{NumberedName, classes, hash_of, seen_once};
 use std::alloc::{AllocError, Allocator};
 
 /// The classes of headers by their names and hashes, each a number of a header, with one more for

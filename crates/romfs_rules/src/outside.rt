@@ -19,10 +19,10 @@ use crate::link::{first_link, next_link};
 use crate::member::is_some_member;
 use crate::slot::{is_hard_link, is_inside};
 use crate::volume::Volume;
-use held_image::read::word;
 use romfs_format::limits::HEAD_SIZE;
 use romfs_format::read::cleared;
-use slot_sets::SlotSet;
+use romfs_held::read::word;
+use romfs_sets::SlotSet;
 use std::alloc::Allocator;
 use std::marker::Model;
 

@@ -18,7 +18,7 @@ use crate::names::{have_hashes_apart, name_classes_by};
 use crate::plain_header::plain_hash;
 use crate::slot::is_inside;
 use crate::volume::Volume;
-use slot_sets::SparseSlots;
+use romfs_sets::SparseSlots;
 use std::alloc::{AllocError, Allocator};
 use std::marker::Model;
 

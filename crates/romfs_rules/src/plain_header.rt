@@ -12,11 +12,11 @@ use crate::header::{has_data, is_bad_name, is_data_outside, is_major_large, is_t
 use crate::plain::Folder;
 use crate::slot::is_inside;
 use crate::volume::Volume;
-use duplicate_keys::hash_of;
-use held_image::read::{text_at, word};
 use romfs_format::head::Kind;
 use romfs_format::limits::{HEAD_SIZE, MAX_NAMES};
 use romfs_format::read::{cleared, is_dot_name, kind_of};
+use romfs_held::read::{text_at, word};
+use romfs_sets::hash_of;
 
 /// The hash of the name of a header in the chain of a directory, if the header breaks no rule by
 /// its own bytes; none if it may break some.

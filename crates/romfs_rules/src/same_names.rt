@@ -2,8 +2,8 @@
 //!
 //! Chains may merge and loop, so a header may be in the chains of many directories, and to compare
 //! the names of each chain on its own would be quadratic. But each header leads on to one, in any
-//! chain. So the headers are numbered, equal names are one class (`duplicate_keys`), and
-//! `successor_graph` notes the numbers with a lower one of their class on their way or before them.
+//! chain. So the headers are numbered, equal names are one class (`romfs_sets`), and
+//! `romfs_sets` notes the numbers with a lower one of their class on their way or before them.
 //! If no two names are equal, there is nothing to climb.
 
 ghost use Rattle.std.specs.Prelude.{◌+◌, ◌/◌, ◌^◌, ◌<◌, ◌≤◌, ℕ, IfOk, length, get_or};
@@ -11,17 +11,16 @@ ghost use Rattle.romfs_rules.specs.Marks.{HasRootElsewhere};
 ghost use Rattle.romfs_rules.specs.InChains.{AreChains};
 ghost use Rattle.romfs_rules.specs.Names.{AreClassesOf};
 ghost use Rattle.romfs_rules.specs.SameNames.{IsLinked, AreNumbered, IsNextNumber, AreNextNumbers, AreChosen, HaveSameNames};
-ghost use Rattle.slot_sets.specs.Listed.{AreCollected};
+ghost use Rattle.romfs_sets.specs.Listed.{AreCollected};
 
 use crate::chains::Chains;
 use crate::names::name_classes_of;
 use crate::slot::is_inside;
 use crate::volume::Volume;
-use held_image::read::word;
 use romfs_format::read::cleared;
-use slot_sets::{SlotNumbers, places_of};
+use romfs_held::read::word;
+use romfs_sets::{SlotNumbers, note_repeats, places_of};
 use std::alloc::{AllocError, Allocator};
-use successor_graph::note_repeats;
 
 /// The members that have the name of another member of their directory at a lower place, in the
 /// order of their places.

@@ -6,11 +6,11 @@ ghost use Rattle.romfs_format.specs.Links.{IsHardLink};
 ghost use Rattle.romfs_rules.specs.Marks.{IsMarked, IsFresh};
 
 use crate::volume::Volume;
-use held_image::read::word;
 use romfs_format::head::Kind;
 use romfs_format::limits::HEAD_SIZE;
 use romfs_format::read::kind_of;
-use slot_sets::SlotSet;
+use romfs_held::read::word;
+use romfs_sets::SlotSet;
 use std::alloc::{AllocError, Allocator};
 
 /// No marks, with room for one at each slot of an image.

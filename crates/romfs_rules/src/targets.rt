@@ -11,9 +11,9 @@ use crate::chains::Chains;
 use crate::member::is_some_member;
 use crate::slot::{is_fresh, is_hard_link, no_marks};
 use crate::volume::Volume;
-use held_image::read::word;
 use romfs_format::read::cleared;
-use slot_sets::SlotSet;
+use romfs_held::read::word;
+use romfs_sets::SlotSet;
 use std::alloc::{AllocError, Allocator};
 
 /// Marks the headers on the destination chains of members that are hard links.

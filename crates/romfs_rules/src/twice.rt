@@ -13,7 +13,7 @@ use crate::chains::Chains;
 use crate::link::{first_link, next_link};
 use crate::slot::{is_inside, no_marks};
 use crate::volume::Volume;
-use slot_sets::{SlotSet, places_of};
+use romfs_sets::{SlotSet, places_of};
 use std::alloc::{AllocError, Allocator};
 
 /// The headers that two links name, rising.

@@ -7,12 +7,12 @@ ghost use Rattle.romfs_format.specs.Rules.{StartsWith, magic};
 ghost use Rattle.romfs_rules.specs.Marks.{IsVolumeImage};
 ghost use Rattle.romfs_rules.specs.Volumes.{IsVolumeFault, HoldsRoot};
 
-use held_image::Held;
-use held_image::read::{starts_with, sum, text_at, word};
 use romfs_format::head::Kind;
 use romfs_format::limits::{HEAD_SIZE, SUMMED_SIZE};
 use romfs_format::read::{kind_of, padded};
 use romfs_format::rule::{ImageFault, Rule};
+use romfs_held::Held;
+use romfs_held::read::{starts_with, sum, text_at, word};
 
 /// An image that keeps the rules of the volume header.
 #[derive(Drop)]

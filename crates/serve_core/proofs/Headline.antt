@@ -15,7 +15,7 @@ use Rattle.reply_model.specs.Streams.{replies}
 use Rattle.reply_model.specs.Readings.{Sourced, in_memory, sourced}
 use Rattle.reply_model.proofs.Following.{as_defined}
 use Rattle.reply_model.proofs.HeldData.{held_layers_told}
-use Rattle.image_bytes.specs.Sources.{held}
+use Rattle.devices.specs.Sources.{held}
 use Rattle.fuse_wire.specs.Requests.{asked}
 use Rattle.serve_loop.specs.Rounds.{IsReply}
 use Rattle.serve_loop.specs.Laws.{HasServed}

@@ -3,7 +3,7 @@ use Rattle.std.proofs.Common.{◌≡◌, ◌∙◌, ap, subst, refl, ℕ, List, 
 use Rattle.std.specs.Io.KnownBytes.{IsAtEnd}
 use Rattle.devices.specs.States.{Devices}
 use Rattle.stack_model.specs.Listing.{Stacked}
-use Rattle.image_bytes.specs.Sources.{Source}
+use Rattle.devices.specs.Sources.{Source}
 use Rattle.reply_model.specs.declared.session.Session.{Session}
 use Rattle.reply_model.specs.Readings.{Sourced, sourced}
 use Rattle.reply_pool.specs.Answers.{answering_from}

@@ -3,8 +3,8 @@ use Rattle.std.specs.Prelude.{◌≡◌, ℕ, ◌⊎◌, List, length, Result, E
 use Rattle.std.specs.Io.KnownBytes.{IsAtEnd}
 use Rattle.devices.specs.States.{Devices}
 use Rattle.romfs_format.specs.declared.rule.Profile.{Profile}
-use Rattle.node_attr.specs.declared.owner.Owner.{Owner}
-use Rattle.node_attr.specs.declared.owner.TheConstants.Owner.{ROOT}
+use Rattle.stack_model.specs.declared.owner.Owner.{Owner}
+use Rattle.stack_model.specs.declared.owner.TheConstants.Owner.{ROOT}
 use Rattle.stack_model.specs.Numbers.{nodes}
 use Rattle.stack_model.specs.Listing.{Stacked}
 use Rattle.stack_prepare.specs.declared.refusal.Refusal.{Refusal}

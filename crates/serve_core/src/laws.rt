@@ -14,7 +14,7 @@ ghost use Rattle.serve_loop.specs.declared.done.Done.{Done};
 ghost use Rattle.serve_loop.specs.Serving.{AreRepliesTo};
 ghost use Rattle.stack_model.specs.Listing.{Stacked};
 ghost use Rattle.reply_model.specs.declared.session.Session.{Session};
-ghost use Rattle.image_bytes.specs.Sources.{held};
+ghost use Rattle.devices.specs.Sources.{held};
 ghost use Rattle.reply_model.specs.Readings.{in_memory, sourced};
 ghost use Rattle.reply_model.specs.Streams.{replies};
 ghost use Rattle.reply_pool.specs.Answers.{answering, answering_from};

@@ -1,7 +1,7 @@
 //! Images, checked and stacked, as serving begins.
 
 ghost use Rattle.std.specs.Prelude.{◌≡◌, true, IfOk, IfErr};
-ghost use Rattle.node_attr.specs.declared.owner.TheConstants.Owner.{ROOT};
+ghost use Rattle.stack_model.specs.declared.owner.TheConstants.Owner.{ROOT};
 ghost use Rattle.stack_prepare.specs.Layers.{contents_of};
 ghost use Rattle.stack_prepare.specs.Preparing.{AreStacked};
 ghost use Rattle.serve_core.specs.Stops.{IsRefusal};

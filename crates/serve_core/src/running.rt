@@ -12,8 +12,7 @@ ghost use Rattle.serve_core.specs.Openings.{RunsUntil};
 
 use crate::stop::Stop;
 use crate::terms::{Counted, Terms, nodes_counted};
-use devices::{Sink, Source};
-use image_bytes::Contents;
+use devices::{Contents, Sink, Source};
 use reply_model::Session;
 use reply_pool::{Pool, RoundPieces, Served, spread_out};
 use serve_loop::{Done, Opening, Until};

@@ -13,7 +13,7 @@ use Rattle.devices.specs.States.{SinkState}
 use Rattle.serve_loop.specs.declared.one_round.RoundEnd.{RoundEnd}
 use Rattle.reply_model.specs.Streams.{moves_by}
 use Rattle.serve_loop.specs.Rounds.{Answering, joined, AreAnswered, IsRound}
-use Rattle.lookup_balances.proofs.Sums.{within_moved, within_less}
+use Rattle.reply_model.proofs.Sums.{within_moved, within_less}
 use Rattle.serve_loop.proofs.Walking.{messages_on, joined_append, both, none_answered, answered_on, first_within}
 use Rattle.serve_loop.specs.declared.stream_fault.StreamFault.{StreamFault}
 use Rattle.serve_loop.specs.declared.stream_fault.StreamFault.TheVariants.{Write, Memory}

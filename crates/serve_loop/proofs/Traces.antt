@@ -14,7 +14,7 @@ use Rattle.devices.specs.declared.counts.Pulls.{Pulls}
 use Rattle.devices.specs.declared.counts.Pushes.{Pushes}
 use Rattle.devices.specs.Counting.{pulled}
 use Rattle.devices.specs.Pushing.{HasFlushed}
-use Rattle.lookup_balances.specs.Balances.{balance_at, IsMoved}
+use Rattle.reply_model.specs.Balances.{balance_at, IsMoved}
 use Rattle.reply_model.specs.declared.moves.Move.{Move}
 use Rattle.serve_loop.specs.Rounds.{Answering}
 use Rattle.serve_loop.specs.Serving.{Trace, all_but, before, flushed_bytes, Begins, AreBalances, IsPrompt}

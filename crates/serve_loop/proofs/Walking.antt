@@ -15,11 +15,11 @@ use Rattle.reply_model.specs.Sessions.{session_after}
 use Rattle.reply_model.specs.Streams.{AreReplies, session_at}
 use Rattle.reply_model.proofs.Following.{one_reply, replies_on}
 use Rattle.serve_loop.specs.declared.one_round.RoundEnd.{RoundEnd}
-use Rattle.lookup_balances.specs.Balances.{IsLight, IsMoved, AreWithin}
+use Rattle.reply_model.specs.Balances.{IsLight, IsMoved, AreWithin}
 use Rattle.reply_model.specs.declared.moves.Move.{Move}
 use Rattle.reply_model.specs.Streams.{moves_by}
 use Rattle.serve_loop.specs.Rounds.{Answering, IsReply, Balances, joined, IsAnswered, AreFirst, AreAnswered, IsRound}
-use Rattle.lookup_balances.proofs.Sums.{none_moved, moved_on, within_moved, within_less, light_on}
+use Rattle.reply_model.proofs.Sums.{none_moved, moved_on, within_moved, within_less, light_on}
 
 -- the moves of two lists of requests are those of the first, and then those of the second in the
 -- session that the first leaves

@@ -8,7 +8,7 @@ use Rattle.reply_model.specs.declared.session.Session.{Session}
 use Rattle.reply_model.specs.Sessions.{session_after}
 use Rattle.reply_model.specs.Streams.{AreReplies, session_at}
 use Rattle.serve_loop.specs.declared.one_round.RoundEnd.{RoundEnd}
-use Rattle.lookup_balances.specs.Balances.{IsLight, IsMoved}
+use Rattle.reply_model.specs.Balances.{IsLight, IsMoved}
 use Rattle.reply_model.specs.declared.moves.Move.{Move}
 use Rattle.reply_model.specs.Streams.{moves_by}
 

@@ -10,7 +10,7 @@ use Rattle.devices.specs.declared.counts.LastPull.TheVariants.{Bytes, End, Failu
 use Rattle.devices.specs.declared.counts.Pulls.{Pulls}
 use Rattle.devices.specs.declared.counts.Pushes.{Pushes}
 use Rattle.devices.specs.States.{Devices}
-use Rattle.lookup_balances.specs.Balances.{balance_at}
+use Rattle.reply_model.specs.Balances.{balance_at}
 use Rattle.reply_model.specs.declared.moves.Move.{Move}
 use Rattle.reply_model.specs.Moves.{balance}
 use Rattle.reply_model.specs.Streams.{moves_by}

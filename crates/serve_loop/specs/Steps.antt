@@ -9,7 +9,7 @@ use Rattle.std.specs.Io.KnownBytes.{Appends}
 use Rattle.devices.specs.declared.counts.Pushes.{Pushes}
 use Rattle.devices.specs.Pushing.{HasFlushed}
 use Rattle.devices.specs.States.{SinkState}
-use Rattle.lookup_balances.specs.Balances.{AreWithin}
+use Rattle.reply_model.specs.Balances.{AreWithin}
 use Rattle.serve_loop.specs.Rounds.{Answering, IsReply, joined, AreAnswered}
 use Rattle.serve_loop.specs.declared.stream_fault.StreamFault.{StreamFault}
 use Rattle.serve_loop.specs.declared.stream_fault.StreamFault.TheVariants.{Write, Memory}

@@ -3,7 +3,7 @@
 ghost use Rattle.std.specs.Prelude.{◌≡◌, ◌^◌, ◌++◌, ℕ, List, IfOk};
 ghost use Rattle.fuse_wire.specs.Stream.{IsMessage};
 ghost use Rattle.reply_model.specs.declared.session.Session.{Session};
-ghost use Rattle.lookup_balances.specs.Balances.{AreWithin};
+ghost use Rattle.reply_model.specs.Balances.{AreWithin};
 ghost use Rattle.serve_loop.specs.Rounds.{Answering, output, AppendsAnswer};
 
 use fuse_wire::Replies;

@@ -2,7 +2,7 @@
 
 ghost use Rattle.std.specs.Prelude.{◌≡◌, ◌≤◌, ◌^◌, ◌++◌, ℕ, List, length, IfOk};
 ghost use Rattle.reply_model.specs.declared.session.Session.{Session};
-ghost use Rattle.lookup_balances.specs.Balances.{AreWithin};
+ghost use Rattle.reply_model.specs.Balances.{AreWithin};
 ghost use Rattle.serve_loop.specs.Rounds.{Answering, output, AppendsRound};
 
 use fuse_wire::Replies;

@@ -1,7 +1,7 @@
 //! Rounds on one thread.
 
 ghost use Rattle.std.specs.Prelude.{◌≡◌, ◌≤◌, ◌^◌, ◌++◌, ℕ, List, length, IfOk};
-ghost use Rattle.lookup_balances.specs.Balances.{AreWithin};
+ghost use Rattle.reply_model.specs.Balances.{AreWithin};
 ghost use Rattle.serve_loop.specs.Rounds.{output, AppendsRound};
 
 use crate::limits::{ENOUGH_REPLIES, MAX_ROUND_MESSAGES};

@@ -5,7 +5,7 @@ use Rattle.std.proofs.Common.{◌≡◌, ◌≢◌, ◌⊎◌, ◌∙◌, sym, a
 use Rattle.std.specs.Prelude.{slice_get}
 use Rattle.std.specs.Option.{option_map}
 use Rattle.std.proofs.lemmas.Option.{slice_get-map}
-use Rattle.image_bytes.specs.Sources.{Source, held}
+use Rattle.devices.specs.Sources.{Source, held}
 use Rattle.romfs_format.specs.Fields.{image}
 use Rattle.fuse_wire.specs.declared.errno.Errno.TheVariants.{EIO}
 use Rattle.fuse_wire.specs.Replies.{error_reply}

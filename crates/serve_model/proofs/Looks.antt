@@ -13,11 +13,11 @@ use Rattle.romfs_format.specs.Links.{IsFinal}
 use Rattle.romfs_format.specs.Rules.{IsSound}
 use Rattle.romfs_format.proofs.Faults.{full_size, profile_sound}
 use Rattle.romfs_format.proofs.Targets.{short_target, named_target}
-use Rattle.kept_image.specs.Footprint.{Agrees, IsClosed, is_same, reach}
-use Rattle.kept_image.specs.Gathered.{IsGatheredOf, IsGatheredWithTrailerOf}
-use Rattle.kept_image.proofs.Likeness.{same_path, same_end, same_target}
-use Rattle.kept_image.proofs.Volumes.{image_a, image_b, agrees}
-use Rattle.kept_image.proofs.WithTrailer.{image_is}
+use Rattle.romfs_kept.specs.Footprint.{Agrees, IsClosed, is_same, reach}
+use Rattle.romfs_kept.specs.Gathered.{IsGatheredOf, IsGatheredWithTrailerOf}
+use Rattle.romfs_kept.proofs.Likeness.{same_path, same_end, same_target}
+use Rattle.romfs_kept.proofs.Volumes.{image_a, image_b, agrees}
+use Rattle.romfs_kept.proofs.WithTrailer.{image_is}
 use Rattle.stack_model.specs.Stack.{Path}
 use Rattle.serve_model.specs.Kept.{WasGatheredFor}
 

@@ -2,7 +2,7 @@
 use Rattle.std.proofs.Common.{◌≡◌, ◌∙◌, ap, ℕ, List, [], Bool, map, Option, Some, None, refl, if◌then◌else◌}
 use Rattle.std.specs.Prelude.{is_some, filter}
 use Rattle.std.specs.Option.{option_map_or}
-use Rattle.node_attr.specs.declared.owner.Owner.{Owner}
+use Rattle.stack_model.specs.declared.owner.Owner.{Owner}
 use Rattle.romfs_format.specs.declared.attribute_row.AttributeRow.{AttributeRow}
 use Rattle.fuse_wire.specs.Requests.{Asked, NodeOp, Op, lookup, getattr, readlink, open_file, read, opendir, readdir, readdirplus, at_node, init, statfs, done, silent, modify, other, malformed}
 use Rattle.stack_model.specs.Listing.{Entry, Stacked}

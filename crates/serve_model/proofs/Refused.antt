@@ -4,8 +4,8 @@ use Rattle.std.specs.Prelude.{All, ⊤}
 use Rattle.romfs_format.specs.declared.rule.Profile.{Profile}
 use Rattle.romfs_format.specs.declared.rule.ImageFault.{ImageFault}
 use Rattle.romfs_format.specs.Rules.{IsSound, IsFaultOf}
-use Rattle.kept_image.proofs.Volumes.{same_fault}
-use Rattle.kept_image.proofs.WithTrailer.{same_fault_with_trailer}
+use Rattle.romfs_kept.proofs.Volumes.{same_fault}
+use Rattle.romfs_kept.proofs.WithTrailer.{same_fault_with_trailer}
 use Rattle.stack_prepare.specs.declared.refusal.Refusal.{Refusal}
 use Rattle.stack_prepare.specs.declared.refusal.Refusal.TheVariants.{Layer, Layers, Memory}
 use Rattle.stack_prepare.specs.Layers.{AreRefused, IsFew, IsLowestBroken}

@@ -5,8 +5,8 @@ use Rattle.std.specs.Prelude.{count_by, nat_le, nat_lt}
 use Rattle.std.specs.List.{AllByRecursion, flat_map}
 use Rattle.std.specs.Option.{option_map_or}
 use Rattle.std.proofs.lemmas.List.Sums.{sum_by-cons}
-use Rattle.node_attr.specs.declared.owner.Owner.{Owner}
-use Rattle.node_attr.specs.declared.attr.Attr.{Attr}
+use Rattle.stack_model.specs.declared.owner.Owner.{Owner}
+use Rattle.stack_model.specs.declared.attr.Attr.{Attr}
 use Rattle.romfs_format.specs.declared.attribute_row.AttributeRow.{AttributeRow}
 use Rattle.fuse_wire.specs.Structures.{dirent, direntplus}
 use Rattle.stack_model.specs.Listing.{Entry, Stacked}

@@ -2,12 +2,12 @@
 -- both stacks look the same, layer by layer (look_all).
 use Rattle.std.proofs.Common.{◌≡◌, ◌∙◌, sym, ap, subst, ℕ, suc, inl, inr, List, [], ◌∷◌, length, map, refl, arith}
 use Rattle.std.specs.Prelude.{All}
-use Rattle.node_attr.specs.declared.owner.Owner.{Owner}
+use Rattle.stack_model.specs.declared.owner.Owner.{Owner}
 use Rattle.romfs_format.specs.declared.rule.Profile.{Profile}
 use Rattle.romfs_format.specs.Fields.{image}
 use Rattle.romfs_format.specs.Rules.{IsSound}
 use Rattle.romfs_format.specs.Trailer.{rows_shown}
-use Rattle.kept_image.proofs.WithTrailer.{same_rows_shown}
+use Rattle.romfs_kept.proofs.WithTrailer.{same_rows_shown}
 use Rattle.stack_model.specs.Listing.{Stacked, IsListing}
 use Rattle.stack_prepare.specs.Layers.{IsFew}
 use Rattle.stack_prepare.specs.Preparing.{AreStacked}

@@ -1,7 +1,7 @@
 -- A stream that is served over what was gathered from images is replied as over the images (replied_alike), and served as over them to its
 -- end (served_over).
 use Rattle.std.proofs.Common.{◌≡◌, ◌∙◌, ap, subst, ℕ, List, [], ◌∷◌, ◌++◌, length, map, refl}
-use Rattle.image_bytes.specs.Sources.{held}
+use Rattle.devices.specs.Sources.{held}
 use Rattle.fuse_wire.specs.Requests.{Asked, asked}
 use Rattle.stack_model.specs.Listing.{Stacked}
 use Rattle.stack_model.specs.Numbers.{nodes}
@@ -13,7 +13,7 @@ use Rattle.reply_model.specs.Moves.{moves}
 use Rattle.reply_model.specs.Readings.{Sourced, sourced}
 use Rattle.reply_model.specs.Streams.{AreReplies, moves_by, replies}
 use Rattle.reply_model.proofs.Following.{as_defined}
-use Rattle.reply_pieces.specs.Answers.{answering, answering_from}
+use Rattle.reply_rounds.specs.Answers.{answering, answering_from}
 use Rattle.serve_loop.specs.declared.done.Done.{Done}
 use Rattle.serve_loop.specs.Rounds.{IsReply}
 use Rattle.serve_loop.specs.Serving.{AreRepliesTo, AreBalances, Trace, moves_of}

@@ -6,9 +6,9 @@ use Rattle.std.specs.Prelude.{slice_get}
 use Rattle.std.specs.Option.{option_map, option_map_or, option_and_then}
 use Rattle.std.proofs.lemmas.List.{take_at}
 use Rattle.std.proofs.lemmas.Option.{slice_get-map, get_or_from_slice_get}
-use Rattle.image_bytes.specs.Sources.{Source, held, MayLack, MayGive}
-use Rattle.image_bytes.proofs.Held.{held_may}
-use Rattle.node_attr.specs.declared.owner.Owner.{Owner}
+use Rattle.devices.specs.Sources.{Source, held, MayLack, MayGive}
+use Rattle.devices.proofs.Held.{held_may}
+use Rattle.stack_model.specs.declared.owner.Owner.{Owner}
 use Rattle.romfs_format.specs.declared.attribute_row.AttributeRow.{AttributeRow}
 use Rattle.romfs_format.specs.Fields.{image, word}
 use Rattle.fuse_wire.specs.declared.limits.TheConstants.{OUT_HEADER_SIZE}

@@ -3,8 +3,8 @@ use Rattle.std.proofs.Common.{◌≡◌, ◌∙◌, ap, ℕ, ◌==◌, List, [],
 use Rattle.std.proofs.lemmas.Bool.Decides.{nat_tests}
 use Rattle.romfs_format.specs.declared.rule.Profile.{Profile}
 use Rattle.romfs_format.specs.Profiles.{reads_attributes}
-use Rattle.kept_image.specs.Footprint.{is_same, reach}
-use Rattle.kept_image.specs.Gathered.{IsGatheredOf}
+use Rattle.romfs_kept.specs.Footprint.{is_same, reach}
+use Rattle.romfs_kept.specs.Gathered.{IsGatheredOf}
 use Rattle.serve_model.specs.Kept.{WereGatheredFor}
 
 same_true : (x y : ℕ) → x ≡ y → IsTrue (x == y)

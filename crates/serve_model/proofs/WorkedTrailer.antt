@@ -5,7 +5,7 @@ use Rattle.romfs_format.specs.declared.rule.Profile.TheVariants.{UsualWithAttrib
 use Rattle.romfs_format.specs.Fields.{word}
 use Rattle.romfs_format.specs.Trailer.{trailer, long_word, rows_shown}
 use Rattle.romfs_format.specs.TrailerExamples.{two_rows, first_row, second_row}
-use Rattle.kept_image.specs.Footprint.{reach}
+use Rattle.romfs_kept.specs.Footprint.{reach}
 
 abbrev front : List ℕ
 front = take (reach two_rows) two_rows

@@ -3,8 +3,8 @@ use Rattle.std.specs.Prelude.{◌≡◌, ◌⊎◌, ℕ, List, [], ◌∷◌, �
 use Rattle.romfs_format.specs.Fields.{image}
 use Rattle.romfs_format.specs.declared.rule.Profile.{Profile}
 use Rattle.romfs_format.specs.Profiles.{reads_attributes}
-use Rattle.kept_image.specs.Gathered.{IsGatheredOf, IsGatheredWithTrailerOf}
-use Rattle.node_attr.specs.declared.owner.Owner.{Owner}
+use Rattle.romfs_kept.specs.Gathered.{IsGatheredOf, IsGatheredWithTrailerOf}
+use Rattle.stack_model.specs.declared.owner.Owner.{Owner}
 use Rattle.stack_model.specs.Listing.{Stacked}
 use Rattle.stack_prepare.specs.Preparing.{AreStacked}
 

@@ -4,8 +4,8 @@ ghost use Rattle.std.specs.Prelude.{◌≢◌, take};
 ghost use Rattle.romfs_format.specs.declared.rule.Profile.TheVariants.{UsualWithAttributes};
 ghost use Rattle.romfs_format.specs.Trailer.{rows_shown};
 ghost use Rattle.romfs_format.specs.TrailerExamples.{two_rows};
-ghost use Rattle.kept_image.specs.Footprint.{reach};
-ghost use Rattle.kept_image.specs.Gathered.{IsGatheredOf};
+ghost use Rattle.romfs_kept.specs.Footprint.{reach};
+ghost use Rattle.romfs_kept.specs.Gathered.{IsGatheredOf};
 
 /// If a profile reads attributes, an image is gathered with its trailer: from the image with two
 /// rows its accessible bytes are gathered without it, and show other rows.

@@ -2,11 +2,11 @@
 //! and is answered as they are.
 
 ghost use Rattle.std.specs.Prelude.{◌≡◌, ◌≢◌, ◌⊎◌, ◌↔◌, ℕ, List, map, length, take, false};
-ghost use Rattle.image_bytes.specs.Sources.{Source, held};
-ghost use Rattle.node_attr.specs.declared.owner.Owner.{Owner};
+ghost use Rattle.devices.specs.Sources.{Source, held};
+ghost use Rattle.stack_model.specs.declared.owner.Owner.{Owner};
 ghost use Rattle.romfs_format.specs.declared.rule.Profile.{Profile};
 ghost use Rattle.romfs_format.specs.Profiles.{reads_attributes};
-ghost use Rattle.kept_image.specs.Footprint.{reach};
+ghost use Rattle.romfs_kept.specs.Footprint.{reach};
 ghost use Rattle.fuse_wire.specs.declared.errno.Errno.TheVariants.{EIO};
 ghost use Rattle.fuse_wire.specs.declared.limits.TheConstants.{OUT_HEADER_SIZE};
 ghost use Rattle.fuse_wire.specs.Replies.{error_reply};
@@ -21,7 +21,7 @@ ghost use Rattle.reply_model.specs.Replies.{reply};
 ghost use Rattle.reply_model.specs.Moves.{moves};
 ghost use Rattle.reply_model.specs.Readings.{sourced, IsReplyOver};
 ghost use Rattle.reply_model.specs.Streams.{replies};
-ghost use Rattle.reply_pieces.specs.Answers.{answering_from};
+ghost use Rattle.reply_rounds.specs.Answers.{answering_from};
 ghost use Rattle.serve_loop.specs.declared.done.Done.{Done};
 ghost use Rattle.serve_loop.specs.Serving.{AreRepliesTo, Trace};
 ghost use Rattle.serve_loop.specs.Laws.{HasServed};

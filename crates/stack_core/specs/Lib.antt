@@ -1,1 +1,1 @@
-pub use Rattle.whiteout_tree.specs.Trees
+pub use Rattle.layer_paths.specs.Trees

@@ -6,7 +6,7 @@ ghost use Rattle.std.specs.Thread.{IsSync};
 ghost use denote.Param.Send.{IsSend, Frees};
 ghost use Rattle.stack_model.specs.declared.limits.TheConstants.{MAX_LAYERS};
 ghost use Rattle.romfs_reader.specs.Images.{bytes_of};
-ghost use Rattle.whiteout_tree.specs.Trees.{IsTreeOf, entry_at};
+ghost use Rattle.layer_paths.specs.Trees.{IsTreeOf, entry_at};
 
 use layer_tree::{Place, Tree, lay, tree_of};
 use romfs_reader::{Image, ImageView, views_of};

@@ -1,9 +1,9 @@
 -- Modes with and without a row: the type stays (`type_stays`), the other bits are the row's.
 use Rattle.std.proofs.Common.{◌≡◌, ◌∙◌, ap, ℕ, ◌/◌, ◌%◌, ◌^◌, Option, None, Some, refl, arith}
 use Rattle.std.specs.Option.{option_map_or}
-use Rattle.node_attr.specs.declared.attr.Attr.{Attr}
-use Rattle.node_attr.specs.declared.owner.Owner.{Owner}
-use Rattle.node_attr.specs.declared.owner.TheConstants.Owner.{ROOT}
+use Rattle.stack_model.specs.declared.attr.Attr.{Attr}
+use Rattle.stack_model.specs.declared.owner.Owner.{Owner}
+use Rattle.stack_model.specs.declared.owner.TheConstants.Owner.{ROOT}
 use Rattle.romfs_format.specs.declared.attribute_row.AttributeRow.{AttributeRow}
 use Rattle.stack_model.specs.Listing.{Stacked, stacked}
 use Rattle.stack_model.specs.Numbers.{Place}

@@ -7,8 +7,8 @@ use Rattle.romfs_format.specs.declared.head.Kind.TheVariants.{HardLink, Director
 use Rattle.romfs_format.specs.declared.attribute_row.AttributeRow.{AttributeRow}
 use Rattle.romfs_format.specs.Fields.{kind, exec, size, spec, name, data_at}
 use Rattle.romfs_format.specs.Trailer.{row_at}
-use Rattle.node_attr.specs.declared.attr.Attr.{Attr}
-use Rattle.node_attr.specs.declared.owner.Owner.{Owner}
+use Rattle.stack_model.specs.declared.attr.Attr.{Attr}
+use Rattle.stack_model.specs.declared.owner.Owner.{Owner}
 use Rattle.stack_model.specs.Listing.{Stacked}
 use Rattle.stack_model.specs.Numbers.{Place, place, same_place, number, children}
 use Rattle.std.specs.Prelude.{length}

@@ -6,7 +6,7 @@ use Rattle.stack_model.specs.Listing.{Entry, Stacked, stacked, path_cmp}
 use Rattle.stack_model.specs.Numbers.{place, path_of, number, parent, children, child}
 use Rattle.romfs_format.specs.declared.head.Kind.TheVariants.{Directory, Regular, SymLink, Block, Character, Socket, Fifo}
 use Rattle.romfs_format.specs.declared.attribute_row.AttributeRow.{AttributeRow}
-use Rattle.node_attr.specs.declared.owner.TheConstants.Owner.{ROOT}
+use Rattle.stack_model.specs.declared.owner.TheConstants.Owner.{ROOT}
 use Rattle.stack_model.specs.Attributes.{mode_of, mode_by, size_of, device, rdev_of, blocks_of, blocks_all, links, data_of, mode_at, attr_of}
 use Rattle.stack_model.specs.declared.limits.TheConstants.{MAX_LAYERS}
 

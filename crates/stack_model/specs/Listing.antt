@@ -6,8 +6,8 @@ use Rattle.std.specs.declared.cmp.Ordering.TheVariants.{Less}
 use Rattle.std.specs.List.{AllByRecursion}
 use Rattle.std.specs.Cmp.Lexicographic.{slice_cmp}
 use Rattle.std.specs.Ordering.{nat_cmp}
-use Rattle.node_attr.specs.declared.owner.Owner.{Owner}
-use Rattle.node_attr.specs.declared.owner.TheConstants.Owner.{ROOT}
+use Rattle.stack_model.specs.declared.owner.Owner.{Owner}
+use Rattle.stack_model.specs.declared.owner.TheConstants.Owner.{ROOT}
 use Rattle.romfs_format.specs.declared.attribute_row.AttributeRow.{AttributeRow}
 use Rattle.romfs_format.specs.Links.{IsFinal}
 use Rattle.stack_model.specs.Stack.{Path, Shows}

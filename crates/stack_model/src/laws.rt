@@ -2,7 +2,7 @@
 
 ghost use Rattle.std.specs.Prelude.{◌≡◌, ◌≢◌, ◌↔◌, ◌⊎◌, ◌+◌, ◌/◌, ◌%◌, ◌^◌, ◌<◌, ◌≤◌, ◌++◌, [], ◌∷◌, ℕ, List, None, Some, IsSome, length, codes};
 ghost use Rattle.std.specs.List.{AllByRecursion};
-ghost use Rattle.node_attr.specs.declared.owner.TheConstants.Owner.{ROOT};
+ghost use Rattle.stack_model.specs.declared.owner.TheConstants.Owner.{ROOT};
 ghost use Rattle.romfs_format.specs.declared.attribute_row.AttributeRow.{AttributeRow};
 ghost use Rattle.romfs_format.specs.declared.head.Kind.TheVariants.{Directory};
 ghost use Rattle.romfs_format.specs.Fields.{kind};

@@ -8,8 +8,8 @@ use Rattle.romfs_format.specs.Rules.{IsFault, IsSound}
 use Rattle.romfs_format.specs.declared.attribute_row.AttributeRow.{AttributeRow}
 use Rattle.romfs_format.specs.declared.rule.ImageFault.{ImageFault}
 use Rattle.romfs_format.specs.declared.rule.Profile.{Profile}
-use Rattle.held_image.specs.declared.image.HeldImage.{HeldImage}
-use Rattle.held_image.specs.Images.{held_bytes}
+use Rattle.romfs_held.specs.declared.image.HeldImage.{HeldImage}
+use Rattle.romfs_held.specs.Images.{held_bytes}
 use Rattle.romfs_reader.specs.Images.{HeldBytes}
 use Rattle.stack_prepare.specs.declared.checking.Checked.{Checked}
 use Rattle.stack_prepare.specs.declared.refusal.Refusal.{Refusal}

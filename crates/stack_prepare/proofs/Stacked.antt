@@ -4,22 +4,22 @@ use Rattle.std.proofs.Common.{◌≡◌, ◌∙◌, sym, ap, subst, ℕ, zero, s
 use Rattle.std.proofs.lemmas.List.{length-map}
 use Rattle.std.proofs.lemmas.List.Folds.{list_all-map}
 use Rattle.std.specs.List.{slice_index_or}
-use Rattle.held_image.specs.declared.image.HeldImage.{HeldImage}
-use Rattle.held_image.specs.declared.image.HeldImage.TheVariants.{Whole}
-use Rattle.held_image.specs.Images.{held_bytes}
+use Rattle.romfs_held.specs.declared.image.HeldImage.{HeldImage}
+use Rattle.romfs_held.specs.declared.image.HeldImage.TheVariants.{Whole}
+use Rattle.romfs_held.specs.Images.{held_bytes}
 use Rattle.romfs_reader.specs.Images.{HeldBytes, all_whole, bytes_of}
 use Rattle.romfs_format.specs.Fields.{image}
 use Rattle.romfs_format.specs.Profiles.{reads_attributes}
 use Rattle.romfs_format.specs.Trailer.{row_at, rows_shown}
 use Rattle.romfs_format.specs.declared.attribute_row.AttributeRow.{AttributeRow}
 use Rattle.romfs_format.specs.declared.rule.Profile.{Profile}
-use Rattle.node_attr.specs.declared.owner.Owner.{Owner}
-use Rattle.node_attr.specs.declared.owner.TheConstants.Owner.{ROOT}
+use Rattle.stack_model.specs.declared.owner.Owner.{Owner}
+use Rattle.stack_model.specs.declared.owner.TheConstants.Owner.{ROOT}
 use Rattle.stack_model.specs.Listing.{Stacked, stacked}
 use Rattle.stack_model.specs.Numbers.{Place}
 use Rattle.stack_model.specs.Attributes.{row_in, row_of, attr_of}
 use Rattle.stack_model.proofs.Modes.{as_without}
-use Rattle.table_reader.specs.Stacked.{IsTableWith}
+use Rattle.node_reader.specs.Stacked.{IsTableWith}
 use Rattle.stack_prepare.specs.declared.checking.Checked.{Checked}
 use Rattle.stack_prepare.specs.declared.refusal.Refusal.{Refusal}
 use Rattle.stack_prepare.specs.Layers.{are_whole, IsFew}

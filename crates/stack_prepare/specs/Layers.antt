@@ -2,8 +2,8 @@
 use Rattle.std.specs.Prelude.{◌≡◌, ℕ, ◌<◌, ◌≤◌, ◌⊎◌, Bool, List, ◌∷◌, ◌++◌, length, map, All}
 use Rattle.std.specs.List.{list_all}
 use Rattle.std.specs.declared.vec.Vec.{Vec}
-use Rattle.held_image.specs.declared.image.HeldImage.{HeldImage}
-use Rattle.held_image.specs.Images.{held_bytes, is_whole}
+use Rattle.romfs_held.specs.declared.image.HeldImage.{HeldImage}
+use Rattle.romfs_held.specs.Images.{held_bytes, is_whole}
 use Rattle.stack_model.specs.declared.limits.TheConstants.{MAX_LAYERS}
 use Rattle.romfs_format.specs.Fields.{image}
 use Rattle.romfs_format.specs.Rules.{IsFault, IsSound}

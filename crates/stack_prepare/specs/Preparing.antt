@@ -2,7 +2,7 @@
 use Rattle.std.specs.Prelude.{◌≡◌, ℕ, List, map}
 use Rattle.romfs_format.specs.Trailer.{rows_shown}
 use Rattle.romfs_format.specs.declared.rule.Profile.{Profile}
-use Rattle.node_attr.specs.declared.owner.Owner.{Owner}
+use Rattle.stack_model.specs.declared.owner.Owner.{Owner}
 use Rattle.stack_model.specs.Listing.{Stacked, IsListing}
 use Rattle.stack_prepare.specs.Layers.{AreLayers}
 

@@ -10,10 +10,10 @@ ghost use denote.Param.Send.{IsSync, IsSend, Frees};
 ghost use Rattle.stack_model.specs.declared.limits.TheConstants.{MAX_LAYERS};
 
 use crate::refusal::Refusal;
-use attribute_rows::Rows;
-use held_image::HeldImage;
-use romfs_check::{CheckFault, Image, check_held};
 use romfs_format::Profile;
+use romfs_held::HeldImage;
+use romfs_image::{CheckFault, Image, check_held};
+use romfs_rows::Rows;
 use std::alloc::Allocator;
 use std::thread::{Threads, join};
 use work_gate::{Gate, Work, forks_of};

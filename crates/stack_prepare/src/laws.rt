@@ -2,7 +2,7 @@
 //! what [`crate::prepare`] promises.
 
 ghost use Rattle.std.specs.Prelude.{◌≡◌, ◌⊎◌, List, ℕ, false};
-ghost use Rattle.node_attr.specs.declared.owner.TheConstants.Owner.{ROOT};
+ghost use Rattle.stack_model.specs.declared.owner.TheConstants.Owner.{ROOT};
 ghost use Rattle.romfs_format.specs.declared.rule.Profile.{Profile};
 ghost use Rattle.romfs_format.specs.Profiles.{reads_attributes};
 ghost use Rattle.stack_model.specs.Listing.{Stacked, stacked};

@@ -10,7 +10,7 @@
 //! that breaks a rule, whichever was found first, or lack of memory; [`laws`] says that there is
 //! one such reason. What images are taken and why others are refused is said in
 //! `specs/Layers`, and of what stack a table is made in `specs/Preparing`. An image costs what its
-//! check costs ([`check_held`](romfs_check::check_held)), and a part of several images a started
+//! check costs ([`check_held`](romfs_image::check_held)), and a part of several images a started
 //! thread. The
 //! crate knows no device, no file, no stream and no request: whoever has the table may serve it, or
 //! list it.
@@ -23,9 +23,9 @@ mod preparing;
 pub mod refusal;
 
 pub use bounds::SharedAllocator;
-pub use held_image::{HeldImage, Kept};
 pub use node_table::{Owner, Table};
 pub use preparing::{prepare, whole_images};
 pub use refusal::Refusal;
 pub use romfs_format::Profile;
+pub use romfs_held::{HeldImage, Kept};
 pub use work_gate::{FreePass, Gate, Work};

@@ -1,7 +1,7 @@
 //! Images, checked and stacked.
 
 ghost use Rattle.std.specs.Prelude.{◌≡◌, true, map, IfOk, IfErr};
-ghost use Rattle.held_image.specs.declared.image.HeldImage.TheVariants.{Whole};
+ghost use Rattle.romfs_held.specs.declared.image.HeldImage.TheVariants.{Whole};
 ghost use Rattle.romfs_format.specs.declared.rule.Profile.{Profile};
 ghost use Rattle.stack_prepare.specs.Layers.{contents_of, held_contents, are_whole, AreRefused, AreTooFewOrMany, IsFew};
 ghost use Rattle.stack_prepare.specs.Preparing.{AreStacked};
@@ -9,11 +9,11 @@ ghost use Rattle.stack_prepare.specs.Preparing.{AreStacked};
 use crate::bounds::SharedAllocator;
 use crate::checking::{Checked, check_all};
 use crate::refusal::Refusal;
-use held_image::HeldImage;
-use node_attr::Owner;
 use node_table::{Attributes, Table, table_of_layers};
 use romfs_format::Profile;
+use romfs_held::HeldImage;
 use stack_core::stack;
+use stack_model::Owner;
 use stack_model::limits::MAX_LAYERS;
 use std::alloc::{AllocError, Allocator};
 use std::thread::Threads;

@@ -2,9 +2,9 @@
 -- all its steps, whatever its sessions stopped for, and `stopped_there` of one that could not serve
 -- any; `unbound` says why none was bound.
 use Rattle.std.proofs.Common.{◌≡◌, refl, ℕ, ◌⊎◌, inl, inr, List, Option, Some, None, Result, Ok, Err, IfOk, IfErr}
-use Rattle.command_line.specs.declared.options.Line.{Line}
-use Rattle.command_line.specs.declared.options.Verb.TheVariants.{Socket}
-use Rattle.command_line.specs.CommandLine.{IsLineOf}
+use Rattle.strata_words.specs.declared.options.Line.{Line}
+use Rattle.strata_words.specs.declared.options.Verb.TheVariants.{Socket}
+use Rattle.strata_words.specs.CommandLine.{IsLineOf}
 use Rattle.devices.specs.States.{Devices}
 use Rattle.strata.specs.declared.faults.Fault.{Fault}
 use Rattle.strata.specs.Sessions.{status_at}

@@ -4,12 +4,12 @@ use Rattle.std.proofs.Common.{◌≡◌, ◌≢◌, ◌<◌, ◌≤◌, ◌∙�
 use Rattle.std.proofs.lemmas.List.{length-map}
 use Rattle.serve_core.specs.declared.stop.Stop.{Stop}
 use Rattle.serve_core.specs.declared.stop.Stop.TheVariants as stops
-use Rattle.command_line.specs.declared.options.Line.{Line}
-use Rattle.command_line.specs.declared.options.Verb.{Verb}
-use Rattle.command_line.specs.CommandLine.{IsLineOf}
+use Rattle.strata_words.specs.declared.options.Line.{Line}
+use Rattle.strata_words.specs.declared.options.Verb.{Verb}
+use Rattle.strata_words.specs.CommandLine.{IsLineOf}
 use Rattle.devices.specs.States.{Devices}
-use Rattle.image_files.specs.declared.images.FilesFault.{FilesFault}
-use Rattle.image_files.specs.declared.images.FilesFault.TheVariants as files
+use Rattle.romfs_files.specs.declared.images.FilesFault.{FilesFault}
+use Rattle.romfs_files.specs.declared.images.FilesFault.TheVariants as files
 use Rattle.strata.specs.declared.faults.Fault.{Fault}
 use Rattle.strata.specs.declared.faults.Fault.TheVariants.{Usage, ImageFile, RequestsFile, RepliesFile, BalancesFile, Bind, Accept, Broken, InSession, Stopped}
 use Rattle.strata.specs.Faults.{AreUnread, status_of, stop_status, files_told_of}

@@ -2,13 +2,13 @@
 use Rattle.std.proofs.Common.{◌≡◌, inl, inr, ℕ, List, Result, Ok, Err, IfErr, IsErrAnd}
 use Rattle.devices.specs.States.{SinkState}
 use Rattle.romfs_format.specs.declared.rule.Profile.{Profile}
-use Rattle.node_attr.specs.declared.owner.TheConstants.Owner.{ROOT}
+use Rattle.stack_model.specs.declared.owner.TheConstants.Owner.{ROOT}
 use Rattle.stack_model.specs.Listing.{Stacked}
 use Rattle.stack_prepare.specs.declared.refusal.Refusal.TheVariants as refusals
 use Rattle.stack_prepare.specs.Preparing.{AreStacked}
-use Rattle.path_list.specs.declared.walk.ListFault.{ListFault}
-use Rattle.path_list.specs.declared.walk.ListFault.TheVariants.{Write, Memory}
-use Rattle.path_list.specs.Faults.{IsBrokenOff}
+use Rattle.node_list.specs.declared.walk.ListFault.{ListFault}
+use Rattle.node_list.specs.declared.walk.ListFault.TheVariants.{Write, Memory}
+use Rattle.node_list.specs.Faults.{IsBrokenOff}
 use Rattle.strata.specs.declared.faults.Fault.{Fault}
 use Rattle.strata.specs.Faults.{list_told_of}
 use Rattle.strata.specs.Ending.{IsNotListed}

@@ -4,11 +4,11 @@ use Rattle.std.proofs.Common.{◌≡◌, ◌≢◌, ◌∙◌, sym, ap, subst, r
 use Rattle.std.specs.Io.Buffered.{reader_remaining}
 use Rattle.devices.specs.Counting.{no_pulls, no_pushes}
 use Rattle.devices.specs.States.{SourceState, SinkState, devices, source_state, sink_state}
-use Rattle.fuse_device.specs.declared.sink.ReplySpout.{ReplySpout}
-use Rattle.fuse_device.specs.declared.source.MessageTap.{MessageTap}
-use Rattle.fuse_device.specs.Ends.{MountEnds, ends}
-use Rattle.fuse_device.specs.Spouts.{spout_gone}
-use Rattle.fuse_device.specs.Taps.{buffered_of, tap_gone}
+use Rattle.serve_device.specs.declared.sink.ReplySpout.{ReplySpout}
+use Rattle.serve_device.specs.declared.source.MessageTap.{MessageTap}
+use Rattle.serve_device.specs.MountEnds.{MountEnds, ends}
+use Rattle.serve_device.specs.Spouts.{spout_gone}
+use Rattle.serve_device.specs.Taps.{buffered_of, tap_gone}
 use Rattle.serve_core.specs.declared.stop.Stop.TheVariants as stops
 use Rattle.strata.specs.declared.faults.Fault.{Fault}
 use Rattle.strata.specs.declared.faults.Fault.TheVariants.{Usage, ImageFile, RequestsFile, RepliesFile, BalancesFile, Bind, Accept, Broken, InSession, Stopped}

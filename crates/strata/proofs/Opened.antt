@@ -6,20 +6,20 @@ use Rattle.std.specs.List.{AllByRecursion, list_all}
 use Rattle.std.proofs.lemmas.List.Sums.{list_all-from_AllPass}
 use Rattle.std.proofs.lemmas.List.{length-map}
 use Rattle.std.proofs.lemmas.List.Elements.{All-map, All-weaker, recursion_from_All}
-use Rattle.image_bytes.specs.Sources.{Source}
-use Rattle.image_files.specs.declared.image_data.ImageData.{ImageData}
-use Rattle.image_files.specs.declared.image_data.ImageData.TheVariants.{File, Memory}
-use Rattle.image_files.specs.declared.loaded.LoadedImage.{LoadedImage}
-use Rattle.image_files.specs.declared.loaded.Loading.{Loading}
-use Rattle.image_files.specs.declared.loaded.Loading.TheVariants as how
-use Rattle.image_files.specs.declared.loaded.Trailers.{Trailers}
-use Rattle.image_files.specs.Data.{known_bytes, source_of}
-use Rattle.held_image.specs.declared.image.HeldImage.{HeldImage}
-use Rattle.held_image.specs.declared.image.HeldImage.TheVariants.{Kept, Whole}
-use Rattle.held_image.specs.Images.{held_bytes, is_whole}
-use Rattle.image_files.specs.Files.{AreLoaded, IsHeldOf, IsHeldWith, IsLoadedOf, IsOfFile, IsWholeOf}
-use Rattle.image_files.specs.Loaded.{AreApart, IsKeptWith, before, files_of}
-use Rattle.command_line.specs.declared.options.Line.{Line}
+use Rattle.devices.specs.Sources.{Source}
+use Rattle.romfs_files.specs.declared.image_data.ImageData.{ImageData}
+use Rattle.romfs_files.specs.declared.image_data.ImageData.TheVariants.{File, Memory}
+use Rattle.romfs_files.specs.declared.loaded.LoadedImage.{LoadedImage}
+use Rattle.romfs_files.specs.declared.loaded.Loading.{Loading}
+use Rattle.romfs_files.specs.declared.loaded.Loading.TheVariants as how
+use Rattle.romfs_files.specs.declared.loaded.Trailers.{Trailers}
+use Rattle.romfs_files.specs.Data.{known_bytes, source_of}
+use Rattle.romfs_held.specs.declared.image.HeldImage.{HeldImage}
+use Rattle.romfs_held.specs.declared.image.HeldImage.TheVariants.{Kept, Whole}
+use Rattle.romfs_held.specs.Images.{held_bytes, is_whole}
+use Rattle.romfs_files.specs.Files.{AreLoaded, IsHeldOf, IsHeldWith, IsLoadedOf, IsOfFile, IsWholeOf}
+use Rattle.romfs_files.specs.Loaded.{AreApart, IsKeptWith, before, files_of}
+use Rattle.strata_words.specs.declared.options.Line.{Line}
 use Rattle.stack_model.specs.Listing.{Stacked}
 use Rattle.reply_model.specs.Readings.{Sourced, in_memory, sourced}
 use Rattle.strata.specs.Images.{AreDataOf, AreHeldFor, AreHeldWhole, ArePrepared, AreReadWhole, HaveSources, IsDataOf, IsLoadingOf, sources_of, stay_in_files, trailers_of}
@@ -84,7 +84,7 @@ no_sources : {F A : Type 0} (line : Line) (known : F → Option (List ℕ)) (ima
 no_sources line known images told each all loaded =
     let none = no_files known images (recursion_from_All (IsOfFile (λ file. IsLoadedOf (known file) how.Whole)) images loaded) in
     let held : AreHeldWhole (list_all is_whole (held_of images)) (map source_of (files_of images)) =
-        (all_held known images loaded, ap (map source_of) none) in
+    (all_held known images loaded, ap (map source_of) none) in
     record {
       told = told;
       each = each;

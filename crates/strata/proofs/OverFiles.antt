@@ -3,11 +3,11 @@
 -- READs do (told_others).
 use Rattle.std.proofs.Common.{◌≡◌, ◌≢◌, ◌∙◌, ◌≤◌, ◌⊎◌, ◌↔◌, sym, ap, subst, ℕ, inl, inr, List, [], ◌∷◌, Bool, true, false, length, map, Some, None, arith, refl, if◌then◌else◌}
 use Rattle.std.specs.Prelude.{slice_index_or}
-use Rattle.image_bytes.specs.Sources.{Source, held, unknown}
-use Rattle.image_files.specs.declared.loaded.Trailers.{Trailers}
-use Rattle.image_files.specs.declared.loaded.Trailers.TheVariants.{Read, Left}
-use Rattle.image_files.specs.Loaded.{WasGathered}
-use Rattle.kept_image.specs.Gathered.{IsGatheredOf, IsGatheredWithTrailerOf}
+use Rattle.devices.specs.Sources.{Source, held, unknown}
+use Rattle.romfs_files.specs.declared.loaded.Trailers.{Trailers}
+use Rattle.romfs_files.specs.declared.loaded.Trailers.TheVariants.{Read, Left}
+use Rattle.romfs_files.specs.Loaded.{WasGathered}
+use Rattle.romfs_kept.specs.Gathered.{IsGatheredOf, IsGatheredWithTrailerOf}
 use Rattle.romfs_format.specs.Profiles.{reads_attributes}
 use Rattle.stack_model.specs.Listing.{Stacked}
 use Rattle.stack_prepare.specs.Preparing.{AreStacked}
@@ -18,7 +18,7 @@ use Rattle.reply_model.specs.Readings.{Sourced, sourced, IsReplyOver}
 use Rattle.serve_model.specs.Kept.{WereGatheredFor, AreStacksOf, over}
 use Rattle.serve_model.proofs.Answered as answered
 use Rattle.serve_model.proofs.Stacking.{stacked_back}
-use Rattle.command_line.specs.declared.options.Line.{Line}
+use Rattle.strata_words.specs.declared.options.Line.{Line}
 use Rattle.strata.specs.Images.{profile_of, trailers_of, IsDataOf, AreDataOf, AreHeldWhole, ArePrepared}
 use Rattle.strata.proofs.Rules.{reads}
 

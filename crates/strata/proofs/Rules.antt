@@ -4,21 +4,21 @@ use Rattle.std.proofs.Common.{◌≡◌, ◌∙◌, sym, subst, refl, ℕ, ◌�
 use Rattle.romfs_format.specs.declared.rule.Profile.{Profile}
 use Rattle.romfs_format.specs.Profiles.{asks_sums, profile_with, reads_attributes}
 use Rattle.romfs_format.specs.Rules.{IsSound}
-use Rattle.romfs_check.specs.declared.refusal.CheckFault.{CheckFault}
-use Rattle.romfs_check.specs.Refusals.{IsRefusal}
-use Rattle.romfs_check.proofs.Gathered.{judged_alike, judged_with_trailer}
-use Rattle.image_files.specs.declared.loaded.Trailers.TheVariants.{Read, Left}
-use Rattle.image_files.specs.declared.loaded.LoadedImage.{LoadedImage}
-use Rattle.held_image.specs.declared.image.HeldImage.{HeldImage}
-use Rattle.held_image.specs.declared.image.HeldImage.TheVariants.{Kept, Whole}
-use Rattle.held_image.specs.Images.{held_bytes}
-use Rattle.image_files.specs.Files.{IsWholeOf}
-use Rattle.image_files.specs.Loaded.{WasGathered}
-use Rattle.image_files.specs.Opening.{IsHeldWhole, loaded_bytes}
-use Rattle.command_line.specs.declared.options.Line.{Line}
+use Rattle.romfs_image.specs.declared.refusal.CheckFault.{CheckFault}
+use Rattle.romfs_image.specs.Refusals.{IsRefusal}
+use Rattle.romfs_image.proofs.Gathered.{judged_alike, judged_with_trailer}
+use Rattle.romfs_files.specs.declared.loaded.Trailers.TheVariants.{Read, Left}
+use Rattle.romfs_files.specs.declared.loaded.LoadedImage.{LoadedImage}
+use Rattle.romfs_held.specs.declared.image.HeldImage.{HeldImage}
+use Rattle.romfs_held.specs.declared.image.HeldImage.TheVariants.{Kept, Whole}
+use Rattle.romfs_held.specs.Images.{held_bytes}
+use Rattle.romfs_files.specs.Files.{IsWholeOf}
+use Rattle.romfs_files.specs.Loaded.{WasGathered}
+use Rattle.romfs_files.specs.Opening.{IsHeldWhole, loaded_bytes}
+use Rattle.strata_words.specs.declared.options.Line.{Line}
 use Rattle.serve_core.specs.declared.stop.Stop.{Stop}
 use Rattle.serve_core.specs.declared.stop.Stop.TheVariants as stops
-use Rattle.device_readers.specs.Ends.{end_of_stop}
+use Rattle.serve_device.specs.Ends.{end_of_stop}
 use Rattle.strata.specs.declared.faults.Fault.TheVariants.{Stopped}
 use Rattle.strata.specs.Images.{profile_of, trailers_of}
 use Rattle.strata.specs.Mounts.{status_on_device}

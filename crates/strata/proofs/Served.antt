@@ -1,7 +1,7 @@
 -- What serving left, by the devices that it was between. The first lemmas say which device was touched, with a file instead of it or not;
 -- the others derive how `serve` ended: stopped, complete, or complete but for its balances.
 use Rattle.std.proofs.Common.{◌≡◌, ◌∙◌, sym, ap, refl, subst, ℕ, ◌⊎◌, inl, inr, List, Option, None, Some, is_some, true, false, true≢false, Result, Ok, Err, OnOk, IfErr, IsErrAnd}
-use Rattle.command_line.specs.declared.options.Line.{Line}
+use Rattle.strata_words.specs.declared.options.Line.{Line}
 use Rattle.stack_prepare.specs.declared.refusal.Refusal.{Refusal}
 use Rattle.stack_prepare.specs.Layers.{AreRefused}
 use Rattle.reply_model.specs.Readings.{Sourced}

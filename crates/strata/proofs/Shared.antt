@@ -4,9 +4,9 @@ use Rattle.std.proofs.Common.{◌≡◌, ◌∙◌, sym, ap, subst, ℕ, List, �
 use Rattle.std.specs.Vec.{with_items}
 use Rattle.std.proofs.lemmas.List.{length-map, with_items_is}
 use Rattle.std.proofs.lemmas.List.Elements.{length_all_zip}
-use Rattle.device_readers.specs.declared.seat.Seat.{Seat}
-use Rattle.device_readers.specs.Readers.{AreServedBy, HasServed, Shared}
-use Rattle.device_readers.specs.Seats.{SeatState, seat_of}
+use Rattle.serve_device.specs.declared.seat.Seat.{Seat}
+use Rattle.serve_device.specs.Readers.{AreServedBy, HasServed, Shared}
+use Rattle.serve_device.specs.Seats.{SeatState, seat_of}
 use Rattle.reply_model.specs.declared.session.Session.{Session}
 use Rattle.serve_loop.specs.declared.done.Done.{Done}
 

@@ -4,7 +4,7 @@
 use Rattle.std.proofs.Common.{◌≡◌, ◌≤◌, ◌<◌, ◌+◌, ◌-◌, ◌^◌, ◌∙◌, ◌↔◌, sym, refl, ℕ, suc, inl, inr, true, false, true≢false, List, [], ◌∷◌, ◌++◌, length, map, replicate, sum, Bool, Option, Some, None, IsTrue, arith, length-append, vec_len}
 use Rattle.std.proofs.lemmas.List.{length-map, length-replicate}
 use Rattle.std.proofs.lemmas.List.Sums.{sum_by-cons, sum_by_push}
-use Rattle.command_line.specs.declared.options.Line.{Line}
+use Rattle.strata_words.specs.declared.options.Line.{Line}
 use Rattle.strata.specs.Images.{AreReadWhole, AreSmall, stay_in_files}
 
 sum-cons : (x : ℕ) (xs : List ℕ) → sum (x ∷ xs) ≡ x + sum xs

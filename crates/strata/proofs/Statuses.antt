@@ -6,12 +6,12 @@ use Rattle.romfs_format.specs.declared.rule.Profile.{Profile}
 use Rattle.romfs_format.specs.Rules.{IsSound}
 use Rattle.serve_core.specs.declared.stop.Stop.{Stop}
 use Rattle.serve_core.specs.declared.stop.Stop.TheVariants as stops
-use Rattle.command_line.specs.declared.options.Line.{Line}
-use Rattle.command_line.specs.declared.options.LineFault.{LineFault}
-use Rattle.command_line.specs.declared.options.LineFault.TheVariants as lines
-use Rattle.command_line.specs.declared.options.Verb.{Verb}
-use Rattle.command_line.specs.declared.options.Verb.TheVariants as verbs
-use Rattle.command_line.specs.CommandLine.{IsRefused, IsMisnumbered, IsCrossed, IsLineFault}
+use Rattle.strata_words.specs.declared.options.Line.{Line}
+use Rattle.strata_words.specs.declared.options.LineFault.{LineFault}
+use Rattle.strata_words.specs.declared.options.LineFault.TheVariants as lines
+use Rattle.strata_words.specs.declared.options.Verb.{Verb}
+use Rattle.strata_words.specs.declared.options.Verb.TheVariants as verbs
+use Rattle.strata_words.specs.CommandLine.{IsRefused, IsMisnumbered, IsCrossed, IsLineFault}
 use Rattle.reply_model.specs.declared.session.Session.{Session}
 use Rattle.reply_model.specs.Readings.{Sourced}
 use Rattle.stack_prepare.specs.Layers.{AreRefused}

@@ -2,7 +2,7 @@
 use Rattle.std.specs.Prelude.{◌≡◌, ◌≢◌, ◌<◌, ◌+◌, ◌⊎◌, ◌||◌, ℕ, List, true, Option, Some, None, is_some, vec_len, Result, Ok, Err, OnOk, if◌then◌else◌}
 use Rattle.std.specs.Io.KnownBytes.{Appends, Consumes, IsAtEnd}
 use Rattle.romfs_format.specs.declared.rule.Profile.{Profile}
-use Rattle.node_attr.specs.declared.owner.TheConstants.Owner.{ROOT}
+use Rattle.stack_model.specs.declared.owner.TheConstants.Owner.{ROOT}
 use Rattle.devices.specs.Counting.{no_pulls, no_pushes, no_accepts}
 use Rattle.devices.specs.Pushing.{HasFlushed, GainsFront}
 use Rattle.devices.specs.States.{SourceState, SinkState, Devices}
@@ -20,13 +20,13 @@ use Rattle.serve_core.specs.declared.terms.Counted.{Counted}
 use Rattle.serve_core.specs.declared.terms.Counted.TheVariants.{AllNodes, NoNodes}
 use Rattle.serve_core.specs.Headline.{nodes_counted}
 use Rattle.serve_core.specs.Stops.{stop_of_refusal}
-use Rattle.path_list.specs.declared.walk.ListFault.TheVariants.{Write}
-use Rattle.path_list.specs.Faults.{Lists, IsBrokenOff}
-use Rattle.command_line.specs.declared.options.Line.{Line}
-use Rattle.command_line.specs.declared.options.LineFault.{LineFault}
-use Rattle.command_line.specs.declared.options.Verb.{Verb}
-use Rattle.command_line.specs.declared.options.Verb.TheVariants as verbs
-use Rattle.command_line.specs.CommandLine.{IsLineOf, IsLineFault}
+use Rattle.node_list.specs.declared.walk.ListFault.TheVariants.{Write}
+use Rattle.node_list.specs.Faults.{Lists, IsBrokenOff}
+use Rattle.strata_words.specs.declared.options.Line.{Line}
+use Rattle.strata_words.specs.declared.options.LineFault.{LineFault}
+use Rattle.strata_words.specs.declared.options.Verb.{Verb}
+use Rattle.strata_words.specs.declared.options.Verb.TheVariants as verbs
+use Rattle.strata_words.specs.CommandLine.{IsLineOf, IsLineFault}
 use Rattle.strata.specs.declared.faults.Fault.{Fault}
 use Rattle.strata.specs.declared.faults.Fault.TheVariants.{ImageFile, RequestsFile, RepliesFile, BalancesFile, Bind, Accept, InSession, Stopped}
 use Rattle.strata.specs.Faults.{AreSizes, IsFirstFault, line_told_of, status_of, out_of_memory, write_failed}

@@ -1,8 +1,8 @@
 -- fuse(4), write(2): what a contract sees of the ends that a run of the program leaves.
 use Rattle.std.specs.Prelude.{ℕ, List, map, Option}
 use Rattle.devices.specs.States.{Devices, devices, source_state, sink_state}
-use Rattle.device_readers.specs.Seats.{SeatState, seat_of}
-use Rattle.fuse_device.specs.Ends.{MountEnds, ends}
+use Rattle.serve_device.specs.Seats.{SeatState, seat_of}
+use Rattle.serve_device.specs.MountEnds.{MountEnds, ends}
 use Rattle.strata.specs.declared.ends.Ends.{Ends}
 use Rattle.strata.specs.declared.ends.Ends.TheVariants as left
 

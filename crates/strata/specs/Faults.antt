@@ -6,12 +6,12 @@ use Rattle.romfs_format.specs.Fields.{image}
 use Rattle.romfs_format.specs.Rules.{IsFault, IsSound}
 use Rattle.serve_core.specs.declared.stop.Stop.{Stop}
 use Rattle.serve_core.specs.declared.stop.Stop.TheVariants as stops
-use Rattle.command_line.specs.declared.options.LineFault.{LineFault}
-use Rattle.command_line.specs.declared.options.LineFault.TheVariants as line
-use Rattle.image_files.specs.declared.images.FilesFault.{FilesFault}
-use Rattle.image_files.specs.declared.images.FilesFault.TheVariants as files
-use Rattle.path_list.specs.declared.walk.ListFault.{ListFault}
-use Rattle.path_list.specs.declared.walk.ListFault.TheVariants as list
+use Rattle.strata_words.specs.declared.options.LineFault.{LineFault}
+use Rattle.strata_words.specs.declared.options.LineFault.TheVariants as line
+use Rattle.romfs_files.specs.declared.images.FilesFault.{FilesFault}
+use Rattle.romfs_files.specs.declared.images.FilesFault.TheVariants as files
+use Rattle.node_list.specs.declared.walk.ListFault.{ListFault}
+use Rattle.node_list.specs.declared.walk.ListFault.TheVariants as list
 use Rattle.strata.specs.declared.faults.Fault.{Fault}
 use Rattle.strata.specs.declared.faults.Fault.TheVariants.{Usage, ImageFile, RequestsFile, RepliesFile, BalancesFile, Bind, Accept, Broken, InSession, Stopped}
 

@@ -4,21 +4,21 @@ use Rattle.std.specs.Prelude.{◌≡◌, ◌≤◌, ◌^◌, ◌⊎◌, ◌||◌
 use Rattle.std.specs.declared.vec.Vec.{Vec}
 use Rattle.romfs_format.specs.declared.rule.Profile.{Profile}
 use Rattle.romfs_format.specs.Profiles.{profile_with}
-use Rattle.image_bytes.specs.Sources.{Source, held, unknown}
-use Rattle.image_files.specs.declared.image_data.ImageData.{ImageData}
-use Rattle.image_files.specs.declared.loaded.LoadedImage.{LoadedImage}
-use Rattle.image_files.specs.declared.loaded.Loading.{Loading}
-use Rattle.image_files.specs.declared.loaded.Loading.TheVariants.{Whole}
-use Rattle.image_files.specs.declared.loaded.Trailers.{Trailers}
-use Rattle.image_files.specs.declared.loaded.Trailers.TheVariants.{Read, Left}
-use Rattle.image_files.specs.Data.{source_of}
-use Rattle.image_files.specs.Files.{IsHeldOf, IsOfFile}
-use Rattle.image_files.specs.Loaded.{WasGathered}
-use Rattle.held_image.specs.declared.image.HeldImage.{HeldImage}
+use Rattle.devices.specs.Sources.{Source, held, unknown}
+use Rattle.romfs_files.specs.declared.image_data.ImageData.{ImageData}
+use Rattle.romfs_files.specs.declared.loaded.LoadedImage.{LoadedImage}
+use Rattle.romfs_files.specs.declared.loaded.Loading.{Loading}
+use Rattle.romfs_files.specs.declared.loaded.Loading.TheVariants.{Whole}
+use Rattle.romfs_files.specs.declared.loaded.Trailers.{Trailers}
+use Rattle.romfs_files.specs.declared.loaded.Trailers.TheVariants.{Read, Left}
+use Rattle.romfs_files.specs.Data.{source_of}
+use Rattle.romfs_files.specs.Files.{IsHeldOf, IsOfFile}
+use Rattle.romfs_files.specs.Loaded.{WasGathered}
+use Rattle.romfs_held.specs.declared.image.HeldImage.{HeldImage}
 use Rattle.stack_prepare.specs.Layers.{held_contents, are_whole as all_held_whole}
 use Rattle.stack_prepare.specs.Preparing.{AreStacked}
 use Rattle.reply_model.specs.Readings.{Sourced}
-use Rattle.command_line.specs.declared.options.Line.{Line}
+use Rattle.strata_words.specs.declared.options.Line.{Line}
 
 -- the rules that a line holds images to, and whether their attributes are read
 abbrev pub profile_of : Line → Profile

@@ -11,8 +11,8 @@ use Rattle.serve_core.specs.declared.stop.Stop.TheVariants.{Layer, Layers, BadLe
 use Rattle.serve_loop.specs.declared.done.Done.{Done}
 use Rattle.serve_loop.specs.Serving.{Trace}
 use Rattle.stack_prepare.specs.Layers.{IsFew}
-use Rattle.command_line.specs.declared.options.Line.{Line}
-use Rattle.command_line.specs.CommandLine.{IsLineOf}
+use Rattle.strata_words.specs.declared.options.Line.{Line}
+use Rattle.strata_words.specs.CommandLine.{IsLineOf}
 use Rattle.strata.specs.declared.faults.Fault.{Fault}
 use Rattle.strata.specs.declared.faults.Fault.TheVariants.{Usage, ImageFile, RequestsFile, RepliesFile, BalancesFile, Bind, Accept, Broken, InSession, Stopped}
 use Rattle.strata.specs.Faults.{stop_status, status_of}

@@ -7,7 +7,7 @@ pub mod Ends
 pub mod Readers
 pub mod Laws
 pub mod Mounts
-pub use Rattle.command_line.specs.CommandLine
+pub use Rattle.strata_words.specs.CommandLine
 pub use Rattle.devices.specs.States
 pub use Rattle.stack_prepare.specs.Layers
 pub use Rattle.stack_prepare.specs.Preparing

@@ -2,11 +2,11 @@
 use Rattle.std.specs.Prelude.{◌≡◌, ◌≢◌, ◌<◌, ◌≤◌, ◌⊎◌, ◌||◌, ℕ, Bool, true, false, List, Option, None, Result, MatchResult, if◌then◌else◌}
 use Rattle.devices.specs.Counting.{no_pulls, no_pushes}
 use Rattle.devices.specs.States.{Devices, devices, source_state, sink_state}
-use Rattle.fuse_device.specs.Ends.{MountEnds}
-use Rattle.command_line.specs.declared.options.Line.{Line}
-use Rattle.command_line.specs.declared.options.NoLine.{NoLine}
-use Rattle.command_line.specs.declared.options.NoLine.TheVariants as none
-use Rattle.command_line.specs.CommandLine.{IsLineOf, IsNoLine}
+use Rattle.serve_device.specs.MountEnds.{MountEnds}
+use Rattle.strata_words.specs.declared.options.Line.{Line}
+use Rattle.strata_words.specs.declared.options.NoLine.{NoLine}
+use Rattle.strata_words.specs.declared.options.NoLine.TheVariants as none
+use Rattle.strata_words.specs.CommandLine.{IsLineOf, IsNoLine}
 use Rattle.serve_core.specs.declared.stop.Stop.{Stop}
 use Rattle.serve_core.specs.declared.stop.Stop.TheVariants.{Read, Write}
 use Rattle.strata.specs.declared.faults.Fault.{Fault}

@@ -1,11 +1,11 @@
 -- fuse(4): what a command leaves behind that was run over an open /dev/fuse by several readers.
 use Rattle.std.specs.Prelude.{◌≡◌, ◌<◌, ◌⊎◌, ℕ, List, Option, replicate, vec_len}
-use Rattle.command_line.specs.declared.options.Line.{Line}
+use Rattle.strata_words.specs.declared.options.Line.{Line}
 use Rattle.devices.specs.declared.limits.TheConstants.{MAX_TURNS}
-use Rattle.device_readers.specs.declared.ends.End.{End}
-use Rattle.device_readers.specs.declared.ends.End.TheVariants.{AtEnd, TakenAway, Stopped}
-use Rattle.device_readers.specs.Readers.{AreServedBy, shared}
-use Rattle.device_readers.specs.Seats.{SeatState, end_of_all, new_seat}
+use Rattle.serve_device.specs.declared.ends.End.{End}
+use Rattle.serve_device.specs.declared.ends.End.TheVariants.{AtEnd, TakenAway, Stopped}
+use Rattle.serve_device.specs.Readers.{AreServedBy, shared}
+use Rattle.serve_device.specs.Seats.{SeatState, end_of_all, new_seat}
 use Rattle.reply_model.specs.Readings.{Sourced}
 use Rattle.serve_core.specs.Headline.{bounds}
 use Rattle.serve_loop.specs.declared.done.Done.{Done}

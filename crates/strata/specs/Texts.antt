@@ -1,7 +1,7 @@
 -- What the program prints.
 use Rattle.std.specs.Prelude.{ℕ, ◌+◌, ◌-◌, ℤ, List, [], ◌∷◌, ◌++◌, length, replicate, codes, string_bytes, false}
 use Rattle.std.specs.Fmt.{decimal, digits, signed_decimal}
-use Rattle.command_line.specs.declared.version.TheConstants.{LOGIC, VERSION}
+use Rattle.strata_words.specs.declared.version.TheConstants.{LOGIC, VERSION}
 use Rattle.romfs_format.specs.declared.rule.ImageFault.{ImageFault}
 use Rattle.romfs_format.specs.Texts.{text_of}
 use Rattle.serve_core.specs.declared.stop.Stop.{Stop}

@@ -1,8 +1,8 @@
 //! The command `serve` over an open `/dev/fuse`, by several readers.
 
 ghost use Rattle.std.specs.Prelude.{◌≡◌, map, IfOk, IfErr};
-ghost use Rattle.command_line.specs.CommandLine.{IsInLimits};
-ghost use Rattle.device_readers.specs.Seats.{seat_of};
+ghost use Rattle.strata_words.specs.CommandLine.{IsInLimits};
+ghost use Rattle.serve_device.specs.Seats.{seat_of};
 ghost use Rattle.strata.specs.Ends.{end_states};
 ghost use Rattle.strata.specs.Readers.{AreShared, IsNotShared, IsRunByReaders, status_of_end};
 
@@ -11,14 +11,14 @@ use crate::faults::Fault;
 use crate::images::open_all;
 use crate::preparing::prepare;
 use crate::settings::{first_of, plan_of};
-use command_line::Line;
-use device_readers::{End, Seat, end_of_all, seats_over, serve_by_readers};
 use serve_core::{Counted, FreePass, MAX_TURNS, Served, Terms};
+use serve_device::{End, Seat, end_of_all, seats_over, serve_by_readers};
 use std::alloc::Allocator;
 use std::fs::Files;
 use std::io::{Read, Write};
 use std::os::unix::fs::FileExt;
 use std::thread::Threads;
+use strata_words::Line;
 
 /// Serves an open `/dev/fuse` over the images of a line with as many readers as it says, all of
 /// which use this reader and this writer, and returns the exit status, with the seats of the

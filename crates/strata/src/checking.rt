@@ -3,7 +3,7 @@
 ghost use Rattle.std.specs.Prelude.{◌≡◌, ◌<◌, ◌^◌, length, string_bytes, OnOk, IfOk, IfErr};
 ghost use Rattle.romfs_format.specs.Fields.{image};
 ghost use Rattle.romfs_format.specs.Rules.{IsSound};
-ghost use Rattle.image_files.specs.Opening.{loaded_bytes, loaded_contents};
+ghost use Rattle.romfs_files.specs.Opening.{loaded_bytes, loaded_contents};
 ghost use Rattle.strata.specs.Faults.{AreSizes, IsFirstFault, IsImageFault};
 ghost use Rattle.strata.specs.Texts.{size_lines};
 ghost use Rattle.strata.specs.Ending.{AreGood, AreNotGood};
@@ -11,8 +11,8 @@ ghost use Rattle.strata.specs.Ending.{AreGood, AreNotGood};
 use crate::faults::Fault;
 use crate::lines::put_lines;
 use devices::Sink;
-use image_files::LoadedImage;
-use romfs_check::{CheckFault, Profile, check_held};
+use romfs_files::LoadedImage;
+use romfs_image::{CheckFault, Profile, check_held};
 use std::alloc::{AllocError, Allocator};
 use std::io::Write;
 

@@ -14,8 +14,8 @@ ghost use Rattle.strata.specs.Ending.{AreNew};
 ghost use Rattle.strata.specs.Sessions.{accepting, fault_of, status_at, EndWith, IsSession, ServedSession};
 
 use crate::faults::Fault;
-use devices::{Clients, Listening, Sink, Source, Spout, Tap};
-use image_bytes::Contents;
+use devices::{Clients, Contents, Listening, Sink, Source, Spout, Tap};
+use node_reader::Table;
 use serve_core::{
     Counted, Done, FreePass, MAX_TURNS, Plan, Served, Session, Stop, Terms, run_from,
 };
@@ -23,7 +23,6 @@ use std::alloc::Allocator;
 use std::io::Write;
 use std::os::unix::net::{UnixListener, UnixStream};
 use std::thread::Threads;
-use table_reader::Table;
 
 /// Serves `count` sessions over a table of images held in full to the clients of a listener, one
 /// after another, and returns the exit status. Each begins in a fresh session, and has at most 2^40

@@ -1,8 +1,7 @@
 //! What a run of the program leaves: its exit status, and the ends that it ran between.
 
-use device_readers::Seat;
 use devices::{Spout, Tap};
-use fuse_device::{MessageTap, ReplySpout};
+use serve_device::{MessageTap, ReplySpout, Seat};
 use std::alloc::Allocator;
 
 /// The ends that the program ran between, by its line, as the run left them: over the reader `I`

@@ -8,16 +8,16 @@ ghost use Rattle.strata.specs.Texts.{fault_text, stop_text};
 
 use crate::lines::write_bytes;
 use arrayvec::ArrayString;
-use command_line::LineFault;
-use image_files::FilesFault;
-use path_list::ListFault;
-use romfs_check::ImageFault;
+use node_list::ListFault;
+use romfs_files::FilesFault;
+use romfs_image::ImageFault;
 use serve_core::Stop;
 use stack_prepare::Refusal;
 use std::alloc::{AllocError, AllocFailed};
 use std::fmt::Write as _;
 use std::io::Write;
 use std::{fmt, io};
+use strata_words::LineFault;
 
 /// How many bytes a line has room for before it is written: as many as a pipe takes at once.
 const LINE: usize = 4096;

@@ -5,14 +5,14 @@ ghost use Rattle.strata.specs.Faults.{AreUnread};
 ghost use Rattle.strata.specs.Images.{AreHeldFor, AreReadWhole, AreSmall, IsLoadingOf, NamesAsMany, HaveSources, are_whole, bytes_of, sources_of, trailers_of};
 
 use crate::faults::Fault;
-use command_line::Line;
-use held_image::HeldImage;
-use image_files::{ImageData, LoadedImage, Loading, Trailers, apart, load};
+use romfs_files::{ImageData, LoadedImage, Loading, Trailers, apart, load};
+use romfs_held::HeldImage;
 use std::alloc::Allocator;
 use std::fs;
 use std::fs::Files;
 use std::os::unix::fs::FileExt;
 use std::thread::Threads;
+use strata_words::Line;
 
 /// The most bytes, in all, of images that are read in full if no mount is served: to read this many
 /// takes less time than to gather what the rules check.

@@ -12,10 +12,10 @@
 //! held (`images`). Either way `preparing` makes one table of them, kept with the files;
 //! `specs/Images` and `serve_core` say what is answered about data in a file.
 //!
-//! `command_line` reads the arguments, `image_files` the files of images; `stack_prepare` checks
+//! `strata_words` reads the arguments, `romfs_files` the files of images; `stack_prepare` checks
 //! images and stacks them, for each command that needs their stack, `serve_core` serves a stream
-//! over that, `path_list` writes the paths that it shows, and `fuse_device` detects an unmount;
-//! `device_readers` serves a device with several readers (`by_readers`). `checking`, `listing`,
+//! over that, `node_list` writes the paths that it shows, and `serve_device` detects an unmount;
+//! `serve_device` serves a device with several readers (`by_readers`). `checking`, `listing`,
 //! `serving` and `listening` are the four commands; the first two use nothing that serves.
 #![tactic(auto)]
 
@@ -38,7 +38,7 @@ mod settings;
 mod version;
 
 pub use clients::{sessions, sessions_from};
-pub use command_line::{Line, LineFault, NoLine, line};
 pub use ends::{Ends, Ran};
 pub use faults::Fault;
 pub use program::{command, command_on_device, command_on_streams};
+pub use strata_words::{Line, LineFault, NoLine, line};

@@ -1,7 +1,7 @@
 //! The command `socket`.
 
 ghost use Rattle.std.specs.Prelude.{◌≡◌, ◌⊎◌, ℕ, List, is_some, true, IfOk, IfErr};
-ghost use Rattle.command_line.specs.CommandLine.{IsInLimits};
+ghost use Rattle.strata_words.specs.CommandLine.{IsInLimits};
 ghost use Rattle.fuse_answer.specs.Puts.{sourced_by};
 ghost use Rattle.strata.specs.Ending.{AreNotStacked, EndsAtSocket, IsNotBound};
 ghost use Rattle.strata.specs.Images.{ArePrepared, HaveSources, are_whole, bytes_of, profile_of, sources_of};
@@ -11,9 +11,7 @@ use crate::faults::Fault;
 use crate::images::LineImages;
 use crate::preparing::prepare;
 use crate::settings::{first_of, plan_of};
-use command_line::Line;
-use devices::Listening;
-use image_bytes::Contents;
+use devices::{Contents, Listening};
 use serve_core::Served;
 use std::alloc::Allocator;
 use std::fs::{self, Files};
@@ -22,6 +20,7 @@ use std::net::Net;
 use std::os::unix::fs::FileExt;
 use std::os::unix::net::UnixListener;
 use std::thread::Threads;
+use strata_words::Line;
 
 /// Checks and stacks the images, binds a socket at the line's path, serves its sessions over the
 /// stack and returns their status; at last the socket's file is removed. Faults of sessions are

@@ -1,21 +1,21 @@
 //! The command `list`.
 
 ghost use Rattle.std.specs.Prelude.{◌<◌, ◌^◌, ℕ, List, OnOk, IfErr};
-ghost use Rattle.node_attr.specs.declared.owner.TheConstants.Owner.{ROOT};
+ghost use Rattle.stack_model.specs.declared.owner.TheConstants.Owner.{ROOT};
 ghost use Rattle.romfs_format.specs.declared.rule.Profile.{Profile};
-ghost use Rattle.path_list.specs.Faults.{Lists};
+ghost use Rattle.node_list.specs.Faults.{Lists};
 ghost use Rattle.stack_prepare.specs.Preparing.{AreStacked};
 ghost use Rattle.strata.specs.Ending.{IsStackListed, IsNotListed};
 ghost use Rattle.strata.specs.Images.{bytes_of, profile_of};
 
 use crate::faults::Fault;
 use crate::settings::profile_of;
-use command_line::Line;
 use devices::Sink;
-use path_list::write_list;
+use node_list::write_list;
 use stack_prepare::{FreePass, HeldImage, Owner, Table, prepare};
 use std::alloc::Allocator;
 use std::thread::Threads;
+use strata_words::Line;
 
 /// Checks the images, stacks them, and puts a line for each visible path. If an image is broken
 /// nothing is put.

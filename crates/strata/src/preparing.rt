@@ -7,11 +7,11 @@ ghost use Rattle.strata.specs.Images.{ArePrepared, HaveSources, are_whole, bytes
 
 use crate::images::LineImages;
 use crate::settings::profile_of;
-use command_line::Line;
-use image_files::ImageData;
+use romfs_files::ImageData;
 use stack_prepare::{FreePass, Refusal, Table};
 use std::alloc::Allocator;
 use std::thread::Threads;
+use strata_words::Line;
 
 /// The table of the images of a line, checked by its rules, and what the data of its layers are
 /// read from that it does not hold.

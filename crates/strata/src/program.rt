@@ -7,9 +7,9 @@
 //! Its functions repeat the same bounds: no trait can replace those on `R::File` and `R::Dir`.
 
 ghost use Rattle.std.specs.Prelude.{◌≡◌, ℕ, List, map, true, false, Ok, Err, IfOk, IfErr, MatchResult};
-ghost use Rattle.command_line.specs.CommandLine.{IsInLimits, IsLineOf, NamesSocket};
+ghost use Rattle.strata_words.specs.CommandLine.{IsInLimits, IsLineOf, NamesSocket};
 ghost use Rattle.devices.specs.States.{devices};
-ghost use Rattle.fuse_device.specs.Ends.{ends};
+ghost use Rattle.serve_device.specs.MountEnds.{ends};
 ghost use Rattle.strata.specs.Ending.{AreNew, EndsInFault, IsOverWith, IsRunOf};
 ghost use Rattle.strata.specs.Ends.{end_states, given};
 ghost use Rattle.strata.specs.Mounts.{status_on_device, IsRunAsSaid, IsRunBy, IsRunMounted, IsRunOnDevice};
@@ -24,10 +24,9 @@ use crate::listing::list;
 use crate::serving::serve;
 use crate::settings::profile_of;
 use crate::version::tell_version;
-use command_line::{Line, NoLine, Verb, line};
 use devices::{Sink, Source, Spout, Tap};
-use fuse_device::{MessageTap, ReplySpout};
 use serve_core::Stop;
+use serve_device::{MessageTap, ReplySpout};
 use std::alloc::{Allocator, Global};
 use std::convert::AsStr;
 use std::fs::Files;
@@ -35,6 +34,7 @@ use std::io::{Read, Write};
 use std::net::Net;
 use std::os::unix::fs::FileExt;
 use std::thread::Threads;
+use strata_words::{Line, NoLine, Verb, line};
 
 /// Runs the program on the arguments after its name, over a reader and a writer that were not used
 /// before, and returns its exit status, with the ends that it ran between as it left them. The
@@ -44,7 +44,7 @@ use std::thread::Threads;
 /// touched. A request for the version prints its line.
 ///
 /// What it then does is said of [`command_on_device`] and [`command_on_streams`], and of several
-/// readers in `device_readers`. Memory comes from `alloc`, but for the command line: `clap` takes
+/// readers in `serve_device`. Memory comes from `alloc`, but for the command line: `clap` takes
 /// the global allocator alone.
 pub fn command<
     R: Files + Net + Threads + Sync,

@@ -3,7 +3,7 @@
 ghost use Rattle.std.specs.Prelude.{◌≡◌, ℕ, List, is_some, IfOk, OnOk, IfErr};
 ghost use Rattle.std.specs.Io.KnownBytes.{IsAtEnd};
 ghost use Rattle.devices.specs.States.{Devices, devices};
-ghost use Rattle.command_line.specs.CommandLine.{IsInLimits};
+ghost use Rattle.strata_words.specs.CommandLine.{IsInLimits};
 ghost use Rattle.fuse_answer.specs.Puts.{sourced_by};
 ghost use Rattle.serve_loop.specs.Serving.{Trace, Does};
 ghost use Rattle.strata.specs.Ending.{AreNamed, AreNew, Gave, GetsReplies, IsFileFault, IsServing, IsServedWhole, IsSessionOf, IsNotServed};
@@ -15,15 +15,14 @@ use crate::files::{create_named, open_requests};
 use crate::images::LineImages;
 use crate::preparing::prepare;
 use crate::settings::{counted_of, first_of, plan_of};
-use command_line::Line;
-use devices::{Sink, Source, Spout, Tap};
-use image_bytes::Contents;
+use devices::{Contents, Sink, Source, Spout, Tap};
 use serve_core::{Done, FreePass, MAX_TURNS, Served, Stop, Terms, run_from};
 use std::alloc::Allocator;
 use std::fs::Files;
 use std::io::{Read, Write};
 use std::os::unix::fs::FileExt;
 use std::thread::Threads;
+use strata_words::Line;
 
 /// Checks the images, stacks them, and answers the requests from a file, or else the input, over
 /// the stack, to a file, or else the output, as they come. If an image is broken neither the input

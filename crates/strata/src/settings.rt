@@ -2,12 +2,12 @@
 //! nodes whose lookups are counted, and the plan.
 
 ghost use Rattle.std.specs.Prelude.{◌≡◌};
-ghost use Rattle.command_line.specs.CommandLine.{IsInLimits};
+ghost use Rattle.strata_words.specs.CommandLine.{IsInLimits};
 ghost use Rattle.strata.specs.Ending.{counted_of, first_of};
 ghost use Rattle.strata.specs.Images.{profile_of};
 
-use command_line::Line;
 use serve_core::{Counted, Plan, Profile, Session};
+use strata_words::Line;
 
 /// The rules that the line holds images to, and whether their attributes are read.
 pub fn profile_of(line: &Line<'_>) -> Profile

@@ -6,10 +6,10 @@ ghost use Rattle.strata.specs.Texts.{version_line};
 
 use crate::faults::Fault;
 use crate::lines::put_lines;
-use command_line::version::{LOGIC, VERSION};
 use devices::Sink;
 use std::alloc::{AllocError, Allocator};
 use std::io::Write;
+use strata_words::version::{LOGIC, VERSION};
 
 /// Puts the line of the version, and gives the exit status: 0, or that of a fault, whose line goes
 /// to `faults`.

@@ -1,12 +1,12 @@
 //! Refuses a standard input that cannot hold requests. No contract covers this: it depends on what
 //! the system reports.
 
-use command_line::{Line, Verb, line};
 use std::alloc::Global;
 use std::fs;
 use std::fs::Files;
 use std::os::unix::fs::{FileTypeExt, MetadataExt};
 use strata::Fault;
+use strata_words::{Line, Verb, line};
 
 /// Standard input, as Linux names what a process has open.
 const INPUT: &str = "/proc/self/fd/0";

@@ -3,7 +3,6 @@
 
 mod input;
 
-use command_line::words;
 use input::unfit_input;
 use std::alloc::Allocator;
 use std::fs;
@@ -11,6 +10,7 @@ use std::fs::Files;
 use std::io::IsTerminal;
 use std::process::ExitCode;
 use strata::{Fault, command};
+use strata_words::words;
 
 /// Freed blocks of up to this size are kept for later allocations.
 const KEPT: usize = 0x40_0000;

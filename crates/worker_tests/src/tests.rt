@@ -2,6 +2,8 @@
 
 mod answers;
 mod batches;
+mod drawing;
+mod draws;
 mod gates;
 mod jobs;
 mod memory;

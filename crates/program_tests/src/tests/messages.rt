@@ -1,7 +1,7 @@
 //! A source over a reader that gives one complete message a read.
 
 use devices::Source;
-use fuse_device::MessageTap;
+use serve_device::MessageTap;
 use std::alloc::{AllocError, Global};
 use std::io::{self, Error, Read};
 use std::test::Fail;

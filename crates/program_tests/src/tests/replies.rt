@@ -1,7 +1,7 @@
 //! A sink over a writer that takes one complete reply a write.
 
 use devices::{Sink, hand_on};
-use fuse_device::ReplySpout;
+use serve_device::ReplySpout;
 use std::alloc::{AllocError, Global};
 use std::io::{self, Error, Write};
 use std::test::Fail;

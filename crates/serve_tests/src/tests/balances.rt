@@ -2,12 +2,12 @@
 
 ghost use Rattle.std.specs.Prelude.{◌≡◌, true};
 
+use node_reader::Table;
 use serve_test_kit::runs::{by, ran, sample_table};
 use stack_core::FreePass;
 use std::alloc::Global;
 use std::test::Fail;
 use std::thread::Threads;
-use table_reader::Table;
 use test_kit::script::lookups;
 
 /// Whether a run of the lookups over a table, by a plan, leaves their balances.

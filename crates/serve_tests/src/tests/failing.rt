@@ -2,12 +2,12 @@
 
 ghost use Rattle.std.specs.Prelude.{◌≡◌, true};
 
+use node_reader::Table;
 use serve_core::Stop;
 use serve_test_kit::runs::{End, Run, Seen, WHOLE, run_over, sample_table};
 use std::alloc::Global;
 use std::test::Fail;
 use std::thread::Threads;
-use table_reader::Table;
 use test_kit::script::{script, script_replies};
 
 /// The plans by which each is tried: workers, and the messages of a batch.

@@ -2,13 +2,13 @@
 
 ghost use Rattle.std.specs.Prelude.{◌≡◌, true};
 
+use node_reader::Table;
 use serve_core::prepare;
 use serve_test_kit::runs::{by, long_table, ran, sample_table};
 use stack_core::{Gate, Work};
 use std::alloc::Global;
 use std::test::Fail;
 use std::thread::Threads;
-use table_reader::Table;
 use test_kit::gates::{Crowd, Holding, MANY, Recording, parts_of_layers};
 use test_kit::long::{Long, stream};
 use test_kit::sample_images::{alone, empties, sample};

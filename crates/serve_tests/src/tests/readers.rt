@@ -2,16 +2,16 @@
 
 ghost use Rattle.std.specs.Prelude.{◌≡◌, true, IfSome};
 
-use device_readers::{End, Seat, end_of_all, seats_over, serve_by_readers};
+use node_reader::Table;
 use serve_core::{
     Counted, Done, FreePass, Gate, MAX_TURNS, Plan, Served, Session, Stop, Terms, Work,
 };
+use serve_device::{End, Seat, end_of_all, seats_over, serve_by_readers};
 use serve_test_kit::runs::table_of;
 use std::alloc::Allocator;
 use std::io::{self, Error, Read, Write};
 use std::sync::atomic::{AtomicU64, Ordering};
 use std::thread::Threads;
-use table_reader::Table;
 use test_kit::gates::MANY;
 use test_kit::memories::{Memories, refuse_in_turn};
 use test_kit::messages::{REPLIES, REQUESTS};

@@ -1,13 +1,13 @@
 //! Data in a file that gives little at a time and fails from a place on: a READ gets its bytes or
 //! EIO, and the run continues.
 
-use image_bytes::{Contents, Unread};
+use devices::{Contents, Unread};
+use node_reader::Table;
 use serve_core::Served;
 use serve_test_kit::runs::{ran_from, sample_table};
 use std::alloc::Global;
 use std::test::Fail;
 use std::thread::Threads;
-use table_reader::Table;
 use test_kit::sample_images::sample;
 use test_kit::script::{script, script_replies};
 
@@ -23,7 +23,7 @@ struct Slow<'a> {
 
 impl Contents for Slow<'_> {
     ghost use Rattle.std.specs.Prelude.{None};
-    ghost use Rattle.image_bytes.specs.Sources.{unknown};
+    ghost use Rattle.devices.specs.Sources.{unknown};
 
     ghost contents = { λ _. None };
 

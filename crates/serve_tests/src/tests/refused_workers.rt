@@ -2,13 +2,13 @@
 
 ghost use Rattle.std.specs.Prelude.{◌≡◌, true};
 
+use node_reader::Table;
 use serve_core::Stop;
 use serve_test_kit::runs::{by, long_table, ran, run_over};
 use stack_core::FreePass;
 use std::alloc::Global;
 use std::test::Fail;
 use std::thread::Threads;
-use table_reader::Table;
 use test_kit::long::{Long, stream};
 use test_kit::memories::{Memories, refuse_in_turn};
 use test_kit::refusing::Refusing;

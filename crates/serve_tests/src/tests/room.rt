@@ -2,12 +2,12 @@
 
 ghost use Rattle.std.specs.Prelude.{◌≡◌, true};
 
+use node_reader::Table;
 use serve_test_kit::runs::{by, ran, table_of};
 use stack_core::FreePass;
 use std::alloc::Global;
 use std::test::Fail;
 use std::thread::Threads;
-use table_reader::Table;
 use test_kit::long::{mebibyte, reads};
 use test_kit::refusing::Refusing;
 use test_kit::sample_images::alone;

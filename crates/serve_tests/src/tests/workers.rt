@@ -2,13 +2,13 @@
 
 ghost use Rattle.std.specs.Prelude.{◌≡◌, true};
 
+use node_reader::Table;
 use serve_test_kit::runs::{Finished, by, long_table, ran};
 use stack_core::{FreePass, Gate, Work};
 use std::alloc::Global;
 use std::sync::atomic::{AtomicU64, Ordering};
 use std::test::Fail;
 use std::thread::Threads;
-use table_reader::Table;
 use test_kit::long::{Long, stream};
 
 /// How many requests a stream has: enough for the first round, which has INIT and is answered by

@@ -1,7 +1,7 @@
 use Rattle.std.specs.Prelude.{if◌then◌else◌, is_some}
 use Rattle.std.proofs.Common.{◌≡◌, ◌∙◌, [], ap, refl, subst, sym}
 use Rattle.std.proofs.lemmas.Result.{err_from_is_err_and}
-use Rattle.lookup_balances.specs.Balances.{IsMoved}
+use Rattle.reply_model.specs.Balances.{IsMoved}
 use Rattle.stack_model.specs.Listing.{Stacked}
 use Rattle.fuse_wire.specs.Requests.{Asked}
 use Rattle.reply_model.specs.declared.session.Session.{Session}

@@ -1,6 +1,6 @@
 use Rattle.std.proofs.Common.{◌≡◌, ◌∙◌, sym, ap, Some, ◌+◌, ◌-◌, get_or, arith}
 use Rattle.std.specs.Prelude.{codes}
-use Rattle.table_reader.specs.Rows.{Line}
+use Rattle.node_reader.specs.Rows.{Line}
 use Rattle.fuse_answer.proofs.Writing.{line_there}
 use Rattle.fuse_answer.proofs.rows.line_at.Goals as goal
 

@@ -1,6 +1,6 @@
 use Rattle.std.proofs.Common.{◌∙◌, ap, Some, ◌+◌, ◌-◌, get_or, arith, refl}
 use Rattle.std.specs.Prelude.{codes}
-use Rattle.table_reader.specs.Rows.{Line}
+use Rattle.node_reader.specs.Rows.{Line}
 use Rattle.fuse_answer.proofs.Writing.{line_there, padded_line}
 use Rattle.fuse_answer.proofs.rows.padded_at.Goals as goal
 

@@ -4,7 +4,7 @@ use Rattle.std.proofs.lemmas.Option.{slice_get_past, slice_get_read}
 use Rattle.fuse_wire.specs.Replies.{reply_with}
 use Rattle.fuse_wire.specs.Told.{AppendsTold, Reading}
 use Rattle.stack_model.specs.Attributes.{data_of}
-use Rattle.table_reader.specs.Readers.{placed}
+use Rattle.node_reader.specs.Readers.{placed}
 use Rattle.reply_model.specs.Readings.{data_reading}
 use Rattle.fuse_answer.specs.Answers.{part_data}
 use Rattle.fuse_answer.specs.Puts.{sourced_by}

@@ -1,5 +1,5 @@
 use Rattle.std.proofs.Common.{length, ◌+◌, ◌*◌}
-use Rattle.name_tree.specs.Rows.{spread}
+use Rattle.layer_paths.specs.Rows.{spread}
 use Rattle.layer_tree.proofs.Meeting.{IsMeeting}
 use Rattle.layer_tree.proofs.apart.+meeting.Given as goal
 

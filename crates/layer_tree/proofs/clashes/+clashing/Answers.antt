@@ -1,7 +1,7 @@
 use Rattle.std.proofs.Common.{rules, ◌≡◌, sym, refl, length, arith, false}
 use Rattle.std.proofs.lemmas.Bool.{eqb-true}
 use Rattle.std.proofs.lemmas.List.{nil_from_length}
-use Rattle.tree_merge.proofs.Rising.{branch_rises}
+use Rattle.layer_paths.proofs.Rising.{branch_rises}
 use Rattle.layer_tree.proofs.Clashing.{folders, unmarked_folder, nothing_there, no_clash, one_clash, deeper_measure, clashing_ended}
 use Rattle.layer_tree.proofs.Stepping.{shorter}
 use Rattle.layer_tree.proofs.clashes.+clashing.Goals as goal

@@ -1,4 +1,4 @@
-use Rattle.whiteout_tree.proofs.Listed.{is_listing}
+use Rattle.layer_paths.proofs.Listed.{is_listing}
 use Rattle.layer_tree.proofs.laws.entries_are_the_listing.Goals as goal
 
 pub returns : goal.returns

@@ -1,7 +1,7 @@
 use Rattle.std.proofs.Common.{rules, ◌≡◌, sym, refl, None}
 use Rattle.std.proofs.lemmas.List.{append-nil, nil_from_length}
-use Rattle.name_tree.specs.Rows.{spread}
-use Rattle.tree_merge.proofs.Merging.{shown, some_shown, nothing_shown}
+use Rattle.layer_paths.specs.Rows.{spread}
+use Rattle.layer_paths.proofs.Merging.{shown, some_shown, nothing_shown}
 use Rattle.layer_tree.proofs.Stepping.{keeping_begun, keeping_ended, untouched, kept_or_not, mark_measure, shorter, some_first, all_cut, alone, inside, kept_first, with_children}
 use Rattle.layer_tree.proofs.Picking.{picking_begun, picking_ended, one_more, next_measure, in_gap, cut_at, at_place_if}
 use Rattle.layer_tree.proofs.laying.+keeping.Goals as goal

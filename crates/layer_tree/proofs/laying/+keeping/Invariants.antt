@@ -1,5 +1,5 @@
 use Rattle.std.proofs.Common.{length, ◌+◌, ◌*◌}
-use Rattle.name_tree.specs.Rows.{spread}
+use Rattle.layer_paths.specs.Rows.{spread}
 use Rattle.layer_tree.proofs.Stepping.{Keeping}
 use Rattle.layer_tree.proofs.Picking.{Picking}
 use Rattle.layer_tree.proofs.laying.+keeping.Given as goal

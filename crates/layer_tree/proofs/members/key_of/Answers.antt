@@ -1,5 +1,5 @@
 use Rattle.std.proofs.Common.{arith}
-use Rattle.name_lookup.proofs.Order.{all_bytes}
+use Rattle.layer_names.proofs.Order.{all_bytes}
 use Rattle.layer_tree.proofs.members.key_of.Goals as goal
 
 pub returns-clause-bytes : goal.returns-clause-bytes

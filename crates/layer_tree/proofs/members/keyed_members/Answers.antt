@@ -4,7 +4,7 @@ use Rattle.std.proofs.lemmas.List.Elements.{All-tail, All-push}
 use Rattle.romfs_format.specs.declared.head.Head.{Head}
 use Rattle.romfs_format.specs.Heads.{name_of}
 use Rattle.romfs_reader.specs.Readers.{IsGiven}
-use Rattle.name_lookup.specs.Keys.{key, AreBytes}
+use Rattle.layer_names.specs.Keys.{key, AreBytes}
 use Rattle.layer_tree.specs.Members.{HasFront, IsRead, IsKeyed}
 use Rattle.layer_tree.proofs.Keyed.{first_or_more, one_front}
 use Rattle.layer_tree.proofs.ByName.{found_one}

@@ -1,6 +1,6 @@
 use Rattle.std.proofs.Common.{◌∙◌, ◌<◌, ap, length, drop, arith}
 use Rattle.std.proofs.lemmas.List.{take_rest}
-use Rattle.name_lookup.specs.Keys.{key}
+use Rattle.layer_names.specs.Keys.{key}
 use Rattle.layer_tree.proofs.Building.{nowhere_kept}
 use Rattle.layer_tree.proofs.Keyed.{one_keyed, still_read, still_long}
 use Rattle.layer_tree.proofs.members.set_keys.Goals as goal

@@ -3,7 +3,7 @@ use Rattle.std.specs.Ordering.{is_lt}
 use Rattle.std.proofs.lemmas.Cmp.{nat_list_cmp_total}
 use Rattle.std.proofs.lemmas.Fn.{always_returns_same}
 use Rattle.std.proofs.lemmas.List.Sorted.{ranks_by, All-permutation}
-use Rattle.name_tree.specs.Rows.{name_cmp}
+use Rattle.layer_paths.specs.Rows.{name_cmp}
 use Rattle.layer_tree.specs.Members.{IsKeyed, key_and_name}
 use Rattle.layer_tree.proofs.Keyed.{by_name}
 use Rattle.layer_tree.proofs.members.sort_by_name.Goals as goal

@@ -3,7 +3,7 @@ use Rattle.std.proofs.lemmas.List.{append-nil}
 use Rattle.romfs_format.specs.declared.head.Head.{Head}
 use Rattle.romfs_format.specs.declared.head.Kind.TheVariants.{Directory}
 use Rattle.romfs_format.specs.Fields.{kind}
-use Rattle.whiteout_tree.proofs.Listed.{kind_read}
+use Rattle.layer_paths.proofs.Listed.{kind_read}
 use Rattle.layer_tree.proofs.Entering.{no_directory, entered}
 use Rattle.layer_tree.proofs.Folding.{single}
 use Rattle.layer_tree.proofs.reading.add_file.Goals as goal

@@ -4,7 +4,7 @@ use Rattle.romfs_format.specs.declared.head.Head.{Head}
 use Rattle.romfs_format.specs.declared.head.Kind.TheVariants.{Directory}
 use Rattle.romfs_format.specs.Fields.{kind}
 use Rattle.stack_model.specs.Stack.{opaque}
-use Rattle.name_tree.specs.Rows.{named}
+use Rattle.layer_paths.specs.Rows.{named}
 use Rattle.layer_tree.specs.Members.{members_in}
 use Rattle.layer_tree.specs.Reading.{HasNamed, rest_of_opaque}
 use Rattle.layer_tree.proofs.Building.{forests, white_forest}

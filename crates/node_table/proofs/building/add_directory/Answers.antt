@@ -1,8 +1,8 @@
 use Rattle.std.proofs.Common.{◌≡◌, List, length, refl, subst, sym, arith}
-use Rattle.name_lookup.specs.Names.{Rise}
-use Rattle.name_lookup.specs.Keyed.{AddsKeys}
+use Rattle.layer_names.specs.Names.{Rise}
+use Rattle.layer_names.specs.Keyed.{AddsKeys}
 use Rattle.node_table.specs.Numbering.{number_among}
-use Rattle.table_reader.specs.Rows.{Line, names}
+use Rattle.node_reader.specs.Rows.{Line, names}
 use Rattle.node_table.specs.Building.{line_in}
 use Rattle.std.specs.Prelude.{map}
 use Rattle.node_table.proofs.Built.{fresh_lines, start_within, names_rise}

@@ -2,7 +2,7 @@ use Rattle.std.proofs.lemmas.Grind.{common_steps}
 use Rattle.std.proofs.Common.{◌≡◌, ◌<◌, ◌+◌, ◌∙◌, length, List, ℕ, sym, ap, subst, drop, arith}
 use Rattle.std.proofs.lemmas.List.{get_or_default}
 use Rattle.node_table.specs.Numbering.{number_among}
-use Rattle.table_reader.specs.Rows.{Line}
+use Rattle.node_reader.specs.Rows.{Line}
 use Rattle.node_table.specs.Building.{line_in, AreFollowing}
 use Rattle.node_table.proofs.Built.{AddsRow, directory, other, follows}
 use Rattle.node_table.proofs.building.add_rows.Goals as goal

@@ -1,6 +1,6 @@
 use Rattle.std.proofs.Common.{List}
 use Rattle.stack_model.specs.Listing.{Entry as Listed, stacked}
-use Rattle.whiteout_tree.specs.declared.place.Entry.{Entry}
+use Rattle.layer_paths.specs.declared.entries.Entry.{Entry}
 use Rattle.node_table.specs.Walks.{Visit, walk_of}
 use Rattle.node_table.specs.Numbering.{number_among}
 use Rattle.node_table.specs.Building.{number_above, StandAtStarts}

@@ -1,5 +1,5 @@
 use Rattle.std.proofs.Common.{◌≡◌, List, length, take}
-use Rattle.whiteout_tree.specs.declared.place.Entry.{Entry}
+use Rattle.layer_paths.specs.declared.entries.Entry.{Entry}
 use Rattle.node_table.specs.Walks.{Visit}
 use Rattle.node_table.specs.Numbering.{IsNumbered}
 use Rattle.node_table.proofs.numbering.number_shared.Given as goal

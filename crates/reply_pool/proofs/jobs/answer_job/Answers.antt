@@ -2,7 +2,7 @@ use Rattle.std.proofs.Common.{◌≡◌, ◌∙◌, ◌+◌, ◌≤◌, ◌^◌,
 use Rattle.fuse_wire.specs.Reads.{asked_of}
 use Rattle.reply_model.specs.declared.moves.Move.{Move}
 use Rattle.reply_model.specs.Moves.{moves}
-use Rattle.reply_pieces.proofs.Few.{few_moves}
+use Rattle.reply_rounds.proofs.Few.{few_moves}
 use Rattle.reply_pool.proofs.jobs.answer_job.Goals as goal
 
 grown : {E : Type 0} (r : Result (Unit {0}) E) (old new more : List Move) → OnOk r (new ≡ old ++ more) → length more ≤ 2 ^ 32

@@ -2,10 +2,10 @@ use Rattle.std.proofs.Common.{◌*◌, ◌^◌, ◌≤◌, unsigned_abs, List, [
 use Rattle.std.proofs.lemmas.List.Elements.{All-head, All-nil, All-tail}
 use Rattle.fuse_answer.specs.Puts.{AreSmall, sourced_by}
 use Rattle.reply_model.specs.declared.moves.Move.{Move}
-use Rattle.lookup_balances.specs.Balances.{weight}
-use Rattle.reply_pieces.specs.Jobs.{moved_by}
-use Rattle.reply_pieces.specs.Sums.{AreSums}
-use Rattle.reply_pieces.proofs.Told.{replies_all, reply_on, told_all, told_on}
+use Rattle.reply_model.specs.Balances.{weight}
+use Rattle.reply_rounds.specs.Jobs.{moved_by}
+use Rattle.reply_rounds.specs.Sums.{AreSums}
+use Rattle.reply_rounds.proofs.Told.{replies_all, reply_on, told_all, told_on}
 use Rattle.reply_pool.proofs.jobs.answer_jobs.Goals as goal
 
 -- small moves weigh 64 bits each at most

@@ -1,7 +1,7 @@
 use Rattle.std.proofs.Common.{◌≡◌, ◌*◌, ◌^◌, ◌≤◌, length, take}
 use Rattle.std.specs.List.{flat_map}
 use Rattle.fuse_answer.specs.Puts.{AreSmall, sourced_by}
-use Rattle.reply_pieces.specs.Jobs.{AreReplied, moved_by}
+use Rattle.reply_rounds.specs.Jobs.{AreReplied, moved_by}
 use Rattle.reply_pool.proofs.jobs.answer_jobs.Given as goal
 
 -- the replies and moves of the jobs so far, and that these are few and small

@@ -3,7 +3,7 @@ use Rattle.fuse_wire.specs.declared.forget.Forgets.{Forgets}
 use Rattle.fuse_wire.specs.declared.request.Op.{Op}
 use Rattle.fuse_wire.specs.declared.request.Op.TheVariants.{Init, Lookup, Forget, Getattr, Readlink, Open, Read, Statfs, Release, Fsync, Flush, Opendir, Readdir, Releasedir, Fsyncdir, Interrupt, Destroy, BatchForget, Readdirplus, Modify, Other, Malformed}
 use Rattle.fuse_wire.specs.Reads.{op_said}
-use Rattle.reply_pieces.specs.Jobs.{HasFewItems}
+use Rattle.reply_rounds.specs.Jobs.{HasFewItems}
 use Rattle.reply_pool.proofs.jobs.few_items_of.Goals as goal
 
 -- all others have no items

@@ -2,7 +2,7 @@ use Rattle.std.proofs.Common.{◌∙◌, ℕ, ap}
 use Rattle.std.specs.List.{range_with_len}
 use Rattle.draw_board.specs.Positions.{times}
 use Rattle.fuse_answer.specs.Puts.{sourced_by}
-use Rattle.reply_pieces.proofs.Hands.{alone, closed, whole}
+use Rattle.reply_rounds.proofs.Hands.{alone, closed, whole}
 use Rattle.reply_pool.proofs.laws.each_batch_once.Goals as goal
 
 pub returns : goal.returns

@@ -2,9 +2,9 @@ use Rattle.std.proofs.Common.{◌≡◌, ◌≤◌, ℕ, ap, arith, length, subs
 use Rattle.std.specs.Vec.{vec_items}
 use Rattle.std.proofs.Math.Facts.{Fits-lt-pow}
 use Rattle.serve_loop.specs.declared.limits.TheConstants.{MAX_ROUND_MESSAGES}
-use Rattle.reply_pieces.specs.Batches.{batches}
-use Rattle.reply_pieces.specs.Spread.{AreFirstJobs}
-use Rattle.reply_pieces.proofs.Batched.{batches_few}
+use Rattle.reply_rounds.specs.Batches.{batches}
+use Rattle.reply_rounds.specs.Spread.{AreFirstJobs}
+use Rattle.reply_rounds.proofs.Batched.{batches_few}
 use Rattle.reply_pool.proofs.spread.spread_out.Goals as goal
 
 pub returns : goal.returns

@@ -5,8 +5,8 @@ use Rattle.fuse_wire.specs.Requests.{Asked}
 use Rattle.fuse_wire.specs.Stream.{IsRest}
 use Rattle.reply_model.specs.Sessions.{session_after}
 use Rattle.serve_loop.proofs.Walking.{first_within, one_first}
-use Rattle.reply_pieces.specs.Jobs.{Job}
-use Rattle.reply_pieces.proofs.Spreading.{none_taken, one_taken}
+use Rattle.reply_rounds.specs.Jobs.{Job}
+use Rattle.reply_rounds.proofs.Spreading.{none_taken, one_taken}
 use Rattle.reply_pool.proofs.spread.take_jobs.Goals as goal
 use Rattle.reply_pool.proofs.spread.take_jobs.Goals.{else-loop-round-test, then-loop-round-test+in-Bad, then-loop-round-test+in-More}
 

@@ -1,5 +1,5 @@
 use Rattle.std.proofs.Common.{◌≡◌, ◌≤◌, ◌-◌, length}
-use Rattle.reply_pieces.specs.Spread.{AreFirstJobs}
+use Rattle.reply_rounds.specs.Spread.{AreFirstJobs}
 use Rattle.reply_pool.proofs.spread.take_jobs.Given as goal
 
 -- a job for each of the first messages so far, which are no more than asked for

@@ -7,13 +7,13 @@ use Rattle.std.proofs.lemmas.Result.{IfOk-from_err}
 use Rattle.draw_board.specs.declared.board.Board.{Board}
 use Rattle.draw_board.specs.declared.hand.Hand.{Hand}
 use Rattle.draw_board.specs.Hands.{KeepsShare, left, positions, seen_below, total_of}
-use Rattle.lookup_balances.specs.Balances.{weight}
-use Rattle.reply_pieces.specs.declared.pieces.Piece.{Piece}
+use Rattle.reply_model.specs.Balances.{weight}
+use Rattle.reply_rounds.specs.declared.pieces.Piece.{Piece}
 use Rattle.fuse_answer.specs.Puts.{sourced_by}
-use Rattle.reply_pieces.specs.Batches.{AreLight, IsPiece, numbers_of}
-use Rattle.reply_pieces.specs.Workers.{KeepsHand}
-use Rattle.reply_pieces.proofs.Batched.{begins_within}
-use Rattle.reply_pieces.proofs.Hands.{answered_below, numbers_miss, piece_of, told_more, unanswered}
+use Rattle.reply_rounds.specs.Batches.{AreLight, IsPiece, numbers_of}
+use Rattle.reply_rounds.specs.Workers.{KeepsHand}
+use Rattle.reply_rounds.proofs.Batched.{begins_within}
+use Rattle.reply_rounds.proofs.Hands.{answered_below, numbers_miss, piece_of, told_more, unanswered}
 use Rattle.reply_pool.proofs.worker.work.Goals as goal
 
 -- one draw more keeps the hand's share, and what it drew before

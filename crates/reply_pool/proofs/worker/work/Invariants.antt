@@ -3,7 +3,7 @@ use Rattle.std.specs.List.{All}
 use Rattle.draw_board.specs.Hands.{KeepsShare, positions, seen_below, total_of}
 use Rattle.draw_board.specs.Positions.{numbers}
 use Rattle.fuse_answer.specs.Puts.{sourced_by}
-use Rattle.reply_pieces.specs.Batches.{AreLight, IsPiece, numbers_of}
+use Rattle.reply_rounds.specs.Batches.{AreLight, IsPiece, numbers_of}
 use Rattle.reply_pool.proofs.worker.work.Given as goal
 
 -- a piece for each number that the hand has drawn so far, which answers its batch and is light

@@ -2,7 +2,7 @@ use Rattle.std.proofs.Common.{arith}
 use Rattle.std.proofs.lemmas.Grind.{common_steps}
 use Rattle.std.proofs.lemmas.Result.{IfOk-weaker}
 use Rattle.fuse_answer.specs.Puts.{sourced_by}
-use Rattle.reply_pieces.proofs.Hands.{both_all, fresh_all, light_both}
+use Rattle.reply_rounds.proofs.Hands.{both_all, fresh_all, light_both}
 use Rattle.reply_pool.proofs.workers.+crew.Goals as goal
 
 pub returns-clause-pieces : goal.returns-clause-pieces

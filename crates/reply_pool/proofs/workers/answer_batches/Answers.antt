@@ -1,6 +1,6 @@
 use Rattle.std.proofs.Common.{◌∙◌, sym}
 use Rattle.fuse_answer.specs.Puts.{sourced_by}
-use Rattle.reply_pieces.proofs.Hands.{every_batch, no_batch}
+use Rattle.reply_rounds.proofs.Hands.{every_batch, no_batch}
 use Rattle.reply_pool.proofs.workers.answer_batches.Goals as goal
 
 pub returns-then-total-eq0 : goal.returns-then-total-eq0

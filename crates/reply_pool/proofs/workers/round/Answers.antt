@@ -1,9 +1,9 @@
 use Rattle.std.proofs.Common.{ℕ, length}
 use Rattle.std.proofs.lemmas.Result.{IfOk-weaker}
 use Rattle.fuse_answer.specs.Puts.{sourced_by}
-use Rattle.reply_pieces.specs.Batches.{batches}
-use Rattle.reply_pieces.proofs.Batched.{batches_few}
-use Rattle.reply_pieces.proofs.Hands.{rounds}
+use Rattle.reply_rounds.specs.Batches.{batches}
+use Rattle.reply_rounds.proofs.Batched.{batches_few}
+use Rattle.reply_rounds.proofs.Hands.{rounds}
 use Rattle.reply_pool.proofs.workers.round.Goals as goal
 
 pub in_order-requires-clause-once : goal.in_order-requires-clause-once

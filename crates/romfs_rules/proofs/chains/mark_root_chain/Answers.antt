@@ -1,6 +1,6 @@
 use Rattle.std.proofs.Common.{ap, ◌∙◌, ◌/◌, refl, arith}
 use Rattle.romfs_format.specs.Fields.{cleared}
-use Rattle.successor_graph.proofs.Marks.{marks_fall}
+use Rattle.romfs_sets.proofs.Marks.{marks_fall}
 use Rattle.romfs_rules.proofs.RootWalk.{begun, steps, all_marked}
 use Rattle.romfs_rules.proofs.chains.mark_root_chain.Goals as goal
 

@@ -1,5 +1,5 @@
 use Rattle.std.proofs.Common.{◌<◌, ◌^◌}
-use Rattle.successor_graph.proofs.Marks.{unmarked}
+use Rattle.romfs_sets.proofs.Marks.{unmarked}
 use Rattle.romfs_rules.proofs.RootWalk.{Walked}
 use Rattle.romfs_rules.proofs.chains.mark_root_chain.Given as goal
 

@@ -1,6 +1,6 @@
 use Rattle.std.proofs.Common.{ℕ, List, Option, MatchOption, length, subst, sym}
 use Rattle.std.proofs.lemmas.Result.{IfOk-weaker}
-use Rattle.duplicate_keys.specs.Names.{HoldTheShared, AreClasses, AreNamesApart}
+use Rattle.romfs_sets.specs.Names.{HoldTheShared, AreClasses, AreNamesApart}
 use Rattle.romfs_rules.specs.Names.{kept_names, HaveTheirsAlone, AreClassesOf, HaveNamesApart}
 use Rattle.romfs_rules.proofs.NameHashes.{told_alone}
 use Rattle.romfs_rules.proofs.names.name_classes_by.Goals as goal

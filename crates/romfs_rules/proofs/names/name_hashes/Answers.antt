@@ -1,6 +1,6 @@
 use borrow.Author.Count.{falls}
 use Rattle.std.proofs.Common.{◌≡◌, ◌∙◌, sym, ap, ℕ, List, Some}
-use Rattle.duplicate_keys.specs.Names.{name_hash}
+use Rattle.romfs_sets.specs.Names.{name_hash}
 use Rattle.romfs_rules.specs.Names.{kept_names}
 use Rattle.romfs_rules.proofs.NameHashes.{one_hash, same_some, some_none}
 use Rattle.romfs_rules.proofs.names.name_hashes.Goals as goal

@@ -1,6 +1,6 @@
 use borrow.Author.Count.{falls}
 use Rattle.std.proofs.Common.{◌<◌, ◌∙◌, sym, refl, length, arith}
-use Rattle.duplicate_keys.proofs.Keyed.{none_some, one_named, one_without, all_held}
+use Rattle.romfs_sets.proofs.Keyed.{none_some, one_named, one_without, all_held}
 use Rattle.romfs_rules.specs.Names.{kept_names}
 use Rattle.romfs_rules.proofs.names.named_headers.Goals as goal
 use Rattle.romfs_rules.proofs.names.named_headers.Goals.{in-Some+in_ok-push, in_default}

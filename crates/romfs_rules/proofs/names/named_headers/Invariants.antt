@@ -1,5 +1,5 @@
 use Rattle.std.proofs.Common.{length}
-use Rattle.duplicate_keys.proofs.Keyed.{Holding}
+use Rattle.romfs_sets.proofs.Keyed.{Holding}
 use Rattle.romfs_rules.specs.Names.{kept_names}
 use Rattle.romfs_rules.proofs.names.named_headers.Given as goal
 

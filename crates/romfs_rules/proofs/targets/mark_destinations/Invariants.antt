@@ -1,5 +1,5 @@
 use Rattle.romfs_rules.proofs.Destined.{Walks}
-use Rattle.successor_graph.proofs.Marks.{unmarked}
+use Rattle.romfs_sets.proofs.Marks.{unmarked}
 use Rattle.romfs_rules.proofs.targets.mark_destinations.Given as goal
 
 -- the walk along the destinations of a header stands here, with these marks

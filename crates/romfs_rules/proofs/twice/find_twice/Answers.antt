@@ -2,7 +2,7 @@ use Rattle.std.proofs.Common.{length}
 use Rattle.std.proofs.lemmas.Result.{IfOk-weaker}
 use Rattle.romfs_format.specs.Rules.{IsLinkedTwice}
 use Rattle.romfs_rules.specs.Marks.{IsListOf}
-use Rattle.slot_sets.specs.Listed.{AreCollected}
+use Rattle.romfs_sets.specs.Listed.{AreCollected}
 use Rattle.romfs_rules.proofs.HeadNumbers.{lists_marks}
 use Rattle.romfs_rules.proofs.twice.find_twice.Goals as goal
 

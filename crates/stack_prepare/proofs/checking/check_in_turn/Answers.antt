@@ -1,7 +1,7 @@
 use Rattle.std.proofs.Common.{◌≡◌, ◌+◌, length, map, subst, sym, refl, arith}
 use Rattle.std.specs.Vec.Iter.{into_iter_items}
-use Rattle.held_image.specs.Images.{held_bytes}
-use Rattle.romfs_check.specs.Refusals.{IsRefusal}
+use Rattle.romfs_held.specs.Images.{held_bytes}
+use Rattle.romfs_image.specs.Refusals.{IsRefusal}
 use Rattle.stack_prepare.specs.declared.refusal.Refusal.TheVariants.{Layer}
 use Rattle.stack_prepare.specs.Checking.{IsBroken}
 use Rattle.stack_prepare.proofs.Checked.{all_checked, held_as, next_breaks, none_taken, one_more, taken_within}

@@ -1,5 +1,5 @@
 use Rattle.std.proofs.Common.{◌∙◌, sym, ap, map}
-use Rattle.held_image.specs.declared.image.HeldImage.TheVariants.{Whole}
+use Rattle.romfs_held.specs.declared.image.HeldImage.TheVariants.{Whole}
 use Rattle.stack_prepare.proofs.Stacked.{one_held}
 use Rattle.stack_prepare.proofs.preparing.all_whole.Goals as goal
 

@@ -1,6 +1,6 @@
 use Rattle.std.proofs.Common.{◌≡◌, ◌++◌, map}
 use Rattle.std.specs.Vec.Iter.{into_iter_items}
-use Rattle.held_image.specs.declared.image.HeldImage.TheVariants.{Whole}
+use Rattle.romfs_held.specs.declared.image.HeldImage.TheVariants.{Whole}
 use Rattle.stack_prepare.proofs.preparing.all_whole.Given as goal
 
 -- the images so far are held, and the others are left

@@ -1,5 +1,5 @@
 use Rattle.std.proofs.Common.{◌∙◌, ap, map}
-use Rattle.device_readers.specs.Seats.{end_of_all, seat_of}
+use Rattle.serve_device.specs.Seats.{end_of_all, seat_of}
 use Rattle.strata.specs.Readers.{status_of_end}
 use Rattle.strata.proofs.by_readers.mount_by_readers.Goals as goal
 

@@ -1,9 +1,9 @@
 use Rattle.std.proofs.Common.{subst, map}
 use Rattle.std.specs.Vec.{with_items}
-use Rattle.device_readers.specs.Readers.{AreServedBy, shared}
-use Rattle.device_readers.specs.Seats.{seat_of}
+use Rattle.serve_device.specs.Readers.{AreServedBy, shared}
+use Rattle.serve_device.specs.Seats.{seat_of}
 use Rattle.devices.specs.declared.limits.TheConstants.{MAX_TURNS}
-use Rattle.image_files.specs.Data.{source_of}
+use Rattle.romfs_files.specs.Data.{source_of}
 use Rattle.reply_model.specs.Readings.{sourced}
 use Rattle.serve_core.specs.Headline.{bounds}
 use Rattle.strata.specs.Ending.{first_of}

@@ -1,5 +1,5 @@
 use Rattle.std.proofs.Common.{◌≡◌, ◌∙◌, ap, string_bytes}
-use Rattle.image_files.specs.Opening.{loaded_contents}
+use Rattle.romfs_files.specs.Opening.{loaded_contents}
 use Rattle.strata.specs.Texts.{size_lines}
 use Rattle.strata.proofs.Sizes.{good_put, not_good}
 use Rattle.strata.proofs.checking.check.Goals as goal

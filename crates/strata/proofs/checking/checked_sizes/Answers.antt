@@ -1,7 +1,7 @@
 use Rattle.std.proofs.Common.{◌≡◌, ◌∙◌, length, arith}
 use Rattle.std.specs.Vec.Iter.{into_iter_items}
 use Rattle.std.proofs.lemmas.Result.{IfOk-from_err}
-use Rattle.image_files.specs.Opening.{loaded_bytes}
+use Rattle.romfs_files.specs.Opening.{loaded_bytes}
 use Rattle.strata.proofs.Sizes.{all_sized, first_refused, none_sized, one_more}
 use Rattle.strata.proofs.checking.checked_sizes.Goals as goal
 

@@ -1,6 +1,6 @@
 use Rattle.std.proofs.Common.{map}
 use Rattle.std.specs.Vec.Iter.{into_iter_items}
-use Rattle.image_files.specs.Opening.{loaded_bytes}
+use Rattle.romfs_files.specs.Opening.{loaded_bytes}
 use Rattle.strata.proofs.Sizes.{AreSized}
 use Rattle.strata.proofs.checking.checked_sizes.Given as goal
 

@@ -1,5 +1,5 @@
 use Rattle.std.proofs.Common.{subst}
-use Rattle.image_files.specs.declared.loaded.Loading.TheVariants as how
+use Rattle.romfs_files.specs.declared.loaded.Loading.TheVariants as how
 use Rattle.strata.specs.Images.{IsLoadingOf}
 use Rattle.strata.proofs.Opened.{loaded_ones}
 use Rattle.strata.proofs.images.gather_all.Goals as goal

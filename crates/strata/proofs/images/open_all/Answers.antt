@@ -1,5 +1,5 @@
 use Rattle.std.proofs.Common.{◌∙◌, sym, subst, arith}
-use Rattle.image_files.specs.declared.loaded.Loading.TheVariants as how
+use Rattle.romfs_files.specs.declared.loaded.Loading.TheVariants as how
 use Rattle.strata.specs.Images.{IsLoadingOf}
 use Rattle.strata.proofs.Opened.{as_many_held, loaded_sources}
 use Rattle.strata.proofs.images.open_all.Goals as goal

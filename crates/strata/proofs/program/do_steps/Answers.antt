@@ -1,11 +1,11 @@
 use Rattle.std.proofs.Common.{List, ℕ, refl, subst}
 use Rattle.std.proofs.lemmas.Result.{IfOk-from_err}
-use Rattle.image_files.specs.Opening.{loaded_contents}
+use Rattle.romfs_files.specs.Opening.{loaded_contents}
 use Rattle.strata.specs.Ending.{AreGood, AreNotGood}
-use Rattle.command_line.specs.CommandLine.{IsLineOf}
+use Rattle.strata_words.specs.CommandLine.{IsLineOf}
 use Rattle.strata.proofs.Ended.{all_held, ended, unread}
 use Rattle.strata.proofs.AtSocket.{over_there, stopped_there}
-use Rattle.command_line.specs.declared.options.Verb.TheVariants as verbs
+use Rattle.strata_words.specs.declared.options.Verb.TheVariants as verbs
 use Rattle.strata.proofs.program.do_steps.Goals as goal
 
 pub returns-in_err-images-in-Serve-clause-stopped : goal.returns-in_err-images-in-Serve-clause-stopped

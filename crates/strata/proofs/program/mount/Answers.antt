@@ -1,5 +1,5 @@
 use Rattle.std.proofs.Common.{◌∙◌, ap, subst}
-use Rattle.fuse_device.specs.Ends.{ends}
+use Rattle.serve_device.specs.MountEnds.{ends}
 use Rattle.strata.specs.Faults.{status_of}
 use Rattle.strata.specs.Mounts.{IsRunOnDevice}
 use Rattle.strata.proofs.Mounts.{new_ends}

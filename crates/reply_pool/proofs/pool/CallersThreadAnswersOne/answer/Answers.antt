@@ -5,8 +5,8 @@ use Rattle.reply_model.specs.Moves.{moves}
 use Rattle.reply_model.specs.Readings.{IsReplyOver}
 use Rattle.reply_model.specs.Sessions.{session_after}
 use Rattle.fuse_answer.specs.Puts.{sourced_by}
-use Rattle.lookup_balances.specs.Balances.{IsMoved}
-use Rattle.reply_pieces.proofs.Light.{message_light}
+use Rattle.reply_model.specs.Balances.{IsMoved}
+use Rattle.reply_rounds.proofs.Light.{message_light}
 use Rattle.reply_pool.proofs.pool.CallersThreadAnswersOne.answer.Goals as goal
 
 pub returns : goal.returns

@@ -1,6 +1,6 @@
 use Rattle.std.proofs.Common.{arith, ◌<◌, ◌^◌}
 use Rattle.romfs_format.specs.Fields.{word}
-use Rattle.held_image.specs.Images.{held_bytes}
+use Rattle.romfs_held.specs.Images.{held_bytes}
 use Rattle.romfs_reader.proofs.Whole.{bounds, checked}
 use Rattle.romfs_reader.proofs.image.Image.of_sound.Goals as goal
 

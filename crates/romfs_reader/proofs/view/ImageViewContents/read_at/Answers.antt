@@ -1,5 +1,5 @@
 use Rattle.std.proofs.Common.{arith}
-use Rattle.image_bytes.proofs.Given.{reads_held}
+use Rattle.devices.proofs.Given.{reads_held}
 use Rattle.romfs_reader.proofs.view.ImageViewContents.read_at.Goals as goal
 
 pub returns-clause-given : goal.returns-clause-given

@@ -1,6 +1,6 @@
 use Rattle.std.proofs.Common.{◌≡◌, ◌/◌, false, subst, refl, arith, length, replicate}
 use Rattle.std.proofs.lemmas.List.{length-replicate}
-use Rattle.successor_graph.proofs.Marks.{no_marks}
+use Rattle.romfs_sets.proofs.Marks.{no_marks}
 use Rattle.romfs_rules.proofs.Lists.{none_left}
 use Rattle.romfs_rules.proofs.Descent.{Descends, begun, step_stale, less_stale, step_fresh, less_fresh, names_fit, found}
 use Rattle.romfs_rules.proofs.depth.Descent.find_deep.Goals as goal

@@ -1,7 +1,7 @@
 use Rattle.std.proofs.Common.{◌∙◌, ◌/◌, refl, arith}
 use Rattle.romfs_rules.specs.Plain.{WalkState}
 use Rattle.romfs_rules.proofs.PlainChain.{begun, none_hashed, steps, hashed_more, ended}
-use Rattle.successor_graph.proofs.Marks.{marks_fall}
+use Rattle.romfs_sets.proofs.Marks.{marks_fall}
 use Rattle.romfs_rules.proofs.plain.Walk.is_plain_chain.Goals as goal
 
 pub loop-next-init : goal.loop-next-init

@@ -1,7 +1,7 @@
 use Rattle.std.proofs.Common.{length}
 use Rattle.romfs_rules.specs.Names.{kept_names, AreNameHashes}
 use Rattle.romfs_rules.proofs.PlainChain.{Chained}
-use Rattle.successor_graph.proofs.Marks.{unmarked}
+use Rattle.romfs_sets.proofs.Marks.{unmarked}
 use Rattle.romfs_rules.proofs.plain.Walk.is_plain_chain.Given as goal
 
 -- the headers before the next one were passed, and this is what their names are mixed to

@@ -1,4 +1,0 @@
-pub mod Reading
-pub mod Order
-pub mod Begun
-pub mod Sums

@@ -1,5 +1,0 @@
-use Rattle.device_readers.proofs.Begun.{ended_before}
-use Rattle.device_readers.proofs.laws.one_ends_before_the_session.Goals as goal
-
-pub returns : goal.returns
-returns g c = λ first over within old new served. ended_before over within first old new served

@@ -1,5 +1,0 @@
-pub mod Ends
-pub mod Seats
-pub mod Readers
-pub mod Laws
-pub mod Examples

@@ -1,4 +1,0 @@
-pub mod Classing
-pub mod FilledSlots
-pub mod Keyed
-pub mod SeenKeys

@@ -1,6 +1,0 @@
-use Rattle.duplicate_keys.specs.Names.{AreNumbersBelow}
-use Rattle.duplicate_keys.proofs.names.numbers_below.Given as goal
-
--- the list holds the numbers below this one
-abbrev pub invariant-loop-number : goal.invariant-loop-number
-invariant-loop-number g l = AreNumbersBelow l.number l.numbers.items

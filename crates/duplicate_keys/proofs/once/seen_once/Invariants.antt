@@ -1,6 +1,0 @@
-use Rattle.duplicate_keys.proofs.SeenKeys.{Told}
-use Rattle.duplicate_keys.proofs.once.seen_once.Given as goal
-
--- it is known for the keys before this one
-abbrev pub invariant-loop-key : goal.invariant-loop-key
-invariant-loop-key g l = Told l.keys l.once.items l.key-index

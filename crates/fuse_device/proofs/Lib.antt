@@ -1,2 +1,0 @@
-pub mod Retries
-pub mod Told

@@ -1,9 +1,0 @@
-use Rattle.std.proofs.Common.{refl}
-use Rattle.sha2.specs.Sha256.{compress, digest_bytes, first_words, hash_after, rounds, schedule, sha256}
-use Rattle.hash_tree.specs.Tree.{above, block, digests, root, root_hash}
-use Rattle.hash_tree.specs.File.{descriptor, field, in_blocks}
-use Rattle.hash_tree.proofs.examples.two_blocks.Goals as goal
-
-pub returns : goal.returns
-unfolding first_words schedule rounds compress hash_after digest_bytes sha256 above block digests root root_hash descriptor field in_blocks
-returns c = refl

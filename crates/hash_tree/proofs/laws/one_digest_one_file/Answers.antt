@@ -1,6 +1,0 @@
-use Rattle.hash_tree.proofs.Files.{one_file}
-use Rattle.hash_tree.proofs.laws.one_digest_one_file.Goals as goal
-
-pub returns : goal.returns
-returns g c hash xs ys d x y =
-    one_file (g.H.BlockHash.algorithm_of hash) (g.H.BlockHash.digest_of hash) (g.met.H.BlockHash.sized hash) xs ys d x y

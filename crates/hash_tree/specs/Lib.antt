@@ -1,5 +1,0 @@
-pub mod Tree
-pub mod File
-pub mod Vouched
-pub mod Twins
-pub mod Digests

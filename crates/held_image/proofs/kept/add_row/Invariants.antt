@@ -1,6 +1,0 @@
-use Rattle.held_image.specs.Blocks.{HasNumbers}
-use Rattle.held_image.proofs.kept.add_row.Given as goal
-
--- the numbers so far stand behind the old ones
-abbrev pub invariant-loop-number : goal.invariant-loop-number
-invariant-loop-number g l = HasNumbers l.initial.blocks.items l.first l.number l.blocks.items

@@ -1,6 +1,0 @@
-use Rattle.std.proofs.Common.{◌≡◌, ◌<◌, ℕ, get_or}
-use Rattle.held_image.proofs.read.starts_with.Given as goal
-
--- the bytes so far are those that stand there
-abbrev pub invariant-loop-at : goal.invariant-loop-at
-invariant-loop-at l = (i : ℕ) → i < l.at → get_or l.image i 0 ≡ get_or l.bytes i 0

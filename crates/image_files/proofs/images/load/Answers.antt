@@ -1,7 +1,0 @@
-use Rattle.image_files.proofs.Unread.{unread_told}
-use Rattle.image_files.proofs.images.load.Goals as goal
-
-pub returns-in_err-end-clause-err : goal.returns-in_err-end-clause-err
-returns-in_err-end-clause-err g c =
-    unread_told _ _ c.load_from-images.result.end _ c.from_residual.result c.load_from-images.ensures.count c.in_err-end.was
-    c.from_residual.ensures.1

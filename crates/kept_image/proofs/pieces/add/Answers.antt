@@ -1,5 +1,0 @@
-use Rattle.kept_image.proofs.Collecting.{one_more}
-use Rattle.kept_image.proofs.pieces.add.Goals as goal
-
-pub returns : goal.returns
-returns g c = one_more _ _ _ _ c.in_ok-make_room.ensures c.in_ok-push.ensures.items

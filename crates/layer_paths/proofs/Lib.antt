@@ -1,0 +1,11 @@
+pub mod Lists
+pub mod Names
+pub mod Paths
+pub mod Spread
+pub mod Under
+pub mod Padded
+pub mod Rising
+pub mod Merging
+pub mod NoDirectory
+pub mod Cutting
+pub mod Listed

@@ -1,0 +1,40 @@
+//! The nodes of a stack of layers by number, as they are read: kinds and places, attributes, rows
+//! and data.
+//!
+//! A [`Table`] represents a stack: its layers, and the listing of their visible paths. Each reader
+//! answers by the definitions of `stack_model`, as `specs/Readers.antt` puts them together, for
+//! every number up to 2^64 - 1, and takes no memory. What the table's parts must say about the
+//! listing is its invariant (`specs/Held.antt`). Rows of attributes are given as `romfs_rows`
+//! reads them, and held in another form: owners and times by the numbers of nodes, 20 bytes each,
+//! and 12 bytes a row for the rest (`specs/Stamps.antt`).
+//!
+//! `node_table` makes tables: the crates are two, so what answers from a table is proved beside its
+//! making, not after it. The crate uses `layer_paths` for places, `romfs_reader` for images,
+//! `romfs_rows` for rows of attributes and `layer_names` for look-ups.
+#![tactic(auto)]
+
+mod attributes;
+mod directory;
+mod guess;
+mod layer;
+mod lookup;
+mod next_rows;
+mod node;
+mod row;
+mod slim_row;
+mod slim_rows;
+mod stamp;
+mod stamped_rows;
+mod table;
+
+pub use attributes::Attributes;
+pub use directory::{Directories, Directory};
+pub use guess::Guess;
+pub use layer_names::hashed;
+pub use layer_paths::Place;
+pub use node::Node;
+pub use romfs_reader::{Image, ImageView, Kind, Part};
+pub use romfs_rows::Rows;
+pub use row::Row;
+pub use stack_model::{Attr, Owner};
+pub use table::Table;

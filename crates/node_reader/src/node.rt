@@ -1,0 +1,34 @@
+//! What a table holds of a node.
+
+use layer_paths::Place;
+use romfs_reader::{Kind, Part};
+
+/// A node: the file at one place of the stack, under any number of paths.
+#[derive(Clone, Copy)]
+pub struct Node {
+    /// Its kind, which is never a hard link.
+    pub kind: Kind,
+    /// Whether its header says that it is executable.
+    pub exec: bool,
+    pub place: Place,
+    /// The place of its data in the image of its layer.
+    pub part: Part,
+    /// Type and permissions, as the header says them; 0 until the node is completed.
+    pub mode: u16,
+    pub nlink: u32,
+    /// The numbers of a device; until the node is completed, its header's spec.info.
+    pub rdev: u32,
+    /// The position of a directory among all directories; meaningless for other kinds.
+    pub directory: usize,
+}
+
+/// The attributes of a node but for its number and its `Stamp`, in 16 bytes: a line of the
+/// processor's cache holds those of four nodes, so requests for attributes in any order find more
+/// of them there than nodes. The mode is the row's, if there is one.
+#[derive(Clone, Copy)]
+pub(crate) struct Brief {
+    pub(crate) size: u32,
+    pub(crate) nlink: u32,
+    pub(crate) rdev: u32,
+    pub(crate) mode: u16,
+}

@@ -1,0 +1,263 @@
+//! The table of a stack.
+
+ghost use Rattle.std.specs.Prelude.{◌≡◌, ◌<◌, ◌+◌, ◌^◌, length, true, slice_get, Some, None, MatchOption, IfOk};
+ghost use Rattle.romfs_reader.specs.Images.{all_whole, bytes_of};
+ghost use Rattle.stack_model.specs.Listing.{IsListing};
+ghost use Rattle.stack_model.specs.Numbers.{nodes};
+ghost use Rattle.stack_model.specs.Attributes.{blocks_all};
+ghost use Rattle.node_reader.specs.Stacked.{Listed, listed_once, IsTableWith};
+ghost use Rattle.node_reader.specs.Held.{IsSomeTable};
+ghost use Rattle.node_reader.specs.Readers.{TellsNode, attr_at, parent_at, child_at, rows_at, data_of_number};
+
+use crate::attributes::{Attributes, briefs_of};
+use crate::directory::{Directories, Directory};
+use crate::guess::Guess;
+use crate::layer::{image_at, view_at};
+use crate::lookup::{Hints, attr_of, directory_at, hints_of, node_at, numbered, place_of};
+use crate::node::{Brief, Node};
+use crate::row::Row;
+use crate::stamped_rows::StampedRows;
+use romfs_reader::{Image, ImageView};
+use stack_model::{Attr, Owner};
+use std::alloc::{AllocError, Allocator, Global};
+use std::marker::Model;
+
+/// The nodes of a stack of layers, by number: attributes, rows and data.
+///
+/// A clause sees the layers, their listing, the layers' rows of attributes, the owner of nodes
+/// without a row, and whether the images are held in full. Each node and row takes at most 113
+/// bytes besides a name of more than 22 (16 of them for guesses of places), and a directory 32
+/// more. If any layer has a row of attributes, each node takes 20 more, and such a row 12, or 32 if
+/// it belongs to no node. No reader takes memory, and each answers for every number: 1 is the root,
+/// and a number that is not in use has nothing.
+///
+/// ```text
+/// if let Some(number) = table.child(1, b"etc") {
+///     for row in table.rows(number) {
+///         show(row.name(), table.attr(row.number));
+///     }
+/// }
+/// ```
+///
+/// All nodes are in one vector by their numbers, and all rows in another, those of a directory
+/// together; with each row goes the key by which its name is found (`layer_names`) if no guess
+/// finds it. A node keeps the place of its data, so no answer parses a header, and only a directory
+/// keeps more: the place of its rows, and its parent. Attributes are also in a list of their own,
+/// since most requests need nothing else of a node; owners and times in another, if any layer has a
+/// row of attributes. Rows are searched once, when the table is made.
+#[derive(Drop)]
+pub struct Table<A: Allocator> {
+    // The images of the layers, the lowest first.
+    layers: Vec<Image<A>, A>,
+    nodes: Vec<Node, A>,
+    // The attributes of the nodes, in the same order.
+    briefs: Vec<Brief, A>,
+    // The rows of attributes of each layer, and whose the nodes are, in the same order.
+    rows: StampedRows<A>,
+    owner: Owner,
+    directories: Directories<A>,
+    hints: Hints<A>,
+    blocks: u64,
+    ghost listing: { Listed (bytes_of layers.items) } by { listed_once (bytes_of layers.items) },
+}
+
+const _: () = prove!(size_of::<Node>() <= 40);
+
+const _: () = prove!(size_of::<Brief>() <= 16);
+
+const _: () = prove!(size_of::<Node>() + size_of::<Row<Global>>() + size_of::<u64>() <= 80);
+
+const _: () = prove!(size_of::<Directory>() <= 32);
+
+impl<A: Allocator> Model for Table<A> {
+    ghost use Rattle.romfs_reader.specs.Images.{all_whole, bytes_of};
+    ghost use Rattle.stack_model.specs.Listing.{Stacked};
+    ghost use Rattle.node_reader.specs.Held.{IsHeld};
+
+    ghost Value = { Stacked };
+
+    ghost view = { λ held. record {
+      layers = bytes_of held.layers.items;
+      entries = held.listing.0;
+      rows = held.rows.rows;
+      owner = held.owner;
+      whole = all_whole held.layers.items;
+    } };
+
+    ghost invariant = { λ held.
+        IsHeld
+        (record {
+          layers = bytes_of held.layers.items;
+          entries = held.listing.0;
+          rows = held.rows.rows;
+          owner = held.owner;
+          whole = all_whole held.layers.items;
+        })
+        held.nodes.items held.briefs.items held.rows.stamps held.directories
+        held.hints.filter held.blocks };
+}
+
+impl<A: Allocator + Copy> Table<A> {
+    /// The table of images, lowest layer first, from their nodes and directories, and from what is
+    /// known besides their headers. Fails only if memory was refused.
+    pub fn of_parts(
+        alloc: A,
+        layers: Vec<Image<A>, A>,
+        nodes: Vec<Node, A>,
+        directories: Directories<A>,
+        blocks: u64,
+        attributes: Attributes<A>,
+    ) -> Result<Self, AllocError>
+        requires { IsSomeTable (bytes_of layers.items) nodes.items directories blocks }
+        ensures stack { IfOk result (λ table. IsTableWith (bytes_of layers.items)
+            attributes.rows.items attributes.owner table) }
+        ensures whole { IfOk result (λ table. table.whole ≡ all_whole layers.items) }
+    {
+        let hints = hints_of(alloc, &nodes, &directories)?;
+        let Attributes { rows, owner } = attributes;
+        let briefs = briefs_of(alloc, &nodes, &rows)?;
+        let rows = StampedRows::of(alloc, &rows, &nodes, owner)?;
+        Ok(Table {
+            layers,
+            nodes,
+            briefs,
+            rows,
+            owner,
+            directories,
+            hints,
+            blocks,
+        })
+    }
+}
+
+impl<A: Allocator> Table<A> {
+    /// How many nodes there are. They have the numbers from 1 on.
+    pub fn len(&self) -> u64
+        ensures value { result ≡ length (nodes self.now.entries) }
+        ensures listing { IsListing self.now.layers self.now.entries }
+    {
+        self.nodes.len() as u64
+    }
+
+    /// How many layers there are.
+    pub fn layer_count(&self) -> usize
+        ensures { result ≡ length self.now.layers }
+    {
+        self.layers.len()
+    }
+
+    /// The image of a layer, lent; none where there is no such layer.
+    pub fn view(&self, layer: usize) -> Option<ImageView<'_>>
+        ensures { MatchOption result (slice_get self.now.layers layer ≡ None)
+            (λ view. slice_get self.now.layers layer ≡ Some view) }
+    {
+        view_at(&self.layers, layer)
+    }
+
+    /// The node of a number; none if the number is not in use.
+    pub fn node(&self, number: u64) -> Option<&Node>
+        ensures { TellsNode self.now number result }
+    {
+        node_at(&self.nodes, number)
+    }
+
+    /// The number of the child with this name in a directory; none if the number is no directory
+    /// that shows such a child. Names compare byte by byte, and neither `.` nor `..` is a child.
+    ///
+    /// If the row is guessed it reads one row, or few. Otherwise it takes as many steps over the
+    /// keys of the directory's rows as their number has binary digits, and if many names have one
+    /// key at most as many over these names again.
+    #[inline(always)]
+    pub fn child(&self, number: u64, name: &[u8]) -> Option<u64>
+        ensures { result ≡ child_at self.now number name.now }
+    {
+        self.child_guessed(number, name, Guess::Unknown)
+    }
+
+    /// The same with an earlier [`guess`](Table::guess). Any guess gives the same child, and with a
+    /// right one no other row is read.
+    #[inline(always)]
+    pub fn child_guessed(&self, number: u64, name: &[u8], guess: Guess) -> Option<u64>
+        ensures { result ≡ child_at self.now number name.now }
+    {
+        let directory = directory_at(&self.nodes, &self.directories, number)?;
+        let rows = self.directories.rows_of(directory);
+        let keys = self.directories.keys_of(directory);
+        let at = place_of(rows, keys, &self.hints, number, directory, name, guess)?;
+        let row = &rows[at];
+        Some(row.number)
+    }
+
+    /// Reads ahead what [`guess`](Table::guess) reads for these hashes. What comes of it says
+    /// nothing.
+    pub fn read_guesses(&self, hashes: &[u64]) -> u32 {
+        self.hints.guesses.read_ahead(hashes)
+    }
+
+    /// Where the row of a directory's child may be among all rows, by the [`hash`](crate::hashed)
+    /// of the directory's number and the child's name. It is a guess for reading ahead: no answer
+    /// depends on it.
+    pub fn guess(&self, hash: u64) -> Option<usize> {
+        self.hints.guesses.first(hash)
+    }
+
+    /// The row at a guessed place among all rows; none beyond the last.
+    pub fn guessed(&self, place: usize) -> Option<&Row<A>> {
+        self.directories.rows.get(place)
+    }
+
+    /// The children of a directory in the order of their names, without `.` and `..`; empty if the
+    /// number is no directory.
+    #[inline(always)]
+    pub fn rows(&self, number: u64) -> &[Row<A>]
+        ensures { result.now ≡ rows_at self.now number }
+    {
+        match directory_at(&self.nodes, &self.directories, number) {
+            Some(directory) => self.directories.rows_of(directory),
+            None => &[],
+        }
+    }
+
+    /// The number of a directory's parent, the root being its own; none if the number is no
+    /// directory.
+    #[inline(always)]
+    pub fn parent(&self, number: u64) -> Option<u64>
+        ensures { result ≡ parent_at self.now number }
+    {
+        let directory = directory_at(&self.nodes, &self.directories, number)?;
+        Some(directory.parent)
+    }
+
+    /// The attributes of a node; none if the number is not in use.
+    #[inline(always)]
+    pub fn attr(&self, number: u64) -> Option<Attr>
+        ensures { result ≡ attr_at self.now number }
+    {
+        let brief = numbered(&self.briefs, number)?;
+        let stamp = self.rows.stamp(number, self.owner);
+        Some(attr_of(number, brief, stamp))
+    }
+
+    /// The data of a regular file, or the target of a symbolic link; empty if the number is
+    /// neither. A reply's header can hold their length. It requires images held in full.
+    pub fn bytes(&self, number: u64) -> &[u8]
+        requires { self.now.whole ≡ true }
+        ensures value { result.now ≡ data_of_number self.now number }
+        ensures short { 16 + length result.now < 2 ^ 32 }
+    {
+        match node_at(&self.nodes, number) {
+            Some(node) => {
+                let image = image_at(&self.layers, node.place.layer as usize);
+                image.part(node.part)
+            }
+            None => &[],
+        }
+    }
+
+    /// The full sizes of all layers in blocks of 512 bytes, each rounded up, then summed.
+    pub fn blocks_all(&self) -> u64
+        ensures { result ≡ blocks_all self.now.layers }
+    {
+        self.blocks
+    }
+}

@@ -1,9 +1,0 @@
-pub mod Sums
-pub mod Jobs
-pub mod Batches
-pub mod Workers
-pub mod Answers
-pub mod Spread
-pub use Rattle.draw_board.specs.Hands
-pub use Rattle.lookup_balances.specs.Balances
-pub use Rattle.serve_loop.specs.Rounds

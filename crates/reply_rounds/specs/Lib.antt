@@ -1,0 +1,10 @@
+pub mod Sums
+pub mod Jobs
+pub mod Batches
+pub mod Workers
+pub mod Answers
+pub mod Spread
+pub use Rattle.draw_board.specs.Hands
+pub use Rattle.reply_model.specs.Balances
+pub use Rattle.serve_loop.specs.Rounds
+pub mod Plans

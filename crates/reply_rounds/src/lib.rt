@@ -1,0 +1,30 @@
+//! A round: what is decided before it is answered, its batches, and the pieces put together.
+//!
+//! [`Plan`] says how many workers answer at most, and how many requests a batch has;
+//! [`worth_workers`] how many of the first messages of a stream workers are to answer, as the table
+//! tells how long their replies are; [`LookupsAhead`] has read what the LOOKUPs of a round will
+//! read. No reply follows from any of these: they decide who answers, and how soon.
+//!
+//! A job is a request, with the session before it. Batch k holds the jobs from k times the size on
+//! ([`batch`]). What a batch is answered is a [`Piece`], and the pieces come in any order. They are
+//! sorted by number, and joined to one [`Rounded`] with its moves summed (`pieces`, `by_node`), or
+//! appended to a loop's bytes and balances (`gathered`). The definitions say what requests are
+//! replied and move (`reply_model`). What answers a request this crate does not know, so it is
+//! proved beside `fuse_answer`.
+#![tactic(auto)]
+
+mod ahead;
+mod batches;
+mod by_node;
+mod gathered;
+mod load;
+mod pieces;
+mod plan;
+
+pub use ahead::LookupsAhead;
+pub use batches::{batch, count_batches};
+pub use by_node::sums;
+pub use gathered::{Gathered, RoundPieces};
+pub use load::worth_workers;
+pub use pieces::{Piece, Rounded, in_order};
+pub use plan::{Plan, pass_batch};

@@ -1,0 +1,58 @@
+-- What is loaded of a file of a kind, in words that name no kind.
+use Rattle.std.proofs.Common.{◌≡◌, sym, subst, ℕ, List, Option, None, IfOk, IfSome, Result, Ok, Err}
+use Rattle.romfs_files.specs.declared.opening.FileKind.{FileKind}
+use Rattle.romfs_files.specs.declared.opening.FileKind.TheVariants.{Regular, BlockDevice, Stream}
+use Rattle.romfs_files.specs.declared.image_data.ImageData.{ImageData}
+use Rattle.romfs_files.specs.declared.image_data.ImageData.TheVariants.{File, Memory}
+use Rattle.romfs_files.specs.declared.loaded.LoadedImage.{LoadedImage}
+use Rattle.romfs_files.specs.declared.loaded.Loading.{Loading}
+use Rattle.romfs_files.specs.declared.loaded.Loading.TheVariants as how
+use Rattle.romfs_files.specs.declared.loaded.Trailers.{Trailers}
+use Rattle.romfs_held.specs.declared.image.HeldImage.{HeldImage}
+use Rattle.romfs_held.specs.declared.image.HeldImage.TheVariants.{Kept, Whole}
+use Rattle.romfs_files.specs.Data.{known_bytes}
+use Rattle.romfs_files.specs.Loaded.{IsKeptWith, IsOpenOver}
+use Rattle.romfs_files.specs.Opening.{AreOfFile, IsHeldAs, IsLoadedAs}
+use Rattle.romfs_files.specs.Files.{IsHeldWith, IsLoadedOf, IsWholeOf}
+
+kept_with : {A : Type 0} (known : Option (List ℕ)) (trailers its : Trailers) (held : HeldImage A) → its ≡ trailers
+    → IsKeptWith None trailers held → IsHeldWith known trailers its held
+kept_with known trailers its (Kept kept) same h = same
+kept_with known trailers its (Whole bytes) same h = absurd h
+
+whole_with : {A : Type 0} (known : Option (List ℕ)) (trailers its : Trailers) (held : HeldImage A) → IsWholeOf known held
+    → IsHeldWith known trailers its held
+whole_with known trailers its (Kept kept) h = absurd h
+whole_with known trailers its (Whole bytes) h = h
+
+held_of : {F A : Type 0} (kind : FileKind) (known : Option (List ℕ)) (trailers : Trailers) (image : LoadedImage F A)
+    → IsHeldAs kind known trailers image → IsHeldWith known trailers image.trailers image.held
+held_of (Regular size) known trailers image h = kept_with known trailers image.trailers image.held h.0 h.1
+held_of BlockDevice known trailers image h = kept_with known trailers image.trailers image.held h.0 h.1
+held_of Stream known trailers image h = whole_with known trailers image.trailers image.held h
+
+-- what is known of the data of an image is what is known of its file
+seen_of : {F A : Type 0} (kind : FileKind) (known : Option (List ℕ)) (source : ImageData F A) → AreOfFile kind known source
+    → IfSome (known_bytes source) (λ ys. IfSome known (λ xs. ys ≡ xs))
+seen_of kind known (File file) h = tt
+seen_of (Regular size) known (Memory bytes) h = absurd h
+seen_of BlockDevice known (Memory bytes) h = absurd h
+seen_of Stream known (Memory bytes) h = h
+
+pub loaded_of : {F A : Type 0} (kind : FileKind) (known : Option (List ℕ)) (loading : Loading) (image : LoadedImage F A)
+    → IsLoadedAs kind known loading image → IsLoadedOf known loading image
+loaded_of kind known how.Whole image h = h
+loaded_of kind known (how.Open trailers) image h = record {
+  source = h.source;
+  known_are = seen_of kind known h.source h.of_file;
+  over = h.over;
+}
+loaded_of kind known (how.Gather trailers) image h = (held_of kind known trailers image h.0, h.1)
+
+-- an image that is open over the data of a file of a kind
+pub opened_as : {F A E : Type 0} (kind : FileKind) (known : Option (List ℕ)) (loading : Loading) (trailers : Trailers)
+    (source : ImageData F A) (result : Result (LoadedImage F A) E) → loading ≡ how.Open trailers → AreOfFile kind known source
+    → IfOk result (IsOpenOver source trailers) → IfOk result (IsLoadedAs kind known loading)
+opened_as kind known loading trailers source (Err e) is of over = tt
+opened_as kind known loading trailers source (Ok image) is of over = subst (λ l. IsLoadedAs kind known l image) (sym is)
+    (record { source = source; of_file = of; over = over })

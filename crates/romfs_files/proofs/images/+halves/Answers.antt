@@ -1,0 +1,47 @@
+use Rattle.std.proofs.Common.{◌≡◌, ◌+◌, sym, subst, length, vec_len, arith}
+use Rattle.romfs_files.specs.Unread.{IsReadUpTo}
+use Rattle.romfs_files.proofs.Loads.{both_loaded}
+use Rattle.romfs_files.proofs.images.+halves.Goals as goal
+
+pub split_at-requires : goal.split_at-requires
+split_at-requires g t c = omega arith
+
+pub overflow_add-next : goal.overflow_add-next
+overflow_add-next g t c = omega arith
+
+pub returns-clause-count : goal.returns-clause-count
+returns-clause-count g t c =
+    let (lows, highs) = c.split_at.result in
+    let (high, low) = c.join-high.result in
+    let front = c.split_at.ensures.front_len in
+    let back = c.split_at.ensures.back_len in
+    let upper = subst (λ n. IsReadUpTo (c.args.first + n) (length highs.now) (vec_len high.images) high.end) (sym front)
+    c.join-high.ensures.first.0 in
+    let all : length lows.now + length highs.now ≡ length c.args.paths.now = omega (arith, front, back) in
+    subst (λ n. IsReadUpTo c.args.first n (vec_len c.both.result.images) c.both.result.end) all
+    (c.both.ensures.read c.args.first (length lows.now) (length highs.now) c.join-high.ensures.second.0 upper)
+
+pub returns-clause-read : goal.returns-clause-read
+returns-clause-read g t c =
+    let (high, low) = c.join-high.result in
+    let upper = c.join-high.ensures.first.1 in
+    let lower = c.join-high.ensures.second.1 in
+    both_loaded _ _ low.images.items high.images.items c.both.result.images.items c.both.ensures.either lower upper
+
+pub overflow_sub-less : goal.overflow_sub-less
+overflow_sub-less g t c = omega arith
+
+pub load_in_turn-requires : goal.load_in_turn-requires
+load_in_turn-requires g t c = c.requires
+
+pub returns-then-forks-eq0-clause-count : goal.returns-then-forks-eq0-clause-count
+returns-then-forks-eq0-clause-count g t c = c.load_in_turn.ensures.count
+
+pub returns-then-forks-eq0-clause-read : goal.returns-then-forks-eq0-clause-read
+returns-then-forks-eq0-clause-read g t c = c.load_in_turn.ensures.read
+
+pub join+arg2-returns : goal.join+arg2-returns
+join+arg2-returns g t c = record { count = c.load_from.ensures.count; read = c.load_from.ensures.read }
+
+pub join+arg3-returns : goal.join+arg3-returns
+join+arg3-returns g t c = record { count = c.load_from.ensures.count; read = c.load_from.ensures.read }

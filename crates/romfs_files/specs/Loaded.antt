@@ -1,0 +1,64 @@
+-- What comes of the file of an image that is loaded.
+use Rattle.std.specs.Prelude.{◌≡◌, ℕ, List, [], ◌∷◌, ◌++◌, Option, Some, None, map}
+use Rattle.romfs_kept.specs.Gathered.{IsGathered, IsGatheredWithTrailer}
+use Rattle.romfs_held.specs.declared.image.HeldImage.{HeldImage}
+use Rattle.romfs_held.specs.declared.image.HeldImage.TheVariants as held
+use Rattle.romfs_files.specs.declared.loaded.LoadedImage.{LoadedImage}
+use Rattle.romfs_files.specs.declared.loaded.Trailers.{Trailers}
+use Rattle.romfs_files.specs.declared.loaded.Trailers.TheVariants.{Read, Left}
+use Rattle.romfs_files.specs.declared.image_data.ImageData.{ImageData}
+use Rattle.romfs_files.specs.declared.image_data.ImageData.TheVariants as from
+use Rattle.romfs_files.specs.Data.{known_bytes}
+
+-- what is kept was gathered from the data, where their bytes are known: with their trailer, where
+-- trailers are read
+abbrev pub WasGathered : Trailers → Option (List ℕ) → List ℕ → Type 0
+WasGathered Read known kept = IsGatheredWithTrailer known kept
+WasGathered Left known kept = IsGathered known kept
+
+-- what the rules look at is held: it was gathered from these bytes, where they are known, with
+-- their trailer, where trailers are read
+abbrev pub IsKeptWith : {A : Type 0} → Option (List ℕ) → Trailers → HeldImage A → Type 0
+IsKeptWith known trailers (held.Kept kept) = WasGathered trailers known kept
+IsKeptWith known trailers (held.Whole bytes) = ⊥
+
+-- so it is of an image, which says whether its trailer was read
+abbrev pub IsKeptOf : {F A : Type 0} → Option (List ℕ) → Trailers → LoadedImage F A → Type 0
+IsKeptOf known trailers image =
+    (image.trailers ≡ trailers) × IsKeptWith known trailers image.held
+
+-- an image is open over these data, with its trailer or without
+pub record IsOpenOver {F A : Type 0} (source : ImageData F A) (trailers : Trailers)
+    (image : LoadedImage F A) : Type 0 where
+  pub source_is : image.source ≡ Some source
+  pub kept : IsKeptOf (known_bytes source) trailers image
+
+-- an image has let these data go: of a file what the rules look at is held; all bytes that were in
+-- memory are
+abbrev pub IsLetGo : {F A : Type 0} → ImageData F A → Trailers → LoadedImage F A → Type 0
+IsLetGo (from.File file) trailers image =
+    IsKeptOf None trailers image × (image.source ≡ None)
+IsLetGo (from.Memory bytes) trailers image =
+    (image.held ≡ held.Whole bytes) × (image.source ≡ None)
+
+-- a list with what is added, if there is something
+abbrev pub added : {T : Type 0} → List T → Option T → List T
+added list None = list
+added list (Some value) = list ++ value ∷ []
+
+-- what there is, before a list
+abbrev pub before : {T : Type 0} → Option T → List T → List T
+before None rest = rest
+before (Some value) rest = value ∷ rest
+
+-- what the data are read from of images whose files stay open
+abbrev pub files_of : {F A : Type 0} → List (LoadedImage F A) → List (ImageData F A)
+files_of [] = []
+files_of (image ∷ images) = before image.source (files_of images)
+
+-- images taken apart: this is held of them, in their order; and the data of those that are open are
+-- read from these
+pub record AreApart {F A : Type 0} (images : List (LoadedImage F A)) (held : List (HeldImage A))
+    (files : List (ImageData F A)) : Type 0 where
+  pub held_are : held ≡ map (λ (image : LoadedImage F A). image.held) images
+  pub files_are : files ≡ files_of images

@@ -1,0 +1,232 @@
+//! The files of images, of a long list some at the same time.
+//!
+//! A list is cut in two, and a long half once more; each part is read from its lowest image up, and
+//! the results of two halves are joined: a fault of the lower half (memory, or an image that cannot
+//! be read) comes before one of the upper. All images below the reported one were therefore read.
+
+ghost use Rattle.std.specs.Prelude.{◌≡◌, ◌⊎◌, ◌+◌, ◌<◌, ◌^◌, ℕ, ◌++◌, length, vec_len, IfOk, IfErr, OnOk};
+ghost use Rattle.romfs_files.specs.Files.{AreLoaded, IsLoadedOf, IsOfFile};
+ghost use Rattle.romfs_files.specs.Unread.{IsReadUpTo};
+ghost use Rattle.romfs_files.specs.declared.images.FilesFault.TheVariants.{Unread, Memory};
+ghost use denote.Param.Send.{IsSync, IsSend, Frees};
+
+use crate::loaded::{LoadedImage, Loading};
+use crate::opening::load_file;
+use romfs_kept::GatherFault;
+use std::alloc::{AllocError, AllocFailed, Allocator};
+use std::fs;
+use std::fs::Files;
+use std::os::unix::fs::FileExt;
+use std::thread::{Threads, join};
+
+/// How many times a list is cut into halves that are read at the same time.
+const FORKS: u32 = 2;
+
+/// A list of fewer files is read by its caller alone: to start a thread takes about as long as to
+/// read a small file.
+const MANY: usize = 8;
+
+/// Why images were not read.
+#[derive(Clone, Copy, Debug, PartialEq, Eq)]
+pub enum FilesFault {
+    /// The file of this image, counted from 0, cannot be read to its end.
+    Unread { image: u64 },
+    /// Memory ran out.
+    Memory,
+}
+
+impl From<AllocError> for FilesFault {
+    ghost from_gives = { λ _ fault. fault ≡ Memory };
+
+    fn from(_error: AllocError) -> FilesFault {
+        FilesFault::Memory
+    }
+}
+
+impl<T: Drop> From<AllocFailed<T>> for FilesFault {
+    ghost from_gives = { λ _ fault. fault ≡ Memory };
+
+    fn from(_error: AllocFailed<T>) -> FilesFault {
+        FilesFault::Memory
+    }
+}
+
+/// The images at these paths, in the order of the paths, as they are asked for: all bytes of each,
+/// from the beginning of its file to the end; or of a regular file and of a block device only what
+/// the rules look at, its first bytes, headers, names and the targets of symbolic links, with the
+/// trailer where trailers are read. Of all other files all bytes are read, and those of an image
+/// that stays open are gathered in the same way. A file that is let go is so before the next one of
+/// its part is opened, so there may be any number of them.
+///
+/// Of a long list at most four parts are read at the same time; of several files that cannot be
+/// read the lowest is reported, if there was memory for all below it. `Unread` comes where a file
+/// cannot be opened, as one too many, where a read fails or gives fewer bytes than the file has
+/// said, and where a device tells no end. That an image's full size goes on behind the end of its
+/// file is no fault here. `Memory` comes, too, where a trailer that is read ends at 2^32 or behind.
+pub fn load<R: Files + Threads + Sync, A: Allocator + Copy + Send + Sync>(
+    rt: &R,
+    alloc: A,
+    paths: &[&str],
+    loading: Loading,
+) -> Result<Vec<LoadedImage<R::File, A>, A>, FilesFault>
+where
+    R::File: FileExt + Send,
+    R::Dir: Send,
+    ensures ok { IfOk result (λ images. vec_len images ≡ length paths.now) }
+    ensures loaded { IfOk result (λ images.
+        AreLoaded R.File.remaining loading images.items) }
+    ensures err { IfErr result (λ fault. (fault ≡ Memory)
+        ⊎ ((image : ℕ) × (image < length paths.now) × (fault ≡ Unread image))) }
+{
+    let Run { images, end } = load_from(rt, alloc, 0, paths, loading, FORKS);
+    end?;
+    Ok(images)
+}
+
+/// What was read of a run of images: its first ones, and why there are no more, if there are not.
+#[derive(Drop)]
+struct Run<T, A: Allocator> {
+    images: Vec<T, A>,
+    end: Result<(), FilesFault>,
+}
+
+/// The images of a run whose lowest has the number `first`, read in halves at the same time, each
+/// of which is cut once less, or one after another.
+#[cycle(halves)]
+fn load_from<R: Files + Threads + Sync, A: Allocator + Copy + Send + Sync>(
+    rt: &R,
+    alloc: A,
+    first: usize,
+    paths: &[&str],
+    loading: Loading,
+    forks: u32,
+) -> Run<LoadedImage<R::File, A>, A>
+where
+    R::File: FileExt + Send,
+    R::Dir: Send,
+    requires { first + length paths.now < 2 ^ 64 }
+    ensures count { IsReadUpTo first (length paths.now) (vec_len result.images) result.end }
+    ensures read { AreLoaded R.File.remaining loading result.images.items }
+{
+    if forks == 0 || paths.len() < MANY {
+        return load_in_turn(rt, alloc, first, paths, loading);
+    }
+    let less = forks - 1;
+    let half = paths.len() / 2;
+    let (lows, highs) = paths.split_at(half);
+    let next = first + half;
+    // the lowest layer, mostly the largest, waits for no thread to start
+    let (high, low) = join(
+        rt,
+        move || -> Run<LoadedImage<R::File, A>, A>
+            requires { IsSync R.row × IsSync A.row × IsSend A.row
+                × Frees A.Allocator A.dealloc_token × (next + length highs.now < 2 ^ 64) }
+            ensures count { IsReadUpTo next (length highs.entry.now) (vec_len result.images)
+                result.end }
+            ensures read { AreLoaded R.File.remaining loading result.images.items }
+        { load_from(rt, alloc, next, highs, loading, less) },
+        move || -> Run<LoadedImage<R::File, A>, A>
+            requires { IsSync R.row × IsSync A.row × IsSend A.row
+                × Frees A.Allocator A.dealloc_token × (first + length lows.now < 2 ^ 64) }
+            ensures count { IsReadUpTo first (length lows.entry.now) (vec_len result.images)
+                result.end }
+            ensures read { AreLoaded R.File.remaining loading result.images.items }
+        { load_from(rt, alloc, first, lows, loading, less) },
+    );
+    both(low, high)
+}
+
+/// What was read of both halves: all of the lower one, then the upper one; or the lower one alone
+/// if it is not complete.
+fn both<T: Drop, A: Allocator>(low: Run<T, A>, high: Run<T, A>) -> Run<T, A>
+    ensures order { OnOk result.end (result.images.items
+        ≡ low.images.items ++ high.images.items) }
+    ensures read { (first lows highs : ℕ) → IsReadUpTo first lows (vec_len low.images) low.end →
+        IsReadUpTo (first + lows) highs (vec_len high.images) high.end →
+        IsReadUpTo first (lows + highs) (vec_len result.images) result.end }
+    ensures either { (result.images.items ≡ low.images.items)
+        ⊎ (result.images.items ≡ low.images.items ++ high.images.items) }
+{
+    let Run { mut images, end } = low;
+    if let Err(fault) = end {
+        return Run {
+            images,
+            end: Err(fault),
+        };
+    }
+    let Run {
+        images: mut highs,
+        end,
+    } = high;
+    match images.append(&mut highs) {
+        Ok(()) => Run { images, end },
+        Err(_) => Run {
+            images,
+            end: Err(FilesFault::Memory),
+        },
+    }
+}
+
+/// What was read of a run of images, of which the lowest has the number `first`, from the lowest
+/// up.
+fn load_in_turn<R: Files, A: Allocator + Copy>(
+    rt: &R,
+    alloc: A,
+    first: usize,
+    paths: &[&str],
+    loading: Loading,
+) -> Run<LoadedImage<R::File, A>, A>
+where
+    R::File: FileExt,
+    requires { first + length paths.now < 2 ^ 64 }
+    ensures count { IsReadUpTo first (length paths.now) (vec_len result.images) result.end }
+    ensures read { AreLoaded R.File.remaining loading result.images.items }
+{
+    let mut images = Vec::new(alloc);
+    let end = add_in_turn(rt, alloc, first, paths, loading, &mut images);
+    Run { images, end }
+}
+
+/// Adds what is read of a run of images, of which the lowest has the number `first`, to an empty
+/// list, from the lowest up. The first that cannot be read is reported, behind all that were added.
+fn add_in_turn<R: Files, A: Allocator + Copy>(
+    rt: &R,
+    alloc: A,
+    first: usize,
+    paths: &[&str],
+    loading: Loading,
+    images: &mut Vec<LoadedImage<R::File, A>, A>,
+) -> Result<(), FilesFault>
+where
+    R::File: FileExt,
+    requires empty { vec_len images.old ≡ 0 }
+    requires few { first + length paths.now < 2 ^ 64 }
+    ensures count { IsReadUpTo first (length paths.now) (vec_len images.new) result }
+    ensures read { AreLoaded R.File.remaining loading images.new.items }
+{
+    images.reserve_exact(paths.len())?;
+    for (at, path) in paths.iter().enumerate() {
+        images.push(load_one(rt, alloc, (first + at) as u64, path, loading)?)?;
+    }
+    Ok(())
+}
+
+fn load_one<R: Files, A: Allocator + Copy>(
+    rt: &R,
+    alloc: A,
+    image: u64,
+    path: &str,
+    loading: Loading,
+) -> Result<LoadedImage<R::File, A>, FilesFault>
+where
+    R::File: FileExt,
+    ensures ok { IfOk result (IsOfFile (λ file. IsLoadedOf (R.File.remaining file) loading)) }
+    ensures err { IfErr result (λ fault. (fault ≡ Unread image) ⊎ (fault ≡ Memory)) }
+{
+    let file = fs::open(rt, path).map_err(|_| FilesFault::Unread { image })?;
+    match load_file(alloc, file, loading) {
+        Ok(loaded) => Ok(loaded),
+        Err(GatherFault::Unread) => Err(FilesFault::Unread { image }),
+        Err(GatherFault::Memory) => Err(FilesFault::Memory),
+    }
+}

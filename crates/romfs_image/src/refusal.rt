@@ -1,0 +1,50 @@
+//! Why bytes are not taken for an image.
+
+ghost use Rattle.std.specs.Prelude.{◌≡◌};
+ghost use Rattle.romfs_image.specs.declared.refusal.CheckFault.TheVariants.{Memory};
+
+use romfs_format::ImageFault;
+use std::alloc::{AllocError, AllocFailed};
+use std::error::Error;
+use std::fmt;
+
+/// Why bytes are not taken for an image.
+#[derive(Clone, Copy, Debug, PartialEq, Eq)]
+pub enum CheckFault {
+    /// They break a rule.
+    Broken(ImageFault),
+    /// No memory is left.
+    Memory,
+}
+
+impl fmt::Display for CheckFault {
+    ghost use Rattle.std.specs.Prelude.{Some};
+    ghost use Rattle.romfs_image.specs.Texts.{refusal_text};
+
+    ghost output = { λ fault. Some (refusal_text fault) };
+
+    fn fmt<W: fmt::Write>(&self, f: &mut fmt::Formatter<W>) -> fmt::Result {
+        match self {
+            CheckFault::Broken(fault) => fault.rule.fmt(f),
+            CheckFault::Memory => write!(f, "out of memory"),
+        }
+    }
+}
+
+impl Error for CheckFault {}
+
+impl From<AllocError> for CheckFault {
+    ghost from_gives = { λ _ fault. fault ≡ Memory };
+
+    fn from(_error: AllocError) -> CheckFault {
+        CheckFault::Memory
+    }
+}
+
+impl<T: Drop> From<AllocFailed<T>> for CheckFault {
+    ghost from_gives = { λ _ fault. fault ≡ Memory };
+
+    fn from(_error: AllocFailed<T>) -> CheckFault {
+        CheckFault::Memory
+    }
+}

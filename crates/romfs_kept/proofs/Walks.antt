@@ -1,0 +1,305 @@
+-- A walk over headers: each place that was noted waits or is done. A turn keeps this (under_turn), each
+-- turn takes one from what may still be noted and waits (few_places), and with nothing left to wait what
+-- was kept is closed (gathered).
+use Rattle.std.proofs.Common.{◌≡◌, ◌≢◌, ◌∙◌, sym, ap, subst, ℕ, zero, suc, ◌+◌, ◌-◌, ◌*◌, ◌/◌, ◌%◌, ◌^◌, ◌<◌, ◌≤◌, ◌==◌, ◌⊎◌, inl, inr, min, List, [], ◌∷◌, ◌++◌, length, take, drop, get_or, Bool, IsTrue, true, false, ◌||◌, if◌then◌else◌, Option, Some, None, refl, arith, length-take, length-take-le, length-drop}
+use Rattle.std.specs.Prelude.{nat_le}
+use Rattle.std.specs.Option.{option_map_or}
+use Rattle.std.specs.List.{Contains}
+use Rattle.std.specs.List.Sorted.{IsStrictlySortedBy}
+use Rattle.std.specs.List.{list_any}
+use Rattle.std.specs.BTreeMap.{is_at}
+use Rattle.std.specs.BTreeSet.{BTreeSet, contains, IsOrdered}
+use Rattle.std.specs.Ordering.{nat_cmp, is_eq}
+use Rattle.std.proofs.lemmas.Map.Keys.{below_from_sorted}
+use Rattle.std.proofs.lemmas.Bool.{cases_lt}
+use Rattle.std.proofs.lemmas.Bool.Decides.{nat_tests}
+use Rattle.std.proofs.lemmas.List.{get_or-take, get_or-drop, get_or_past}
+use Rattle.std.proofs.lemmas.List.Elements.{Contains-append_left, Contains-push_cases}
+use Rattle.romfs_format.specs.declared.head.Kind.TheVariants.{Directory, HardLink}
+use Rattle.romfs_format.specs.declared.limits.TheConstants.{HEAD_SIZE}
+use Rattle.romfs_format.specs.Fields.{word, root, IsInside, kind_of, kind, next, spec, cleared, text_end, text_at}
+use Rattle.devices.specs.Contents.{IsSizeOf}
+use Rattle.romfs_kept.specs.declared.pieces.Piece.{Piece}
+use Rattle.romfs_kept.specs.Pieces.{HasBlock, AreRight, IsFilled}
+use Rattle.romfs_kept.specs.Reads.{AreWithin, HasBytesAt, IsReadAt, AreAdded}
+use Rattle.romfs_kept.specs.Footprint.{IsClosed, is_same, reach}
+use Rattle.romfs_kept.specs.Gathered.{IsGathered, IsReach}
+use Rattle.romfs_kept.specs.Walk.{HasText, HasTarget, IsVisit, HasVisited, HasFront, HasPushed, GoesDown, IsDone, IsWalking, IsUnderWay, HasWalked}
+use Rattle.romfs_held.specs.Blocks.{IsFront}
+use Rattle.romfs_held.proofs.Fields.{word_same}
+use Rattle.romfs_kept.proofs.Names.{name_ends}
+
+-- how many bytes are looked at, by the first of them
+module _ (b front : List ℕ) (whole : ℕ) (long : whole ≡ min (length b) 4294967295) (h : HasBytesAt (take whole b) 0 front)
+    (n : length front ≡ 512) where
+  full_word : word front 8 ≡ word b 8
+  full_word = word_same front b 8 8 (λ i l. h.same (8 + i) (omega arith)
+      ∙ ap (λ k. get_or (take whole b) k 0) (let e : 0 + (8 + i) ≡ 8 + i = omega arith in e)
+      ∙ elim (cases_lt (8 + i) whole) [
+        | inl m ↦ get_or-take whole b (8 + i) 0 m
+        | inr m ↦ get_or_past (take whole b) (8 + i) 0 (let t = length-take whole b in omega arith)
+            ∙ sym (get_or_past b (8 + i) 0 (omega arith))
+      ])
+
+  reach_is : (full size : ℕ) → full ≡ word front 8 → full < 4294967296
+      → size ≡ min whole (if nat_le HEAD_SIZE full then full else HEAD_SIZE)
+      → size ≡ reach b
+  reach_is full size e l s = s ∙ rw (e ∙ full_word) (clip (word b 8) (omega (arith, e ∙ full_word)))
+    where
+      clip : (w : ℕ) → w < 4294967296
+          → min whole (if nat_le HEAD_SIZE w then w else HEAD_SIZE) ≡ min (length b) (if nat_le HEAD_SIZE w then w else HEAD_SIZE)
+      clip w l = elim (cases_lt w HEAD_SIZE) [
+        | inl m ↦ (let f : (if nat_le HEAD_SIZE w then w else HEAD_SIZE) ≡ HEAD_SIZE = grind (arith, nat_tests) in omega arith)
+        | inr m ↦ (let f : (if nat_le HEAD_SIZE w then w else HEAD_SIZE) ≡ w = grind (arith, nat_tests) in omega arith)
+      ]
+
+pub reached : (known : Option (List ℕ)) (whole full size : ℕ) (front : List ℕ) (len : ℕ) → IsSizeOf known len → whole ≡ min len 4294967295
+    → IsReadAt known whole 0 front → length front ≡ 512 → full ≡ word front 8 → full < 4294967296
+    → size ≡ min whole (if nat_le HEAD_SIZE full then full else HEAD_SIZE) → IsReach known size
+reached None whole full size front len l w r n f s e = tt
+reached (Some b) whole full size front len l w r n f s e = reach_is b front whole (w ∙ ap (λ k. min k 4294967295) l) r n full size f s e
+
+-- the volume name lies in the first bytes, and so they say where the root stands
+pub front_near : (xs front : List ℕ) → length front ≡ 512 → HasBytesAt xs 0 front
+    → IsFront xs 16 256 (take (length front - 16) (drop 16 front))
+front_near xs front n h = record {
+  is = λ i l m. sym (h.same (16 + i) (let e = long in omega arith)
+      ∙ ap (λ k. get_or xs k 0) (let e : 0 + (16 + i) ≡ 16 + i = omega arith in e))
+      ∙ sym (get_or-drop 16 front i 0) ∙ sym (get_or-take (length front - 16) (drop 16 front) i 0 (let e = long in omega arith));
+  stops = λ l. absurd (let e = long in omega arith);
+}
+  where
+    long : length (take (length front - 16) (drop 16 front)) ≡ 496
+    long = (let d = length-drop 16 front in let t = length-take (length front - 16) (drop 16 front) in omega arith)
+
+pub root_none : (xs : List ℕ) → ◌≡◌ {A = Option (List ℕ)} None (text_at xs 16) → 0 ≡ root xs
+unfolding root
+root_none xs e = ap (λ o. option_map_or (text_end 16) o 0) e
+
+pub root_some : (xs text : List ℕ) (n : ℕ) → Some text ≡ text_at xs 16 → n ≡ text_end 16 text → n ≡ root xs
+unfolding root
+root_some xs text n e f = f ∙ ap (λ o. option_map_or (text_end 16) o 0) e
+
+-- an image without a volume header has no volume name
+pub root_short : (xs : List ℕ) → length xs < 16 → 0 ≡ root xs
+root_short xs l = root_none xs (none (text_at xs 16) refl)
+  where
+    none : (o : Option (List ℕ)) → text_at xs 16 ≡ o → ◌≡◌ {A = Option (List ℕ)} None (text_at xs 16)
+    none None e = sym e
+    none (Some n) e = absurd (let t = name_ends xs n 16 e in let w = t.within in omega arith)
+
+-- the first bytes
+pub front_added : (known : Option (List ℕ)) (size root_at : ℕ) (front : List ℕ) (old new : List Piece) → AreWithin known size → old ≡ []
+    → IsReadAt known size 0 front → AreAdded known size 0 32 old new
+    → ((xs : List ℕ) → length xs ≡ size → HasBytesAt xs 0 front → root_at ≡ root xs) → HasFront known size root_at new
+front_added None size root_at front old new w e r a f = tt
+front_added (Some b) size root_at front old new w e r a f = record {
+  right = a.right (subst (λ l. AreRight (take size b) l) (sym e) none);
+  has = λ i l. subst (λ k. HasBlock new k) (let e : 0 + i ≡ i = omega arith in e) (a.has i l);
+  is = f (take size b) (length-take-le size b w) r;
+}
+  where
+    none : AreRight (take size b) []
+    none = record { each = λ x c. absurd (let l = c.1 in omega arith) }
+
+-- places of headers are multiples of 16 that fit a word, so there are few
+pub record IsPlace (h : ℕ) : Type 0 where
+  pub even : h % 16 ≡ 0
+  pub small : h < 2 ^ 32
+
+pub few_places : (keys : List ℕ) → IsStrictlySortedBy nat_cmp keys → ((i : ℕ) → i < length keys → IsPlace (get_or keys i 0))
+    → length keys ≤ 2 ^ 28
+few_places keys s p = elim (cases_lt (2 ^ 28) (length keys)) [
+  | inl l ↦ absurd (let a = at (2 ^ 28) l in let b = (p (2 ^ 28) l).small in omega arith)
+  | inr l ↦ l
+]
+  where
+    at : (k : ℕ) → k < length keys → 16 * k ≤ get_or keys k 0
+    at zero l = omega arith
+    at (suc k) l =
+        let a = at k (omega arith) in
+        let b = below_from_sorted keys k (suc k) 0 s (omega arith) l in
+        let c = (p k (omega arith)).even in
+        let d = (p (suc k) l).even in
+        omega arith
+
+or_true : (b : Bool) → (b || true) ≡ true
+or_true true = refl
+or_true false = refl
+
+any_at : (test : ℕ → Bool) (keys : List ℕ) (i : ℕ) → i < length keys → test (get_or keys i 0) ≡ true → list_any test keys ≡ true
+any_at test [] i l e = absurd (omega arith)
+any_at test (k ∷ ks) zero l e = ap (λ b. b || list_any test ks) e
+any_at test (k ∷ ks) (suc i) l e = ap (λ b. test k || b) (any_at test ks i (omega arith) e) ∙ or_true (test k)
+
+equal_itself : (k : ℕ) → is_eq (nat_cmp k k) ≡ true
+equal_itself k = grind (arith, nat_tests)
+
+-- so few places are noted
+pub few_noted : (noted : BTreeSet ℕ) → IsOrdered nat_cmp noted → ((h : ℕ) → IsTrue (contains nat_cmp noted h) → IsPlace h)
+    → length noted.keys ≤ 2 ^ 28
+few_noted noted s p = few_places noted.keys s (λ i l.
+    p (get_or noted.keys i 0) (any_at (is_at (nat_cmp (get_or noted.keys i 0))) noted.keys i l (equal_itself (get_or noted.keys i 0))))
+
+pub smaller : (len more most before todo mid after : ℕ) → before ≡ todo + 1 → mid + len ≡ todo + more → after + more ≡ mid + most
+    → len ≤ more → more ≤ most → most ≤ 2 ^ 28 → 2 ^ 28 - most + after < 2 ^ 28 - len + before
+smaller len more most before todo mid after a b c d e f = omega arith
+
+still_text : (xs : List ℕ) (old new : List Piece) (p : ℕ) → ((b : ℕ) → HasBlock old b → HasBlock new b) → HasText old xs p
+    → HasText new xs p
+still_text xs old new p s t = record { each = λ i l m n. s ((p + i) / 16) (t.each i l m n) }
+
+still_target : (xs : List ℕ) (old new : List Piece) (h : ℕ) → ((b : ℕ) → HasBlock old b → HasBlock new b) → HasTarget old xs h
+    → HasTarget new xs h
+still_target xs old new h s t = record { each = λ k l n e i m o. s _ (t.each k l n e i m o) }
+
+module _ (start at end : ℕ) (old new : List Piece) (before todo mid after : List ℕ) (noted more most : ℕ → Bool) (first second : ℕ)
+    (test down : Bool)
+    (popped : before ≡ todo ++ at ∷ [])
+    (one : HasPushed todo mid noted more test (cleared first)) (two : HasPushed mid after more most down (cleared second))
+    (goes : start ≤ at → at + 16 ≤ end → cleared first ≢ 0 → IsTrue test)
+    (at_start : at ≡ start → IsTrue down)
+    (directory : start ≤ at → at + 16 ≤ end → kind_of (first % 8) ≡ Directory → IsTrue down)
+    (link : start ≤ at → at + 16 ≤ end → kind_of (first % 8) ≡ HardLink → IsTrue down) where
+  module _ (xs : List ℕ) (long : length xs ≡ end) (is_root : start ≡ root xs) (w : IsWalking xs old before noted)
+      (v : IsVisit xs at old new first second) where
+    next_noted : IsInside xs at → next xs at ≢ 0 → IsTrue (most (next xs at))
+    next_noted i n =
+        let i0 = i.0 in
+        let i1 = i.1 in
+        let e : cleared first ≡ next xs at = ap cleared v.first_is in
+        two.stays (next xs at) (subst (λ h. IsTrue (more h)) e (one.has (goes (omega arith) (omega arith) (λ z. n (sym e ∙ z)))))
+
+    spec_noted : GoesDown xs at → IsTrue (most (cleared (spec xs at)))
+    spec_noted g =
+        let e : cleared second ≡ cleared (spec xs at) = ap cleared v.second_is in
+        let k : kind_of (first % 8) ≡ kind xs at = ap (λ n. kind_of (n % 8)) v.first_is in
+        subst (λ h. IsTrue (most h)) e (two.has (elim g [
+          | inl r ↦ at_start (r ∙ sym is_root)
+          | inr x ↦ (let x0 = x.0.0 in let x1 = x.0.1 in elim (x.1) [
+            | inl d ↦ directory (omega arith) (omega arith) (k ∙ d)
+            | inr l ↦ link (omega arith) (omega arith) (k ∙ l)
+          ])
+        ]))
+
+    done_at : IsDone xs new most at
+    done_at = record { head = v.head; text = v.text; target = v.target; to_next = next_noted; to_spec = spec_noted }
+
+    still_done : (h : ℕ) → IsDone xs old noted h → IsDone xs new most h
+    still_done h d = record {
+      head = v.stays (h / 16) d.head;
+      text = still_text xs old new (h + 16) v.stays d.text;
+      target = still_target xs old new h v.stays d.target;
+      to_next = λ i n. two.stays _ (one.stays _ (d.to_next i n));
+      to_spec = λ g. two.stays _ (one.stays _ (d.to_spec g));
+    }
+
+    from_old : (h : ℕ) → IsTrue (noted h) → Contains after h ⊎ IsDone xs new most h
+    from_old h s = elim (w.each h s) [
+      | inl c ↦ elim (Contains-push_cases todo at h (subst (λ l. Contains l h) popped c)) [
+        | inl d ↦ inl (two.grown h (one.grown h d))
+        | inr e ↦ inr (subst (λ k. IsDone xs new most k) e done_at)
+      ]
+      | inr d ↦ inr (still_done h d)
+    ]
+
+    turned : IsWalking xs new after most
+    turned = record {
+      right = v.right w.right;
+      front = λ i l. v.stays i (w.front i l);
+      at_root = two.stays _ (one.stays _ w.at_root);
+      each = λ h s. elim (two.only h s) [
+        | inl m ↦ elim (one.only h m) [
+          | inl o ↦ from_old h o
+          | inr e ↦ inl (two.grown h e.1)
+        ]
+        | inr e ↦ inl e.1
+      ];
+    }
+
+  pub under_turn : (known : Option (List ℕ)) → AreWithin known end → IsUnderWay known end start old before noted
+      → HasVisited known end at old new first second → IsUnderWay known end start new after most
+  under_turn None l u v = tt
+  under_turn (Some b) l u v = (u.0, turned (take end b) (length-take-le end b l) u.0 u.1 v)
+
+-- the places that wait or are noted stay places
+pub places_turn : (old new : ℕ → Bool) (todo more : List ℕ) (test : Bool) (place : ℕ) → HasPushed todo more old new test place
+    → IsPlace place
+    → ((h : ℕ) → IsTrue (old h) → IsPlace h) → (h : ℕ) → IsTrue (new h) → IsPlace h
+places_turn old new todo more test place p is o h s = elim (p.only h s) [
+  | inl x ↦ o h x
+  | inr e ↦ subst (λ k. IsPlace k) (sym e.0) is
+]
+
+pub waiting_turn : (old new : ℕ → Bool) (todo more : List ℕ) (test : Bool) (place : ℕ) → HasPushed todo more old new test place
+    → IsPlace place
+    → ((h : ℕ) → Contains todo h → IsPlace h) → (h : ℕ) → Contains more h → IsPlace h
+waiting_turn old new todo more test place p is o h s = elim (p.from h s) [
+  | inl x ↦ o h x
+  | inr e ↦ subst (λ k. IsPlace k) (sym e) is
+]
+
+pub waiting_popped : (before todo : List ℕ) (at : ℕ) → before ≡ todo ++ at ∷ [] → ((h : ℕ) → Contains before h → IsPlace h)
+    → (h : ℕ) → Contains todo h → IsPlace h
+waiting_popped before todo at e w h c = w h (subst (λ l. Contains l h) (sym e) (Contains-append_left todo (at ∷ []) h c))
+
+pub cleared_place : (n : ℕ) → n < 2 ^ 32 → IsPlace (cleared n)
+cleared_place n l = record { even = omega arith; small = omega arith }
+
+pub under_start : (known : Option (List ℕ)) (end start : ℕ) (pieces : List Piece) (none todo : List ℕ) (noted more : ℕ → Bool)
+    → HasFront known end start pieces → ((h : ℕ) → IsTrue (noted h) → ⊥) → HasPushed none todo noted more true start
+    → IsUnderWay known end start pieces todo more
+under_start None end start pieces none todo noted more f n p = tt
+under_start (Some b) end start pieces none todo noted more f n p = (
+  f.is,
+  record {
+    right = f.right;
+    front = f.has;
+    at_root = subst (λ h. IsTrue (more h)) f.is (p.has refl);
+    each = λ h s. elim (p.only h s) [
+      | inl x ↦ absurd (n h x)
+      | inr e ↦ inl e.1
+    ];
+  },
+)
+
+same_byte : (x y : ℕ) → x ≡ y → IsTrue (x == y)
+same_byte x y e = grind (arith, nat_tests)
+
+module _ (xs a : List ℕ) (pieces : List Piece) (noted : ℕ → Bool) (size : ℕ) (long : length xs ≡ size)
+    (w : IsWalking xs pieces [] noted) (even : (h : ℕ) → IsTrue (noted h) → h % 16 ≡ 0) (filled : IsFilled pieces size a) where
+  kept_at : (p : ℕ) → p < length xs → HasBlock pieces (p / 16) → IsTrue (is_same xs a p)
+  kept_at p l h = same_byte _ _ (sym (filled.same xs w.right p (omega arith) h))
+
+  done : (h : ℕ) → IsTrue (noted h) → IsDone xs pieces noted h
+  done h s = elim (w.each h s) [
+    | inl c ↦ absurd (let l = c.1 in omega arith)
+    | inr d ↦ d
+  ]
+
+  down : (h : ℕ) → (h ≡ root xs) ⊎ (IsInside xs h × (kind xs h ≡ Directory)) → GoesDown xs h
+  down h (inl f) = inl f
+  down h (inr k) = inr (k.0, inl k.1)
+
+  closed : IsClosed (is_same xs a) noted xs
+  closed = record {
+    front = λ p l m. kept_at p m (w.front (p / 16) (omega arith));
+    at_root = w.at_root;
+    head = λ h i s l m. kept_at (h + i) m (subst (λ q. HasBlock pieces q)
+        (let e = even h s in let z : h / 16 ≡ (h + i) / 16 = omega arith in z) ((done h s).head));
+    text = λ h s. record { each = λ i l m n. kept_at (h + 16 + i) m ((done h s).text.each i l m n) };
+    target = λ h s. record { each = λ k l n e i m o. kept_at _ o ((done h s).target.each k l n e i m o) };
+    to_next = λ h s i n. (done h s).to_next i n;
+    to_first = λ h s d n. (done h s).to_spec (down h d);
+    to_link = λ h s i k. (done h s).to_spec (inr (i, inr k));
+  }
+
+pub gathered : (known : Option (List ℕ)) (size : ℕ) (pieces : List Piece) (a : List ℕ) → AreWithin known size → IsReach known size
+    → HasWalked known size pieces → length a ≡ size → IsFilled pieces size a → IsGathered known a
+gathered None size pieces a w r k l f = tt
+gathered (Some b) size pieces a w r k l f = record {
+  long = l ∙ r;
+  headers = k.0;
+  closed = subst (λ n. IsClosed (is_same (take n b) a) k.0 (take n b)) (sym l)
+      (closed (take size b) a pieces k.0 size (length-take-le size b w) k.1 k.2 f);
+}

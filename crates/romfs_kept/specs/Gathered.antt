@@ -1,0 +1,52 @@
+-- What is kept of an image.
+use Rattle.std.specs.Prelude.{◌≡◌, ℕ, ◌/◌, ◌^◌, ◌≤◌, ◌&&◌, List, length, take, drop, Bool, true, false, Option, Some, None, ⊤, nat_eq, nat_le, nat_lt, codes, if◌then◌else◌}
+use Rattle.std.specs.List.{starts_with}
+use Rattle.romfs_format.specs.declared.limits.TheConstants.{TRAILER_HEAD_SIZE}
+use Rattle.romfs_format.specs.Fields.{padded}
+use Rattle.romfs_format.specs.Trailer.{row_count, row_start}
+use Rattle.romfs_kept.specs.Footprint.{IsClosed, is_same, reach}
+
+-- the list is as long as what is looked at, and has its bytes at a closed set of headers
+pub record IsGatheredOf (b a : List ℕ) : Type 0 where
+  pub long : length a ≡ reach b
+  pub headers : ℕ → Bool
+  pub closed : IsClosed (is_same (take (length a) b) a) headers (take (length a) b)
+
+-- the same, if the bytes are known
+abbrev pub IsGathered : Option (List ℕ) → List ℕ → Type 0
+IsGathered None a = ⊤
+IsGathered (Some b) a = IsGatheredOf b a
+
+-- this many bytes are looked at
+abbrev pub IsReach : Option (List ℕ) → ℕ → Type 0
+IsReach None size = ⊤
+IsReach (Some b) size = size ≡ reach b
+
+-- a trailer begins at the place
+abbrev pub begins_trailer : List ℕ → ℕ → Bool
+begins_trailer b place =
+    nat_lt place (2 ^ 32) && starts_with nat_eq (drop place b) (codes "-attr01-")
+
+-- how much is kept of a trailer of this many bytes and rows: all up to its end; only the head if it
+-- is cut off, or has more rows than an image of this full size has places for headers
+abbrev pub kept_end : ℕ → ℕ → ℕ → ℕ
+kept_end full room rows =
+    if nat_le (row_start rows) room && nat_le rows (padded full / 16)
+    then row_start rows else TRAILER_HEAD_SIZE
+
+-- what is kept of the bytes t, which begin with a trailer
+abbrev pub kept_tail : ℕ → List ℕ → List ℕ
+kept_tail full t = take (kept_end full (length t) (row_count t)) t
+
+-- what was gathered, and behind it what is kept of the trailer, if one begins there
+pub record IsGatheredWithTrailerOf (b a : List ℕ) : Type 0 where
+  pub short : length a ≤ length b
+  pub front : IsGatheredOf b (take (reach b) a)
+  pub none : begins_trailer b (padded (reach b)) ≡ false → length a ≡ reach b
+  pub tail : begins_trailer b (padded (reach b)) ≡ true
+      → drop (padded (reach b)) a ≡ kept_tail (reach b) (drop (padded (reach b)) b)
+
+-- the same, if the bytes are known
+abbrev pub IsGatheredWithTrailer : Option (List ℕ) → List ℕ → Type 0
+IsGatheredWithTrailer None a = ⊤
+IsGatheredWithTrailer (Some b) a = IsGatheredWithTrailerOf b a

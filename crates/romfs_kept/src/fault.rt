@@ -1,0 +1,31 @@
+//! Why an image is not gathered.
+
+ghost use Rattle.std.specs.Prelude.{◌≡◌};
+ghost use Rattle.romfs_kept.specs.declared.fault.GatherFault.TheVariants.{Memory};
+
+use std::alloc::{AllocError, AllocFailed};
+
+/// Why nothing was kept of an image.
+#[derive(Clone, Copy, Debug, PartialEq, Eq)]
+pub enum GatherFault {
+    /// A read failed, or the bytes ended before the reported size.
+    Unread,
+    /// Memory was refused, or a trailer ends beyond the places that can be kept.
+    Memory,
+}
+
+impl From<AllocError> for GatherFault {
+    ghost from_gives = { λ _ fault. fault ≡ Memory };
+
+    fn from(_error: AllocError) -> GatherFault {
+        GatherFault::Memory
+    }
+}
+
+impl<T: Drop> From<AllocFailed<T>> for GatherFault {
+    ghost from_gives = { λ _ fault. fault ≡ Memory };
+
+    fn from(_error: AllocFailed<T>) -> GatherFault {
+        GatherFault::Memory
+    }
+}

@@ -1,0 +1,206 @@
+//! The walk over the headers of an image.
+//!
+//! It begins at the root and follows each header: to the header after it, the first header of a
+//! directory, the destination of a hard link. Each place is noted when it is first named, and
+//! visited once, so loops end. A place outside is noted too, and leads nowhere.
+
+ghost use Rattle.std.specs.Prelude.{◌≡◌, ◌≢◌, ◌+◌, ◌-◌, ◌%◌, ◌<◌, ◌≤◌, ◌^◌, [], length, min, ℕ, List, IsTrue, IfOk, OnOk, IfErr, if◌then◌else◌, nat_le};
+ghost use Rattle.std.specs.BTreeSet.{contains, btree_set_len, IsOrdered};
+ghost use Rattle.std.specs.Ordering.{nat_cmp};
+ghost use Rattle.romfs_format.specs.declared.head.Kind.TheVariants.{Directory, HardLink};
+ghost use Rattle.romfs_format.specs.declared.limits.TheConstants.{HEAD_SIZE};
+ghost use Rattle.romfs_format.specs.Fields.{root, word, kind_of};
+ghost use Rattle.romfs_kept.specs.Reads.{AreWithin, IsCause, IsHeld, IsReadAt, HasBytesAt};
+ghost use Rattle.romfs_kept.specs.Gathered.{IsGathered, IsReach};
+ghost use Rattle.romfs_kept.specs.Walk.{HasFront, HasPushed, IsUnderWay, HasWalked};
+
+use crate::fault::GatherFault;
+use crate::packing::pack;
+use crate::pieces::Piece;
+use crate::visit::{keep_row, visit};
+use crate::window::{Window, read};
+use devices::Contents;
+use romfs_format::Kind;
+use romfs_format::limits::{HEAD_SIZE, SUMMED_SIZE};
+use romfs_format::read::{cleared, kind_of, padded, word};
+use romfs_held::Kept;
+use romfs_held::blocks::text_in;
+use std::alloc::{AllocError, Allocator};
+use std::collections::BTreeSet;
+
+/// Keeps of an image its first 512 bytes, and each header that the root leads to, with its name
+/// and, of a symbolic link, its target. Of bytes behind the full size nothing is looked at. Nothing
+/// is judged: what leads outside or in a loop is followed no further, and what is no image is
+/// gathered like any other bytes.
+///
+/// `Unread` only if a read failed, or if the bytes end before the reported size; `Memory` only if
+/// memory was refused. A read of known bytes never fails.
+///
+/// A header is read once. It takes two reads at most, and a third for the target of a symbolic link
+/// whose name has 48 bytes or more; adjacent headers take fewer. Memory is taken in proportion to
+/// headers, names and targets, and n log n steps, in whatever order they come.
+pub fn gather<S: Contents, A: Allocator + Copy>(
+    alloc: A,
+    source: &S,
+) -> Result<Kept<A>, GatherFault>
+    ensures ok { IfOk result (IsGathered (S.contents source.now)) }
+    ensures err { IfErr result (IsCause (S.contents source.now)) }
+{
+    let mut window = Window::new(alloc);
+    let size = full_size(source, &mut window)?;
+    let mut pieces = Vec::new(alloc);
+    let root = keep_front(source, &mut window, size, &mut pieces)?;
+    walk(alloc, source, &mut window, size, root, &mut pieces)?;
+    Ok(pack(alloc, size, pieces)?)
+}
+
+/// How many bytes are looked at.
+fn full_size<S: Contents, A: Allocator>(
+    source: &S,
+    window: &mut Window<A>,
+) -> Result<u32, GatherFault>
+    requires { length window.old.bytes.items ≡ 0 }
+    ensures held { OnOk result
+        (IsHeld (S.contents source.now) window.new.start window.new.bytes.items) }
+    ensures reach { IfOk result (IsReach (S.contents source.now)) }
+    ensures within { IfOk result (AreWithin (S.contents source.now)) }
+    ensures err { IfErr result (IsCause (S.contents source.now)) }
+{
+    let whole = source.size().min(u64::from(u32::MAX)) as u32;
+    let mut front = [0u8; SUMMED_SIZE];
+    read(source, window, whole, 0, &mut front)?;
+    Ok(whole.min(least(word(&front, 8))))
+}
+
+/// A full size, or the size of a volume header if it is less.
+fn least(full: u32) -> u32
+    ensures value { result ≡ (if nat_le HEAD_SIZE full then full else HEAD_SIZE) }
+    ensures small { full < 2 ^ 32 }
+{
+    if HEAD_SIZE as u32 <= full {
+        full
+    } else {
+        HEAD_SIZE as u32
+    }
+}
+
+/// Adds the first bytes, and gives the place of the root.
+fn keep_front<S: Contents, A: Allocator>(
+    source: &S,
+    window: &mut Window<A>,
+    size: u32,
+    pieces: &mut Vec<Piece, A>,
+) -> Result<u32, GatherFault>
+    requires empty { pieces.old.items ≡ [] }
+    requires within { AreWithin (S.contents source.now) size }
+    requires held { IsHeld (S.contents source.now) window.old.start window.old.bytes.items }
+    ensures held { OnOk result
+        (IsHeld (S.contents source.now) window.new.start window.new.bytes.items) }
+    ensures front { IfOk result (λ root_at.
+        HasFront (S.contents source.now) size root_at pieces.new.items) }
+    ensures even { IfOk result (λ root_at. root_at % 16 ≡ 0) }
+    ensures err { IfErr result (IsCause (S.contents source.now)) }
+{
+    let mut front = [0u8; SUMMED_SIZE];
+    keep_row(source, window, size, 0, &mut front, pieces)?;
+    Ok(root_in(&front, size))
+}
+
+/// The place of the root, from the first bytes.
+#[tactic(auto, unfolding(romfs_format::specs::Fields::root))]
+fn root_in(front: &[u8], size: u32) -> u32
+    requires { length front.now ≡ 512 }
+    ensures root { (xs : List ℕ) → length xs ≡ size → HasBytesAt xs 0 front.now →
+        result ≡ root xs }
+    ensures even { result % 16 ≡ 0 }
+{
+    if size < HEAD_SIZE as u32 {
+        return 0;
+    }
+    match text_in(&front[HEAD_SIZE..], HEAD_SIZE as u32, size) {
+        None => 0,
+        Some(name) => (HEAD_SIZE + padded(name.len() + 1)) as u32,
+    }
+}
+
+/// Looks at the root, and at all that it leads to.
+fn walk<S: Contents, A: Allocator + Copy>(
+    alloc: A,
+    source: &S,
+    window: &mut Window<A>,
+    size: u32,
+    root: u32,
+    pieces: &mut Vec<Piece, A>,
+) -> Result<(), GatherFault>
+    requires even { root % 16 ≡ 0 }
+    requires front { HasFront (S.contents source.now) size root pieces.old.items }
+    requires within { AreWithin (S.contents source.now) size }
+    requires held { IsHeld (S.contents source.now) window.old.start window.old.bytes.items }
+    ensures ok { OnOk result (HasWalked (S.contents source.now) size pieces.new.items) }
+    ensures err { IfErr result (IsCause (S.contents source.now)) }
+{
+    let mut todo = Vec::new(alloc);
+    let mut noted = BTreeSet::new(alloc);
+    note(&mut todo, &mut noted, true, root)?;
+    while let Some(at) = todo.pop() {
+        let words = visit(source, window, size, at, pieces)?;
+        let next = cleared(words.first);
+        let goes_on = follows_next(root, size, at, next);
+        note(&mut todo, &mut noted, goes_on, next)?;
+        let goes_down = follows_spec(root, size, at, words.first);
+        note(&mut todo, &mut noted, goes_down, cleared(words.second))?;
+    }
+    Ok(())
+}
+
+/// Lets a place wait, if it is to, and if it was not noted before.
+fn note<A: Allocator + Clone>(
+    todo: &mut Vec<u32, A>,
+    noted: &mut BTreeSet<u32, A>,
+    test: bool,
+    place: u32,
+) -> Result<(), AllocError>
+    ensures pushed { OnOk result (HasPushed todo.old.items todo.new.items
+        (contains nat_cmp noted.old) (contains nat_cmp noted.new) test place) }
+    ensures count { OnOk result (length todo.new.items + btree_set_len noted.old
+        ≡ length todo.old.items + btree_set_len noted.new) }
+    ensures more { OnOk result (btree_set_len noted.old ≤ btree_set_len noted.new) }
+    ensures ordered { IsOrdered nat_cmp noted.old → IsOrdered nat_cmp noted.new }
+{
+    if !test {
+        return Ok(());
+    }
+    if !noted.insert(place)? {
+        return Ok(());
+    }
+    todo.push(place)?;
+    Ok(())
+}
+
+/// Whether the header after the one at a place is visited.
+fn follows_next(root: u32, size: u32, at: u32, next: u32) -> bool
+    ensures { root ≤ at → at + HEAD_SIZE ≤ size → next ≢ 0 → IsTrue result }
+{
+    root <= at && at as usize + HEAD_SIZE <= size as usize && next != 0
+}
+
+/// Whether the header that spec.info names is looked at.
+fn follows_spec(root: u32, size: u32, at: u32, first: u32) -> bool
+    ensures root { at ≡ root → IsTrue result }
+    ensures directory { root ≤ at → at + HEAD_SIZE ≤ size →
+        kind_of (first % 8) ≡ Directory → IsTrue result }
+    ensures link { root ≤ at → at + HEAD_SIZE ≤ size →
+        kind_of (first % 8) ≡ HardLink → IsTrue result }
+{
+    if at == root {
+        return true;
+    }
+    if root <= at && at as usize + HEAD_SIZE <= size as usize {
+        return match kind_of(first) {
+            Kind::Directory => true,
+            Kind::HardLink => true,
+            _ => false,
+        };
+    }
+    false
+}

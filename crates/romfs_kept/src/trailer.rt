@@ -1,0 +1,144 @@
+//! The attribute trailer of an image that stays in its file.
+//!
+//! It follows the full size, where the walk does not look. It is read at once, and put after what
+//! the walk kept.
+
+ghost use Rattle.std.specs.Prelude.{◌≡◌, ◌+◌, ◌*◌, ◌/◌, ◌<◌, ◌≤◌, ◌^◌, length, IfOk, IfErr, IfSome, MatchOption, OnOk};
+ghost use Rattle.romfs_kept.specs.Gathered.{IsGatheredWithTrailer, kept_end};
+ghost use Rattle.romfs_kept.specs.Reads.{AreWithin, IsCause, IsHeld};
+ghost use Rattle.romfs_kept.specs.Tails.{BeginsTrailer, IsNoTail, IsRoom, IsTail, IsTailEnd};
+
+use crate::fault::GatherFault;
+use crate::gathering::gather;
+use crate::window::load;
+use devices::Contents;
+use romfs_format::limits::{HEAD_SIZE, ROW_SIZE, TRAILER_HEAD_SIZE};
+use romfs_format::read::{padded, word};
+use romfs_held::Kept;
+use std::alloc::Allocator;
+
+/// The letters with which a trailer begins.
+const LETTERS: &[u8; 8] = b"-attr01-";
+
+/// Nothing is kept from here on: places are numbers of 32 bits.
+const PLACES: u64 = 1 << 32;
+
+/// Keeps what [`gather`] keeps of an image, and after it the attribute trailer, if there is one:
+/// all of it; or only its head if it is cut off, or has more rows than there are places for
+/// headers, which breaks it in any case.
+///
+/// The errors are those of `gather`, and `Memory` if a trailer does not end below 2^32, for which
+/// there is no room. It takes three more reads, and 32 bytes for each row, twice while they are put
+/// after the others.
+pub fn gather_with_trailer<S: Contents, A: Allocator + Copy>(
+    alloc: A,
+    source: &S,
+) -> Result<Kept<A>, GatherFault>
+    ensures ok { IfOk result (IsGatheredWithTrailer (S.contents source.now)) }
+    ensures err { IfErr result (IsCause (S.contents source.now)) }
+{
+    let front = gather(alloc, source)?;
+    let full = front.held().len() as u32;
+    match read_trailer(alloc, source, full)? {
+        None => Ok(front),
+        Some(tail) => Ok(front.followed(padded(full as usize) as u32, &tail)?),
+    }
+}
+
+/// Reads what is kept of the trailer of an image of this full size, if it has one.
+fn read_trailer<S: Contents, A: Allocator>(
+    alloc: A,
+    source: &S,
+    full: u32,
+) -> Result<Option<Vec<u8, A>>, GatherFault>
+    ensures ok { IfOk result (λ read. MatchOption read
+        (IsNoTail (S.contents source.now) full)
+        (λ tail. IsTail (S.contents source.now) full tail.items)) }
+    ensures small { IfOk result (λ read. IfSome read
+        (λ tail. (full + 15) / 16 * 16 + length tail.items < 2 ^ 32)) }
+    ensures err { IfErr result (IsCause (S.contents source.now)) }
+{
+    let place = padded(full as usize);
+    let room = source.size().saturating_sub(place as u64);
+    let mut tail = Vec::new(alloc);
+    if !begins_trailer(source, &mut tail, place, room)? {
+        return Ok(None);
+    }
+    let end = tail_end(source, &mut tail, place, room, full)?;
+    read_tail(source, &mut tail, place, room.min(end))?;
+    Ok(Some(tail))
+}
+
+/// Whether a place, followed by this many bytes, has the letters of a trailer.
+fn begins_trailer<S: Contents, A: Allocator>(
+    source: &S,
+    tail: &mut Vec<u8, A>,
+    place: usize,
+    room: u64,
+) -> Result<bool, GatherFault>
+    requires place { place ≤ 2 ^ 32 }
+    requires room { IsRoom (S.contents source.now) place room }
+    ensures ok { IfOk result (λ yes. BeginsTrailer (S.contents source.now) place yes) }
+    ensures err { IfErr result (IsCause (S.contents source.now)) }
+{
+    if place as u64 == PLACES || room < 8 {
+        return Ok(false);
+    }
+    read_tail(source, tail, place, 8)?;
+    Ok(tail.starts_with(LETTERS))
+}
+
+/// How many bytes of a trailer are kept.
+fn tail_end<S: Contents, A: Allocator>(
+    source: &S,
+    tail: &mut Vec<u8, A>,
+    place: usize,
+    room: u64,
+    full: u32,
+) -> Result<u64, GatherFault>
+    requires place { place ≤ 2 ^ 32 }
+    requires room { IsRoom (S.contents source.now) place room }
+    ensures ok { IfOk result (IsTailEnd (S.contents source.now) place full) }
+    ensures small { IfOk result (λ end. end < 2 ^ 40) }
+    ensures err { IfErr result (IsCause (S.contents source.now)) }
+{
+    if room < TRAILER_HEAD_SIZE as u64 {
+        return Ok(TRAILER_HEAD_SIZE as u64);
+    }
+    read_tail(source, tail, place, TRAILER_HEAD_SIZE as u64)?;
+    Ok(end_by(word(tail, 8), room, full))
+}
+
+/// The same, by how many rows there are.
+fn end_by(rows: u32, room: u64, full: u32) -> u64
+    ensures value { result ≡ kept_end full room rows }
+    ensures small { result < 2 ^ 40 }
+{
+    let end = TRAILER_HEAD_SIZE as u64 + ROW_SIZE as u64 * u64::from(rows);
+    if end <= room && rows as usize <= padded(full as usize) / HEAD_SIZE {
+        end
+    } else {
+        TRAILER_HEAD_SIZE as u64
+    }
+}
+
+/// Reads this many bytes from a place on, in place of others.
+fn read_tail<S: Contents, A: Allocator>(
+    source: &S,
+    tail: &mut Vec<u8, A>,
+    place: usize,
+    count: u64,
+) -> Result<(), GatherFault>
+    requires place { place ≤ 2 ^ 32 }
+    requires count { count < 2 ^ 40 }
+    requires within { AreWithin (S.contents source.now) (place + count) }
+    ensures small { OnOk result (place + count < 2 ^ 32) }
+    ensures long { OnOk result (length tail.new.items ≡ count) }
+    ensures held { OnOk result (IsHeld (S.contents source.now) place tail.new.items) }
+    ensures err { IfErr result (IsCause (S.contents source.now)) }
+{
+    if place as u64 + count >= PLACES {
+        return Err(GatherFault::Memory);
+    }
+    load(source, tail, place, count as usize)
+}

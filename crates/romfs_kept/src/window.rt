@@ -1,0 +1,173 @@
+//! Reading in few reads.
+//!
+//! The last read is a window, whose bytes are not read again. A window is as long as the request,
+//! or 64 bytes. It is twice as long as the one before, up to 64 KiB, if three quarters of that one
+//! were kept: adjacent headers are read many at a time, and little is read of the data between
+//! others.
+
+ghost use Rattle.std.specs.Prelude.{◌≡◌, ◌+◌, ◌<◌, ◌≤◌, ◌^◌, ◌++◌, length, take, drop, replicate, IsTrue, OnOk, IfErr};
+ghost use Rattle.romfs_kept.specs.Reads.{AreWithin, IsCause, IsHeld, IsReadAt};
+
+use crate::fault::GatherFault;
+use devices::{Contents, fill};
+use std::alloc::Allocator;
+
+/// The least bytes of a window.
+const LEAST: usize = 64;
+
+/// The most bytes of a window that is longer than what is asked for.
+const MOST: usize = 65_536;
+
+/// Bytes that were read at once.
+#[derive(Drop)]
+pub struct Window<A: Allocator> {
+    /// Their place.
+    pub start: usize,
+    pub bytes: Vec<u8, A>,
+    /// How many bytes were kept since they were read.
+    pub used: usize,
+}
+
+impl<A: Allocator> Window<A> {
+    /// A window of no bytes.
+    pub fn new(alloc: A) -> Window<A>
+        ensures { length result.bytes.items ≡ 0 }
+    {
+        Window {
+            start: 0,
+            bytes: Vec::new(alloc),
+            used: 0,
+        }
+    }
+}
+
+/// Notes that this many bytes of what was read were kept.
+pub fn note_used<A: Allocator>(window: &mut Window<A>, count: usize)
+    ensures start { window.new.start ≡ window.old.start }
+    ensures bytes { window.new.bytes.items ≡ window.old.bytes.items }
+{
+    window.used = window.used.saturating_add(count);
+}
+
+/// Fills a room with the bytes from a place on, of an image of this size, and with zeros behind
+/// its end.
+pub fn read<S: Contents, A: Allocator>(
+    source: &S,
+    window: &mut Window<A>,
+    size: u32,
+    at: u32,
+    room: &mut [u8],
+) -> Result<(), GatherFault>
+    requires few { length room.old ≤ 4096 }
+    requires within { AreWithin (S.contents source.now) size }
+    requires held { IsHeld (S.contents source.now) window.old.start window.old.bytes.items }
+    ensures held { OnOk result
+        (IsHeld (S.contents source.now) window.new.start window.new.bytes.items) }
+    ensures room { OnOk result (IsReadAt (S.contents source.now) size at room.new) }
+    ensures err { IfErr result (IsCause (S.contents source.now)) }
+{
+    clear(room);
+    if at >= size {
+        return Ok(());
+    }
+    let from = at as usize;
+    let count = room.len().min((size - at) as usize);
+    look_at(source, window, size, from, count)?;
+    copy_part(&window.bytes, from - window.start, count, room);
+    Ok(())
+}
+
+/// Fills a room with zeros.
+fn clear(room: &mut [u8])
+    ensures { room.new ≡ replicate (length room.old) 0 }
+{
+    room.fill(0);
+}
+
+/// Copies a part of some bytes to the front of a room.
+fn copy_part(bytes: &[u8], from: usize, count: usize, room: &mut [u8])
+    requires bytes { from + count ≤ length bytes.now }
+    requires room { count ≤ length room.old }
+    ensures { room.new ≡ take count (drop from bytes.now) ++ drop count room.old }
+{
+    room[..count].copy_from_slice(&bytes[from..from + count]);
+}
+
+/// Sees to it that this many bytes from a place on are in the window.
+fn look_at<S: Contents, A: Allocator>(
+    source: &S,
+    window: &mut Window<A>,
+    size: u32,
+    from: usize,
+    count: usize,
+) -> Result<(), GatherFault>
+    requires few { from + count ≤ size }
+    requires within { AreWithin (S.contents source.now) size }
+    requires held { IsHeld (S.contents source.now) window.old.start window.old.bytes.items }
+    ensures held { OnOk result
+        (IsHeld (S.contents source.now) window.new.start window.new.bytes.items) }
+    ensures low { OnOk result (window.new.start ≤ from) }
+    ensures high { OnOk result (from + count ≤ window.new.start + length window.new.bytes.items) }
+    ensures err { IfErr result (IsCause (S.contents source.now)) }
+{
+    if covers(window, from, count) {
+        return Ok(());
+    }
+    let wanted = next_len(window.bytes.len(), window.used).max(count);
+    let len = wanted.min(size as usize - from);
+    load(source, &mut window.bytes, from, len)?;
+    window.start = from;
+    window.used = 0;
+    Ok(())
+}
+
+/// Whether this many bytes from a place on are in the window.
+fn covers<A: Allocator>(window: &Window<A>, from: usize, count: usize) -> bool
+    requires few { from + count < 2 ^ 32 }
+    ensures { IsTrue result → (window.now.start ≤ from)
+        × (from + count ≤ window.now.start + length window.now.bytes.items) }
+{
+    window.start <= from && from + count - window.start <= window.bytes.len()
+}
+
+/// How long the next window is, by the length of this one and how much of it was kept.
+fn next_len(len: usize, used: usize) -> usize
+    ensures { result ≤ MOST }
+{
+    if used >= len - len / 4 {
+        len.saturating_mul(2).max(LEAST).min(MOST)
+    } else {
+        LEAST
+    }
+}
+
+/// Reads this many bytes from a place on, in place of others.
+pub fn load<S: Contents, A: Allocator>(
+    source: &S,
+    bytes: &mut Vec<u8, A>,
+    at: usize,
+    count: usize,
+) -> Result<(), GatherFault>
+    requires few { at + count < 2 ^ 32 }
+    requires within { AreWithin (S.contents source.now) (at + count) }
+    ensures long { OnOk result (length bytes.new.items ≡ count) }
+    ensures held { OnOk result (IsHeld (S.contents source.now) at bytes.new.items) }
+    ensures err { IfErr result (IsCause (S.contents source.now)) }
+{
+    // those that exist already are not cleared, since they are read over
+    bytes.resize(count, 0)?;
+    load_room(source, &mut bytes[..], at as u64)
+}
+
+/// Fills a room with the bytes from a place on.
+fn load_room<S: Contents>(source: &S, room: &mut [u8], at: u64) -> Result<(), GatherFault>
+    requires few { at + length room.old < 2 ^ 32 }
+    requires within { AreWithin (S.contents source.now) (at + length room.old) }
+    ensures held { OnOk result (IsHeld (S.contents source.now) at room.new) }
+    ensures err { IfErr result (IsCause (S.contents source.now)) }
+{
+    match fill(source, room, at) {
+        Ok(()) => Ok(()),
+        Err(_) => Err(GatherFault::Unread),
+    }
+}

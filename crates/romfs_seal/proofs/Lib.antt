@@ -1,0 +1,11 @@
+pub mod Fans
+pub mod Levels
+pub mod Binding
+pub mod Files
+pub mod Filled
+pub mod Blocks
+pub mod Stored
+pub mod Leaves
+pub mod Parts
+pub mod Tops
+pub mod Whole

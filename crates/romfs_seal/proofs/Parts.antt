@@ -1,0 +1,129 @@
+-- A block for which the digest vouches is read (read_block); bytes that are read are those of what is unmatched (read_are).
+use Rattle.std.proofs.Common.{◌≡◌, ◌∙◌, sym, ap, subst, ℕ, ◌+◌, ◌-◌, ◌*◌, ◌/◌, ◌%◌, ◌<◌, ◌≤◌, List, length, take, drop, get_or, slice_index, refl, arith, inl, inr, length-drop, length-take-le, ext_get_or, ◌++◌, length-append, min}
+use Rattle.std.proofs.lemmas.List.{get_or-take, get_or-drop, get_or_append_left, get_or-append_right, take_all}
+use Rattle.std.proofs.lemmas.Bool.{cases_lt}
+use borrow.Rule.Slice.PartMut.{put_mid}
+use Rattle.devices.proofs.Rooms.{put_front}
+use Rattle.romfs_seal.specs.Tree.{IsBlock, block, digest_at, fan}
+use Rattle.romfs_seal.specs.File.{blocks_of, filled, in_blocks}
+use Rattle.romfs_seal.specs.Vouched.{Vouches}
+use Rattle.romfs_seal.proofs.Levels.{index-block}
+use Rattle.romfs_seal.proofs.Filled.{length-block, length-filled, filled-is, index-filled, block-filled}
+use Rattle.romfs_seal.specs.Seal.{Seal, IsGiven}
+use Rattle.romfs_seal.specs.Read.{IsUnmatched, IsReadAt, AreRead}
+use Rattle.romfs_seal.specs.Kept.{IsLeaf}
+
+-- what a block has of the file
+abbrev pub part_of : ℕ → ℕ → ℕ
+part_of size i = min 4096 (size - 4096 * i)
+
+block_right : (s : Seal) (first : ℕ) (leaf : List ℕ) (i : ℕ) (b : List ℕ) → (leaf_is : IsLeaf s first leaf) → first ≤ i
+    → i < first + fan s.algorithm → i < blocks_of s.size → (g : IsGiven s.image (4096 * i) (part_of s.size i) b)
+    → s.hash b ≡ digest_at s.algorithm leaf (i - first) → (xs : List ℕ) → IsUnmatched s xs → g.of ≡ block xs i
+block_right s first leaf i b leaf_is from less below g e xs u =
+    let size : s.size ≡ length xs = leaf_is.sized xs u in
+    let inside : i < blocks_of (length xs) = subst (λ k. i < blocks_of k) size below in
+    let long : length (g.of) ≡ length (block xs i) = g.long ∙ ap (λ k. part_of k i) size ∙ sym (length-block xs i) in
+    let same : s.hash (filled (g.of)) ≡ s.hash (filled (block xs i)) =
+    ap s.hash (sym g.is) ∙ e ∙ leaf_is.right xs u i from less below ∙ ap s.hash (block-filled xs i (u.of.bytes) inside) in
+    (u.blocks i inside).alone (g.of) (g.bytes) long (g.given) same
+
+pub read_block : (s : Seal) (first : ℕ) (leaf : List ℕ) (i : ℕ) (b : List ℕ) → IsLeaf s first leaf → first ≤ i
+    → i < first + fan s.algorithm → i < blocks_of s.size → IsGiven s.image (4096 * i) (part_of s.size i) b
+    → s.hash b ≡ digest_at s.algorithm leaf (i - first) → AreRead s (4096 * i) (take (part_of s.size i) b)
+read_block s first leaf i b leaf_is from less below g e =
+    let small : length (g.of) ≤ 4096 = (let l = g.long in omega arith) in
+    let is : IsBlock b = subst IsBlock (sym g.is) (filled-is (g.of) (g.bytes) small) in
+    let whole = is.whole in
+    let count : length (take (part_of s.size i) b) ≡ part_of s.size i = length-take-le (part_of s.size i) b (omega arith) in
+    let v = leaf_is.vouches i b from less below e in
+    record {
+      each = λ k inside.
+          let near : k < part_of s.size i = omega (arith, inside, count) in
+          let at : i ≡ (4096 * i + k) / 4096 = omega arith in
+          let rest : k ≡ (4096 * i + k) % 4096 = omega arith in
+          let byte : slice_index (take (part_of s.size i) b) k ≡ slice_index b k = get_or-take (part_of s.size i) b k 0 near in
+          record {
+            vouched = record {
+              within = omega arith;
+              top = leaf_is.top;
+              described = leaf_is.described;
+              levels = leaf_is.levels;
+              has_levels = leaf_is.has_levels;
+              of = b;
+              is_block = is;
+              vouched = subst (λ j. Vouches s.algorithm s.hash leaf_is.levels leaf_is.top j b) at v;
+              is = byte ∙ ap (λ j. slice_index b j) rest;
+            };
+            right = λ xs u. (
+              (let size = leaf_is.sized xs u in omega arith),
+              byte ∙ ap (λ l. slice_index l k) (g.is) ∙ index-filled (g.of) k
+                  ∙ ap (λ l. slice_index l k) (block_right s first leaf i b leaf_is from less below g e xs u)
+                  ∙ index-block xs i k (omega arith),
+            );
+          };
+    }
+
+pub read_are : (s : Seal) (place : ℕ) (bytes : List ℕ) → AreRead s place bytes → (xs : List ℕ) → IsUnmatched s xs
+    → bytes ≡ take (length bytes) (drop place xs)
+read_are s place bytes r xs u =
+    let long : length bytes ≤ length (drop place xs) =
+    (elim (cases_lt 0 (length bytes)) [
+      | inr none ↦ omega arith
+      | inl some ↦
+          let last = ((r.each (length bytes - 1) (omega arith)).right xs u).0 in
+          let e = length-drop place xs in omega arith
+    ]) in
+    let size : length (take (length bytes) (drop place xs)) ≡ length bytes = length-take-le (length bytes) (drop place xs) long in
+    ext_get_or 0 bytes (take (length bytes) (drop place xs)) (sym size)
+    (λ k below. ((r.each k below).right xs u).1 ∙ sym (get_or-take (length bytes) (drop place xs) k 0 below ∙ get_or-drop place xs k 0))
+
+-- a part of what was read
+pub read_inside : (s : Seal) (place from count : ℕ) (bytes : List ℕ) → from + count ≤ length bytes → AreRead s place bytes
+    → AreRead s (place + from) (take count (drop from bytes))
+read_inside s place from count bytes fits r =
+    let rest = length-drop from bytes in
+    let size : length (take count (drop from bytes)) ≡ count = length-take-le count (drop from bytes) (omega arith) in
+    record {
+      each = λ k below.
+          let near : k < count = omega (arith, below, size) in
+          let at : place + (from + k) ≡ place + from + k = omega arith in
+          let byte : slice_index (take count (drop from bytes)) k ≡ slice_index bytes (from + k) =
+          get_or-take count (drop from bytes) k 0 near ∙ get_or-drop from bytes k 0 in
+          subst (λ x. IsReadAt s (place + from + k) x) (sym byte)
+          (subst (λ j. IsReadAt s j (slice_index bytes (from + k))) at (r.each (from + k) (omega arith)));
+    }
+
+read-append : (s : Seal) (place : ℕ) (p q : List ℕ) → AreRead s place p → AreRead s (place + length p) q → AreRead s place (p ++ q)
+read-append s place p q v w =
+    let size = length-append p q in
+    record {
+      each = λ k below.
+          elim (cases_lt k (length p)) [
+            | inl less ↦ subst (λ x. IsReadAt s (place + k) x) (sym (get_or_append_left p q 0 k less)) (v.each k less)
+            | inr past ↦
+                let e : get_or (p ++ q) k 0 ≡ get_or q (k - length p) 0 = get_or-append_right p q (length p) k 0 refl past in
+                let at : place + length p + (k - length p) ≡ place + k = omega arith in
+                subst (λ x. IsReadAt s (place + k) x) (sym e)
+                (subst (λ j. IsReadAt s j (get_or q (k - length p) 0)) at (w.each (k - length p) (omega arith)))
+          ];
+    }
+
+read_more : (s : Seal) (place done count k : ℕ) (room part : List ℕ) → done ≤ length room
+    → length part ≡ count → AreRead s place (take done room) → AreRead s (place + done) part
+    → AreRead s place (take (done + count) (put_mid done k room part))
+read_more s place done count k room part d l v w =
+    let e : take (done + count) (put_mid done k room part) ≡ take done room ++ take count part = put_front room part done count k d (omega arith) in
+    let size : length (take done room) ≡ done = length-take-le done room d in
+    let whole : take count part ≡ part = take_all count part (omega arith) in
+    subst (λ r. AreRead s place r) (sym (e ∙ ap (λ r. take done room ++ r) whole))
+    (read-append s place (take done room) part v (subst (λ j. AreRead s (place + j) part) (sym size) w))
+
+-- the same of a part of the room that was lent
+pub read_lent : (s : Seal) (place done count k : ℕ) (room part : List ℕ) → done + count ≤ length room
+    → k ≡ count → length part ≡ length (take k (drop done room)) → AreRead s place (take done room)
+    → AreRead s (place + done) part → AreRead s place (take (done + count) (put_mid done k room part))
+read_lent s place done count k room part fits same size v w =
+    let rest = length-drop done room in
+    let long : length (take k (drop done room)) ≡ k = length-take-le k (drop done room) (omega arith) in
+    read_more s place done count k room part (omega arith) (size ∙ long ∙ same) v w

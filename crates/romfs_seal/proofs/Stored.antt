@@ -1,0 +1,38 @@
+-- Where the levels of a tree stand as they are stored: the lowest (lowest_stored), and the one above it (upper_stored).
+use Rattle.std.proofs.Common.{◌≡◌, ◌∙◌, sym, ap, subst, ℕ, zero, suc, ◌+◌, ◌-◌, ◌*◌, ◌<◌, ◌≤◌, List, [], ◌++◌, length, take, drop, refl, arith, length-append, length-drop, append_assoc}
+use Rattle.std.proofs.lemmas.List.{take_at, take_all, drop-drop}
+use Rattle.std.proofs.Math.Seq.{drop-append-add}
+use Rattle.romfs_seal.specs.declared.algorithm.Algorithm.{Algorithm}
+use Rattle.romfs_seal.specs.Tree.{Hash, IsDigest, AreBlocks, block, blocks_above, above, tree, tree_blocks}
+use Rattle.romfs_seal.proofs.Levels.{blocks-above}
+use Rattle.romfs_seal.proofs.Filled.{length-tree}
+use Rattle.romfs_seal.specs.Seal.{lowest_place}
+
+-- what stands behind this many bytes
+behind : (front rest : List ℕ) (n k m : ℕ) → length front ≡ n → take m (drop (n + k) (front ++ rest)) ≡ take m (drop k rest)
+behind front rest n k m long =
+    ap (λ j. take m (drop (j + k) (front ++ rest))) (sym long) ∙ ap (λ l. take m l) (drop-append-add front rest k)
+
+pub lowest_stored : (a : Algorithm) (h : Hash) (sized : (m : List ℕ) → IsDigest a (h m)) (levels : ℕ) (xs : List ℕ) (n i : ℕ)
+    → take 4096 (drop (lowest_place a (suc levels) n + 4096 * i) (tree a h (suc levels) xs n)) ≡ block (above a h xs n) i
+unfolding tree block
+lowest_stored a h sized levels xs n i =
+    behind (tree a h levels (above a h xs n) (blocks_above a n)) (above a h xs n) (4096 * tree_blocks a levels (blocks_above a n)) (4096 * i) 4096
+    (length-tree a h sized levels (above a h xs n) (blocks_above a n))
+
+pub upper_stored : (a : Algorithm) (h : Hash) (sized : (m : List ℕ) → IsDigest a (h m)) (levels : ℕ) (xs : List ℕ) (n : ℕ)
+    → take (4096 * blocks_above a (blocks_above a n))
+    (drop (4096 * tree_blocks a levels (blocks_above a (blocks_above a n))) (tree a h (suc (suc levels)) xs n))
+    ≡ above a h (above a h xs n) (blocks_above a n)
+unfolding tree
+upper_stored a h sized levels xs n =
+    let up = above a h xs n in
+    let m = blocks_above a n in
+    let front = tree a h levels (above a h up m) (blocks_above a m) in
+    let long = length-tree a h sized levels (above a h up m) (blocks_above a m) in
+    let size = (blocks-above a h sized up m).whole in
+    let none : 4096 * tree_blocks a levels (blocks_above a m) ≡ 4096 * tree_blocks a levels (blocks_above a m) + 0 = omega arith in
+    ap (λ l. take (4096 * blocks_above a m) (drop (4096 * tree_blocks a levels (blocks_above a m)) l)) (append_assoc front (above a h up m) up)
+    ∙ ap (λ k. take (4096 * blocks_above a m) (drop k (front ++ (above a h up m ++ up)))) none
+    ∙ behind front (above a h up m ++ up) (4096 * tree_blocks a levels (blocks_above a m)) 0 (4096 * blocks_above a m) long
+    ∙ take_at (above a h up m) up (4096 * blocks_above a m) size

@@ -1,0 +1,9 @@
+use Rattle.std.proofs.Common.{refl}
+use Rattle.sha2.specs.Sha256.{compress, digest_bytes, first_words, hash_after, rounds, schedule, sha256}
+use Rattle.romfs_seal.specs.Tree.{above, block, digests, root, root_hash}
+use Rattle.romfs_seal.specs.File.{descriptor, field, in_blocks}
+use Rattle.romfs_seal.proofs.examples.no_bytes.Goals as goal
+
+pub returns : goal.returns
+unfolding first_words schedule rounds compress hash_after digest_bytes sha256 above block digests root root_hash descriptor field in_blocks
+returns c = refl

@@ -1,0 +1,32 @@
+-- Second preimages: where bytes that are not a file's pass for them, here they are.
+use Rattle.std.specs.Prelude.{◌≡◌, ◌≢◌, ◌⊎◌, ℕ, zero, suc, ◌/◌, ◌<◌, List, length}
+use Rattle.romfs_seal.specs.declared.algorithm.Algorithm.{Algorithm}
+use Rattle.romfs_seal.specs.Tree.{Hash, fan, block, blocks_above, above}
+use Rattle.romfs_seal.specs.File.{descriptor, in_blocks, blocks_of, root_of}
+use Rattle.romfs_seal.specs.Vouched.{Vouches}
+
+-- two lists are not one, and have one digest
+pub record AreTwins (h : Hash) (b c : List ℕ) : Type 0 where
+  pub same : h c ≡ h b
+  pub other : c ≢ b
+
+-- a block with this index was met, and blocks on the way from it to the top: one of them is not what
+-- stands there in the tree of n blocks, and has its digest
+unfoldable pub IsForged : (a : Algorithm) (h : Hash) (levels : ℕ) (xs : List ℕ) (n : ℕ) (top : List ℕ) (i : ℕ) (b : List ℕ)
+    → Vouches a h levels top i b → Type 0
+unfolding Vouches
+IsForged a h zero xs n top i b v = AreTwins h xs b
+IsForged a h (suc levels) xs n top i b v =
+    AreTwins h (block xs i) b ⊎ IsForged a h levels (above a h xs n) (blocks_above a n) top (i / fan a) (v.0) (v.2)
+
+-- two lists of n blocks, or two of their levels, have at one place two blocks with one digest
+unfoldable pub HaveTwins : Algorithm → Hash → ℕ → List ℕ → List ℕ → ℕ → Type 0
+HaveTwins a h zero xs ys n = AreTwins h xs ys
+HaveTwins a h (suc levels) xs ys n =
+    ((i : ℕ) × (i < n) × AreTwins h (block xs i) (block ys i))
+    ⊎ HaveTwins a h levels (above a h xs n) (above a h ys n) (blocks_above a n)
+
+-- two files, each with this many levels: their descriptors are twins, or their trees have twins
+pub record AreForged (a : Algorithm) (h : Hash) (xs ys : List ℕ) (k levels : ℕ) : Type 0 where
+  pub twins : AreTwins h (descriptor a (length xs) (root_of a h k xs)) (descriptor a (length ys) (root_of a h levels ys))
+      ⊎ HaveTwins a h k (in_blocks xs) (in_blocks ys) (blocks_of (length xs))

@@ -1,0 +1,14 @@
+//! That the premise is met.
+
+ghost use Rattle.std.specs.Prelude.{List, ℕ};
+ghost use Rattle.romfs_seal.specs.Tree.{IsDigest};
+ghost use Rattle.romfs_seal.specs.Seal.{Seal};
+ghost use Rattle.romfs_seal.specs.Read.{IsUnmatched};
+ghost use Rattle.romfs_seal.specs.Honest.{IsHonest};
+
+/// It is met by any bytes that are held with their tree, under any hash. So of these what is read is
+/// right, and no premise is left.
+pub fn held_bytes_are_unmatched()
+    ensures { (s : Seal) (xs : List ℕ) → ((m : List ℕ) → IsDigest s.algorithm (s.hash m)) →
+        IsHonest s xs → IsUnmatched s xs }
+{}

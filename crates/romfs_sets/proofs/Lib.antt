@@ -1,0 +1,16 @@
+pub mod Bits
+pub mod Paged
+pub mod Ranks
+pub mod Spreading
+pub mod Unions
+pub mod Listing
+pub mod Marks
+pub mod Climbing
+pub mod Ascent
+pub mod Rounds
+pub mod Siblings
+pub mod Graphs
+pub mod Classing
+pub mod FilledSlots
+pub mod Keyed
+pub mod SeenKeys

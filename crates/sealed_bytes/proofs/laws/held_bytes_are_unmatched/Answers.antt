@@ -1,5 +1,0 @@
-use Rattle.sealed_bytes.proofs.Whole.{honest_is}
-use Rattle.sealed_bytes.proofs.laws.held_bytes_are_unmatched.Goals as goal
-
-pub returns : goal.returns
-returns c s xs sized honest = honest_is s sized xs honest

@@ -1,4 +1,0 @@
-use Rattle.sealed_bytes.proofs.opening.+tree_blocks.Given as goal
-
-abbrev pub decreases-tree_blocks : goal.decreases-tree_blocks
-decreases-tree_blocks l = l.levels

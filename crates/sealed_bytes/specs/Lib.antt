@@ -1,4 +1,0 @@
-pub mod Seal
-pub mod Read
-pub mod Kept
-pub mod Honest

@@ -1,0 +1,13 @@
+pub mod Answers
+pub mod MountEnds
+pub mod FirstReply
+pub mod Reads
+pub mod Spouts
+pub mod Taps
+pub mod Troubles
+pub mod Writes
+pub mod Ends
+pub mod Seats
+pub mod Readers
+pub mod Laws
+pub mod Examples

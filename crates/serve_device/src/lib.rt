@@ -1,0 +1,43 @@
+//! An open `/dev/fuse`: its two devices, and several readers of it over one table.
+//!
+//! [`MessageTap`] is a source over a reader that gives one whole message a read, and asks for room;
+//! [`ReplySpout`] is a sink over a writer that takes one whole reply a write. They meet what a
+//! source and a sink promise, over any reader and writer of std, whatever sizes the reads and the
+//! pulls have and however often a read is interrupted. Both know when the kernel has ended the
+//! connection, as after an unmount: the call fails, and the device then says that it is gone, which
+//! it is only after a failure. A reply for which nobody waits any more is let go. [`NotedReader`]
+//! and [`NotedWriter`] count calls and keep the last one's answer, so contracts say that a push
+//! writes once, that a pull reads, and that only ENODEV ends a mount. That these two make the calls
+//! that they note no contract can say: it is tested.
+//!
+//! Each reader has a [`Seat`]: a tap and a spout over the one descriptor. [`serve_by_readers`]
+//! begins with the reader of the first seat, which serves until INIT is answered. The others begin
+//! in the session that it leaves: each in a thread of its own, by a `run_from` of its own over the
+//! same table and files. The kernel gives each message to one read; no contract says so. Readers
+//! share nothing but what they borrow, and wait for nothing but, at last, for one another. Each
+//! seat then holds what its reader came to, and [`end_of_all`] is the [`End`] that is reported for
+//! all of them. [`laws`] say what that means.
+#![tactic(auto)]
+
+mod answer;
+pub mod ends;
+pub mod examples;
+pub mod laws;
+mod noted_reader;
+mod noted_writer;
+mod readers;
+pub mod reply_examples;
+mod seat;
+mod sink;
+mod source;
+mod trouble;
+pub mod unmount_laws;
+
+pub use answer::Answer;
+pub use ends::End;
+pub use noted_reader::NotedReader;
+pub use noted_writer::NotedWriter;
+pub use readers::{end_of_all, serve_by_readers};
+pub use seat::{Seat, seats_over};
+pub use sink::ReplySpout;
+pub use source::MessageTap;

@@ -1,0 +1,37 @@
+//! What follows from the definition of the first reply, and what pushes and pulls say about the
+//! device.
+
+ghost use Rattle.std.specs.Prelude.{◌≡◌, ◌⊎◌, ◌≤◌, ℕ, pos, List, Bool, true, false, Some, Result, Ok};
+ghost use Rattle.devices.specs.Counting.{up};
+ghost use Rattle.devices.specs.declared.failed.Failed.{Failed};
+ghost use Rattle.serve_device.specs.FirstReply.{BeginsReply, IsWithinFirst, PutsReply};
+ghost use Rattle.serve_device.specs.Reads.{PullsMessage, ReaderState};
+ghost use Rattle.serve_device.specs.Writes.{WriterState};
+ghost use Rattle.serve_device.specs.declared.answer.Answer.TheVariants.{Bytes, Failure};
+
+/// Bytes begin with one reply at most, so what is within the first one is within each.
+pub fn within_one_reply()
+    ensures { (bytes : List ℕ) (taken n : ℕ) →
+        IsWithinFirst bytes taken → BeginsReply bytes n → taken ≤ n }
+{}
+
+/// A push that counts bytes as taken wrote once: the writer took this many, or answered ENOENT (2).
+/// If it leaves its sink gone, the answer was ENODEV (19).
+#[tactic(auto, using(crate::proofs::Told::done_push, crate::proofs::Told::gone_push))]
+pub fn pushes_write()
+    ensures taken { (bytes : List ℕ) (n : ℕ) (old new : WriterState) (was is : Bool) →
+        PutsReply bytes (Ok n) old new was is → (new.writes ≡ up old.writes)
+        × ((new.last ≡ Some (Bytes n)) ⊎ (new.last ≡ Some (Failure (Some (pos 2))))) }
+    ensures gone { (bytes : List ℕ) (result : Result ℕ Failed) (old new : WriterState) →
+        PutsReply bytes result old new false true → new.last ≡ Some (Failure (Some (pos 19))) }
+{}
+
+/// A pull that gave bytes, or the end, took that from its last read. If it leaves its source gone,
+/// that read was answered ENODEV (19).
+#[tactic(auto, using(crate::proofs::Told::done_pull, crate::proofs::Told::gone_pull))]
+pub fn pulls_read()
+    ensures given { (n : ℕ) (old new : ReaderState) (was is : Bool) →
+        PullsMessage (Ok n) old new was is → new.last ≡ Some (Bytes n) }
+    ensures gone { (result : Result ℕ Failed) (old new : ReaderState) →
+        PullsMessage result old new false true → new.last ≡ Some (Failure (Some (pos 19))) }
+{}

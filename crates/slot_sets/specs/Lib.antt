@@ -1,4 +1,0 @@
-pub mod Sets
-pub mod Pages
-pub mod Words
-pub mod Listed

@@ -1,6 +1,0 @@
-use Rattle.successor_graph.proofs.Siblings.{AreListed}
-use Rattle.successor_graph.proofs.graph.lists.Given as goal
-
--- the points from `at` on are on their lists
-abbrev pub invariant-loop-at : goal.invariant-loop-at
-invariant-loop-at g l = AreListed l.next l.first.items l.sibling.items l.at

@@ -1,3 +1,0 @@
-pub mod NoDirectory
-pub mod Cutting
-pub mod Listed
