@@ -1,7 +1,7 @@
 """Sees that pages and comments speak plain English; part of `python3 checks links`.
 
 PHRASES are turns that readers stumbled over, each with what to say instead. README.md, docs/ and the
-man pages are held to all of them, comments and docstrings of sources to those of SOURCES.
+man pages are held to all of them, comments and docstrings of sources to those of SOURCES alone.
 """
 import ast
 import re
@@ -10,7 +10,7 @@ import tokenize
 
 from checks import ROOT
 
-PHRASES = {
+SOURCES = {
     r"who (is|are) not root": "users who are not root, unprivileged users",
     r"go(es)? by": "depends on",
     r"(is|are) told": "is reported, prints",
@@ -18,19 +18,31 @@ PHRASES = {
     r"(takes?|taken) (it |them |that )?away": "unmount, remove, hide",
     r"that (is|are) there": "existing, or nothing at all",
     r"what a mount asks": "requests of a mount",
-    r"of which no": "without",
     r"of whom": "whose",
-    r"(is|are) to be had": "is available",
     r"ask(s|ed)? a right": "verify",
     r"comes only where": "only if",
     r"want of memory": "lack of memory",
     r"in whichever": "in any",
     r"gathered of": "gathered from",
+}
+OF_PAGES = {
+    r"of which no": "without",
     r"in (the )?place of": "instead of",
     r"stands? on": "is on, uses",
+    r"(is|are|be) had": "is available, can be read",
+    r"(is|are) of (19|20)\d\d": "is dated",
+    r"says? (nothing|something) else": "says otherwise",
+    r"when it begins": "at startup",
+    r"out of the way of": "does not use, does not get",
+    r"gives? (its|their) bytes": "pipes, streams",
+    r"whatever is said": "always",
+    r"in whatever": "however, in any",
+    r"only where": "only if",
+    r"is checked by": "keeps, verifies",
+    r"told only": "reported only",
+    r"of (these|those|them) (it|they) (is|are)": "they are",
 }
-OF_PAGES = r"of which no", r"in (the )?place of", r"stands? on"
-SOURCES = {phrase: better for phrase, better in PHRASES.items() if phrase not in OF_PAGES}
+PHRASES = {**SOURCES, **OF_PAGES}
 # what tools print is quoted as it is
 QUOTED = re.compile(r"^\.EX\n.*?^\.EE$|^```.*?^```$|`[^`]*`", re.M | re.S)
 NOT_ROOT = re.compile("users who are not root", re.I)
