@@ -2,20 +2,20 @@
 //!
 //! - A [`Source`] gives bytes, a [`Sink`] takes bytes. Both tell contracts their bytes, where these
 //!   are known, and keep counts of their calls, ends and failures, so that a promise can say of a
-//!   failure that it was the device's (`specs/Counting`, one function a call; a count stays at 2^64
-//!   - 1).
+//!   failure that it was the device's (`specs/Counting`, one function a call; a count stays at
+//!   2^64 - 1).
 //! - [`Tap`] is a source over any reader of std, [`Spout`] a sink over any writer; [`hand_on`]
 //!   pushes all of some bytes to a sink, and then flushes it.
-//! - [`Clients`] give one client after another, and count them and their failures; [`Listening`] is
-//!   those of a listener of std.
+//! - [`Clients`] give one client after another, and count them and their failures; [`Listening`]
+//!   is those of a listener of std.
 //! - [`limits`] has the most bytes of a pull, and the most pulls.
 //! - [`Contents`] is what the bytes of an image are read from, a part at a time and by several at
 //!   once: [`InMemory`] never fails, [`InFile`] reads a file. [`fill`] reads on until a room is
 //!   full, however short the single reads are.
 //!
-//! Contracts see the bytes of an image if they are known (`specs/Contents`). Of a file they see
-//! none, so nothing is assumed of a file that changes. No call takes memory beyond what the reader
-//! or writer takes. The crate uses std alone.
+//! A contract sees bytes where they are known (`specs/Contents`). Of a file it sees none, so
+//! nothing is assumed of a file that changes. No call takes memory beyond what the reader or writer
+//! takes. The crate stands on std alone.
 #![tactic(auto)]
 
 mod clients;
