@@ -4,8 +4,8 @@ Looked at are links and the headings that they lead to; paths from the root of t
 crate; file names alone, which some folder must have; `make TARGET`; and `python3 checks NAME`. In a path `*` stands for
 anything, and so does a word like NAME. Names of code in the pages about it (CODE) must occur in some source. How long a paragraph
 may be says paragraphs.py, and a page page_words.py; README.md fits a few screens, and none of its lines is too long for a terminal.
-Which turns are not plain English, here and in comments, says phrases.py. It reads files alone. What is not there, too long or odd
-is a line each, and then the status is 1.
+Which turns are not plain English, here, in messages and in comments, says phrases.py. It reads files alone. What is not there, too
+long or odd is a line each, and then the status is 1.
 """
 import fnmatch
 import os
@@ -15,7 +15,7 @@ import sys
 from checks import ROOT, STARTED
 from checks.gate.page_words import long_pages, pages
 from checks.gate.paragraphs import long_paragraphs
-from checks.gate.phrases import odd_comments, odd_phrases
+from checks.gate.phrases import odd_comments, odd_phrases, odd_texts
 
 BUILT = (".git", "build", "out", "__pycache__")
 PAGES = ("README.md", *sorted("docs/" + name for name in os.listdir(ROOT + "/docs") if name.endswith(".md")))
@@ -120,7 +120,7 @@ def long_lines(page):
 
 def main():
     there, wrong, long = There(), [], [*long_pages(), *long_lines("README.md")]
-    odd = [line for page in pages() for line in odd_phrases(page)] + [*odd_comments()]
+    odd = [line for page in pages() for line in odd_phrases(page)] + [*odd_texts(), *odd_comments()]
     for page in PAGES:
         text = read(page)
         long += long_paragraphs(page, text)
