@@ -4,10 +4,10 @@ use Rattle.std.proofs.lemmas.List.{take_at, take_all, length-replicate}
 use borrow.Rule.Slice.PartMut.{put_mid, same_len_mid}
 use Rattle.devices.specs.Sources.{Source, MayGive}
 use Rattle.devices.proofs.Rooms.{put_front}
-use Rattle.romfs_seal.specs.declared.algorithm.Algorithm.{Algorithm}
-use Rattle.romfs_seal.specs.Tree.{AreBytes, digest_size, digest_at}
-use Rattle.romfs_seal.specs.File.{filled}
-use Rattle.romfs_seal.specs.Seal.{IsGiven}
+use Rattle.devices.specs.declared.algorithm.Algorithm.{Algorithm}
+use Rattle.devices.specs.Tree.{AreBytes, digest_size, digest_at}
+use Rattle.devices.specs.File.{filled}
+use Rattle.devices.specs.Seal.{IsGiven}
 
 pub given_filled : (source : Source) (place count k : ℕ) (room block zeros : List ℕ) → length room ≡ count → length block ≡ 4096 → count ≤ 4096
     → AreBytes room → MayGive source place room → k ≡ 4096 - count

@@ -4,13 +4,13 @@ use Rattle.std.proofs.lemmas.List.{get_or-take, get_or-drop, get_or_append_left,
 use Rattle.std.proofs.lemmas.Bool.{cases_lt}
 use borrow.Rule.Slice.PartMut.{put_mid}
 use Rattle.devices.proofs.Rooms.{put_front}
-use Rattle.romfs_seal.specs.Tree.{IsBlock, block, digest_at, fan}
-use Rattle.romfs_seal.specs.File.{blocks_of, filled, in_blocks}
-use Rattle.romfs_seal.specs.Vouched.{Vouches}
+use Rattle.devices.specs.Tree.{IsBlock, block, digest_at, fan}
+use Rattle.devices.specs.File.{blocks_of, filled, in_blocks}
+use Rattle.devices.specs.Vouched.{Vouches}
 use Rattle.romfs_seal.proofs.Levels.{index-block}
 use Rattle.romfs_seal.proofs.Filled.{length-block, length-filled, filled-is, index-filled, block-filled}
-use Rattle.romfs_seal.specs.Seal.{Seal, IsGiven}
-use Rattle.romfs_seal.specs.Read.{IsUnmatched, IsReadAt, AreRead}
+use Rattle.devices.specs.Seal.{Seal, IsGiven}
+use Rattle.devices.specs.Read.{IsUnmatched, IsReadAt, AreRead}
 use Rattle.romfs_seal.specs.Kept.{IsLeaf}
 
 -- what a block has of the file

@@ -4,17 +4,17 @@ use Rattle.std.proofs.lemmas.List.{take_all, length-replicate}
 use Rattle.devices.specs.Contents.{IsShort}
 use Rattle.devices.specs.Sources.{Source, MayGive, held}
 use Rattle.devices.proofs.Held.{held_only}
-use Rattle.romfs_seal.specs.declared.algorithm.Algorithm.{Algorithm}
-use Rattle.romfs_seal.specs.Tree.{Hash, AreBytes, IsBlock, IsDigest, HasLevels, digest_size, fan, block, digest_at, blocks_above, above, root, root_hash, tree, tree_blocks}
-use Rattle.romfs_seal.specs.File.{blocks_of, in_blocks, filled, descriptor, file_digest, IsFileDigest}
+use Rattle.devices.specs.declared.algorithm.Algorithm.{Algorithm}
+use Rattle.devices.specs.Tree.{Hash, AreBytes, IsBlock, IsDigest, HasLevels, digest_size, fan, block, digest_at, blocks_above, above, root, root_hash, tree, tree_blocks}
+use Rattle.devices.specs.File.{blocks_of, in_blocks, filled, descriptor, file_digest, IsFileDigest}
 use Rattle.romfs_seal.proofs.Fans.{above_within, one_level_less, one_block, one_count, many_blocks}
 use Rattle.romfs_seal.proofs.Levels.{block-is, block-only, blocks-above}
 use Rattle.romfs_seal.proofs.Files.{blocks-file, root_some}
 use Rattle.romfs_seal.proofs.Filled.{filled_whole, filled-is, block-filled, length-block, length-tree, only-filled}
-use Rattle.romfs_seal.specs.Seal.{Seal, lowest_place, kept_len, kept_root, kept_of, IsGiven, MayBeOnly, MayBeKept, IsTop}
-use Rattle.romfs_seal.specs.Read.{IsAloneAt, IsUnmatched}
+use Rattle.devices.specs.Seal.{Seal, lowest_place, kept_len, kept_root, kept_of, IsGiven, MayBeOnly, MayBeKept, IsTop}
+use Rattle.devices.specs.Read.{IsAloneAt, IsUnmatched}
 use Rattle.romfs_seal.specs.Kept.{IsOpened, IsLeaf}
-use Rattle.romfs_seal.specs.Honest.{IsHonest, IsTampered}
+use Rattle.devices.specs.Honest.{IsHonest, IsTampered}
 use Rattle.romfs_seal.proofs.Leaves.{kept_digest}
 use Rattle.romfs_seal.proofs.Parts.{part_of}
 use Rattle.romfs_seal.proofs.Stored.{lowest_stored, upper_stored}

@@ -3,9 +3,9 @@
 ghost use Rattle.std.specs.Prelude.{◌≡◌, ◌≢◌, false, ◌+◌, ◌*◌, ◌<◌, ◌≤◌, ◌^◌, ℕ, List, length, take, drop, IsTrue, OnOk, OnErr};
 ghost use Rattle.devices.specs.Contents.{IsShort};
 ghost use Rattle.devices.specs.Sources.{MayGive};
-ghost use Rattle.romfs_seal.specs.Tree.{AreBytes, IsDigest, digest_at, digest_size};
+ghost use Rattle.devices.specs.Tree.{AreBytes, IsDigest, digest_at, digest_size};
 ghost use Rattle.romfs_seal.specs.Digests.{digest_bytes};
-ghost use Rattle.romfs_seal.specs.Seal.{Seal, IsGiven};
+ghost use Rattle.devices.specs.Seal.{Seal, IsGiven};
 
 use crate::filling::fill_block;
 use crate::{Algorithm, BlockHash, Digest};

@@ -3,8 +3,8 @@
 ghost use Rattle.std.specs.Prelude.{◌≡◌, ◌+◌, ◌<◌, ◌≤◌, ◌^◌, length, replicate, OnOk, OnErr};
 ghost use Rattle.devices.specs.Contents.{IsShort};
 ghost use Rattle.devices.specs.Sources.{MayGive};
-ghost use Rattle.romfs_seal.specs.Tree.{AreBytes};
-ghost use Rattle.romfs_seal.specs.Seal.{IsGiven};
+ghost use Rattle.devices.specs.Tree.{AreBytes};
+ghost use Rattle.devices.specs.Seal.{IsGiven};
 
 use devices::{Contents, Unread, fill};
 

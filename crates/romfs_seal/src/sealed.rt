@@ -1,11 +1,11 @@
 //! Reading under a digest.
 
 ghost use Rattle.std.specs.Prelude.{◌≡◌, ◌+◌, ◌-◌, ◌*◌, ◌/◌, ◌%◌, ◌<◌, ◌≤◌, ◌^◌, ◌++◌, ℕ, List, length, take, drop, min, IfOk, OnOk, OnErr};
-ghost use Rattle.romfs_seal.specs.Tree.{fan};
-ghost use Rattle.romfs_seal.specs.File.{blocks_of};
-ghost use Rattle.romfs_seal.specs.Read.{IsUnmatched, AreRead};
+ghost use Rattle.devices.specs.Tree.{fan};
+ghost use Rattle.devices.specs.File.{blocks_of};
+ghost use Rattle.devices.specs.Read.{IsUnmatched, AreRead};
 ghost use Rattle.romfs_seal.specs.Kept.{IsOpened, IsLeaf, first_under, run_end};
-ghost use Rattle.romfs_seal.specs.Honest.{IsTampered};
+ghost use Rattle.devices.specs.Honest.{IsTampered};
 
 use crate::Algorithm;
 use crate::files::{NamedFiles, has_digest};

@@ -1,6 +1,6 @@
 use Rattle.std.proofs.Common.{◌≡◌, ◌∙◌, ap, subst, inr, ◌-◌, ◌+◌, ◌*◌, ◌/◌, length, arith, rules}
-use Rattle.romfs_seal.specs.Tree.{blocks_above, tree_blocks}
-use Rattle.romfs_seal.specs.File.{blocks_of}
+use Rattle.devices.specs.Tree.{blocks_above, tree_blocks}
+use Rattle.devices.specs.File.{blocks_of}
 use Rattle.devices.specs.Contents.{IsShort}
 use Rattle.romfs_seal.proofs.Whole.{any_err, upper_short}
 use Rattle.romfs_seal.proofs.opening.upper_level.Goals as goal

@@ -1,10 +1,10 @@
 use Rattle.std.proofs.Common.{◌≡◌, ◌≢◌, ◌∙◌, sym, ap, subst, refl, ◌+◌, ◌*◌, ◌/◌, ◌<◌, ◌++◌, length, drop, ℕ, arith}
 use Rattle.std.proofs.lemmas.Bool.{cases_lt}
-use Rattle.romfs_seal.specs.Tree.{fan, digest_at, digest_size, blocks_above}
-use Rattle.romfs_seal.specs.File.{blocks_of}
+use Rattle.devices.specs.Tree.{fan, digest_at, digest_size, blocks_above}
+use Rattle.devices.specs.File.{blocks_of}
 use Rattle.romfs_seal.proofs.Fans.{above_within, small_digest}
 use Rattle.devices.specs.Contents.{IsShort}
-use Rattle.romfs_seal.specs.Seal.{IsGiven}
+use Rattle.devices.specs.Seal.{IsGiven}
 use Rattle.romfs_seal.specs.Kept.{IsLeaf, first_under}
 use Rattle.romfs_seal.proofs.Leaves.{leaf_none, leaf_kept}
 use Rattle.romfs_seal.proofs.Whole.{any_on, leaf_short, leaf_other, given_block}
