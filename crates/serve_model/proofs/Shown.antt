@@ -16,7 +16,7 @@ use Rattle.serve_model.proofs.Stacking.{stacked_back}
 pub gathered_of : (profile : Profile) (sources : List Source) (images kept : List (List ℕ)) → WereGatheredFrom profile sources kept
     → AreShown sources images → WereGatheredFor profile images kept
 gathered_of profile [] [] [] g s = tt
-gathered_of profile (x ∷ sources) (b ∷ images) (a ∷ kept) g s = (g.0.of b s.0, gathered_of profile sources images kept g.1 s.1)
+gathered_of profile (x ∷ sources) (b ∷ images) (a ∷ kept) g s = (g.0.each b s.0, gathered_of profile sources images kept g.1 s.1)
 gathered_of profile [] [] (a ∷ kept) g s = absurd g
 gathered_of profile [] (b ∷ images) kept g s = absurd s
 gathered_of profile (x ∷ sources) [] kept g s = absurd s

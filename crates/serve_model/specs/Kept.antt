@@ -1,6 +1,6 @@
 -- Images that stay in their files, what was gathered from each, and the stacks of both.
 use Rattle.std.specs.Prelude.{◌≡◌, ◌⊎◌, ℕ, List, [], ◌∷◌, ⊤, false, map}
-use Rattle.devices.specs.Sources.{Source, Shows}
+use Rattle.devices.specs.Sources.{Source, IfShown}
 use Rattle.romfs_format.specs.Fields.{image}
 use Rattle.romfs_format.specs.declared.rule.Profile.{Profile}
 use Rattle.romfs_format.specs.Profiles.{reads_attributes}
@@ -42,8 +42,8 @@ pub record AreStacksOf (images : List (List ℕ)) (gathered whole : Stacked) : T
   pub of_images : AreStacked profile owner images whole
 
 -- this was gathered from a source for a profile: of whatever bytes the source shows
-pub record WasGatheredFrom (profile : Profile) (source : Source) (a : List ℕ) : Type 0 where
-  pub of : (b : List ℕ) → Shows source b → WasGatheredFor profile b a
+abbrev pub WasGatheredFrom : Profile → Source → List ℕ → Type 0
+WasGatheredFrom profile source a = IfShown source (λ b. WasGatheredFor profile b a)
 
 -- each of these was gathered so from the source at its position
 abbrev pub WereGatheredFrom : Profile → List Source → List (List ℕ) → Type 0
