@@ -12,6 +12,7 @@ use Rattle.romfs_files.specs.declared.loaded.Loading.{Loading}
 use Rattle.romfs_files.specs.declared.loaded.Loading.TheVariants as how
 use Rattle.romfs_files.specs.declared.loaded.Trailers.{Trailers}
 use Rattle.std.specs.declared.vec.Vec.{Vec}
+use Rattle.devices.specs.Sources.{unknown}
 use Rattle.romfs_held.specs.Images.{held_bytes}
 use Rattle.romfs_files.specs.Files.{AreBytesOf, IsWholeOf}
 use Rattle.romfs_files.specs.Loaded.{IsKeptOf, IsOpenOver}
@@ -53,8 +54,8 @@ pub record IsOpenedAs {F A : Type 0} (kind : FileKind) (known : Option (List ℕ
 -- all, and of any other what the rules look at, but of its reads nothing is known
 abbrev pub IsHeldAs : {F A : Type 0} → FileKind → Option (List ℕ) → Trailers → LoadedImage F A
     → Type 0
-IsHeldAs (Regular size) known trailers image = IsKeptOf None trailers image
-IsHeldAs BlockDevice known trailers image = IsKeptOf None trailers image
+IsHeldAs (Regular size) known trailers image = IsKeptOf unknown trailers image
+IsHeldAs BlockDevice known trailers image = IsKeptOf unknown trailers image
 IsHeldAs Stream known trailers image = IsWholeOf known image.held
 
 -- what is loaded of such a file

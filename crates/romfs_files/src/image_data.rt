@@ -15,9 +15,7 @@ pub enum ImageData<F, A: Allocator> {
 
 /// Of a file no byte is known, and a read may fail. Bytes in memory are read as they are.
 impl<F: FileExt, A: Allocator> Contents for ImageData<F, A> {
-    ghost use Rattle.romfs_files.specs.Data.{known_bytes, source_of};
-
-    ghost contents = { known_bytes };
+    ghost use Rattle.romfs_files.specs.Data.{source_of};
 
     ghost source = { source_of };
 

@@ -2,7 +2,7 @@
 
 ghost use Rattle.std.specs.Prelude.{◌≡◌, None, IfOk, IfErr};
 ghost use Rattle.romfs_kept.specs.Reads.{IsCause};
-ghost use Rattle.romfs_files.specs.Data.{known_bytes};
+ghost use Rattle.romfs_files.specs.Data.{source_of};
 ghost use Rattle.romfs_files.specs.Loaded.{AreApart, IsKeptOf, IsOpenOver, IsLetGo, WasGathered, added};
 
 use crate::image_data::ImageData;
@@ -48,7 +48,7 @@ pub(crate) fn open<F: FileExt + Drop, A: Allocator + Copy>(
     trailers: Trailers,
 ) -> Result<LoadedImage<F, A>, GatherFault>
     ensures ok { IfOk result (IsOpenOver source trailers) }
-    ensures err { IfErr result (IsCause (known_bytes source)) }
+    ensures err { IfErr result (IsCause (source_of source)) }
 {
     let mut image = kept_of(alloc, &source, trailers)?;
     image.source = Some(source);
@@ -89,9 +89,9 @@ fn kept_of<F, S: Contents, A: Allocator + Copy>(
     source: &S,
     trailers: Trailers,
 ) -> Result<LoadedImage<F, A>, GatherFault>
-    ensures ok { IfOk result (IsKeptOf (S.contents source.now) trailers) }
+    ensures ok { IfOk result (IsKeptOf (S.source source.now) trailers) }
     ensures source { IfOk result (λ image. image.source ≡ None) }
-    ensures err { IfErr result (IsCause (S.contents source.now)) }
+    ensures err { IfErr result (IsCause (S.source source.now)) }
 {
     Ok(LoadedImage {
         held: HeldImage::Kept(gather_as(alloc, source, trailers)?),
@@ -105,8 +105,8 @@ fn gather_as<S: Contents, A: Allocator + Copy>(
     source: &S,
     trailers: Trailers,
 ) -> Result<Kept<A>, GatherFault>
-    ensures ok { IfOk result (WasGathered trailers (S.contents source.now)) }
-    ensures err { IfErr result (IsCause (S.contents source.now)) }
+    ensures ok { IfOk result (WasGathered trailers (S.source source.now)) }
+    ensures err { IfErr result (IsCause (S.source source.now)) }
 {
     match trailers {
         Trailers::Read => gather_with_trailer(alloc, source),

@@ -4,16 +4,15 @@ use Rattle.std.proofs.Common.{◌-◌, ◌≡◌, ◌≢◌, ◌∙◌, sym, ap,
 use Rattle.std.proofs.lemmas.List.{take_at, take_all}
 use Rattle.devices.specs.declared.algorithm.Algorithm.{Algorithm}
 use Rattle.devices.specs.declared.algorithm.Algorithm.TheVariants.{Sha256, Sha512}
-use Rattle.devices.specs.Tree.{Hash, AreBytes, IsBlock, IsDigest, AreBlocks, HasLevels, digest_size, fan, block, digest_at, blocks_above, above, root, root_hash}
-use Rattle.devices.specs.File.{blocks_of, in_blocks, filled, descriptor}
+use Rattle.devices.specs.Tree.{Hash, AreBytes, IsBlock, IsDigest, AreBlocks, HasLevels, digest_size, fan, block, digest_at, blocks_above, above, root}
+use Rattle.devices.specs.File.{blocks_of, in_blocks, filled}
 use Rattle.devices.specs.Vouched.{Vouches}
 use Rattle.romfs_seal.proofs.Fans.{none_yet, above_within, split_is, rest_below, one_block, few_blocks, one_level_less, one_count}
 use Rattle.romfs_seal.proofs.Levels.{block-is, block-only, blocks-above, digest_at-above, digest_at-block}
 use Rattle.romfs_seal.proofs.Binding.{vouches}
-use Rattle.romfs_seal.proofs.Files.{blocks-file, root_some}
+use Rattle.romfs_seal.proofs.FileBlocks.{blocks-file, root_some}
 use Rattle.romfs_seal.proofs.Filled.{filled_whole}
-use Rattle.devices.specs.Sources.{Source, MayGive}
-use Rattle.devices.specs.Seal.{Seal, lowest_place, kept_len, kept_root, kept_of, IsGiven, MayBeKept}
+use Rattle.devices.specs.Seal.{Seal, lowest_place, kept_len, kept_root, kept_of, IsGiven}
 use Rattle.devices.specs.Read.{IsAloneAt, IsUnmatched}
 use Rattle.romfs_seal.specs.Kept.{IsOpened, IsLeaf, first_under}
 

@@ -3,7 +3,7 @@
 ghost use Rattle.std.specs.Prelude.{◌≡◌, ◌≤◌, length, IfOk};
 ghost use Rattle.devices.specs.File.{descriptor};
 
-use crate::algorithm::Algorithm;
+use devices::Algorithm;
 use std::alloc::{AllocError, Allocator};
 
 /// The bytes of a descriptor.

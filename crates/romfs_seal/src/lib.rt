@@ -1,9 +1,9 @@
 //! fs-verity's tree of digests, its descriptor and the digest of a file
 //! (Documentation/filesystems/fsverity.rst): SHA-256 or SHA-512, blocks of 4,096 bytes, no salt.
 //!
-//! - `specs/Tree` says what the tree over whole blocks is, `specs/File` what the descriptor and the
+//! - `Tree` of `devices` says what the tree over whole blocks is, `File` what the descriptor and the
 //!   digest of a file are. [`examples`] computes digests that `fsverity digest` printed.
-//! - `specs/Vouched` says what a digest says of blocks that were read, by the blocks of digests on
+//! - `Vouched` says what a digest says of blocks that were read, by the blocks of digests on
 //!   the way to it; no premise on the hash is in it. [`laws`] says what follows.
 //! - [`BlockHash`] is a hash of blocks, [`Algorithm`] fs-verity's two. [`Digest`] is what they give.
 //! A sealed image: each block of its file is hashed when it is read, and its digest is looked up in
@@ -14,11 +14,10 @@
 //! - [`Sealed`] reads them, once [`Sealed::open`] has held the upper levels against the digest.
 //!
 //! What is read is right, unless a read gives, in the place of a block of the file or of its tree,
-//! another block with that block's digest (`specs/Read`). No premise is on the hash alone. [`laws`]
+//! another block with that block's digest (`Read` of `devices`). No premise is on the hash alone. [`laws`]
 //! says that the premise is met by bytes that are held.
 #![tactic(auto)]
 
-mod algorithm;
 mod descriptor;
 mod digest;
 pub mod examples;
@@ -30,8 +29,8 @@ mod opening;
 mod sealed;
 pub mod tree_laws;
 
-pub use algorithm::Algorithm;
 pub use descriptor::descriptor_of;
+pub use devices::Algorithm;
 pub use digest::Digest;
 pub use files::{Files, NamedFiles};
 pub use hash::BlockHash;

@@ -11,8 +11,8 @@ ghost use Rattle.devices.specs.Honest.{IsTampered};
 use crate::files::NamedFiles;
 use crate::filling::BLOCK;
 use crate::sealed::Sealed;
-use crate::{Algorithm, Digest, descriptor_of};
-use devices::Unread;
+use crate::{Digest, descriptor_of};
+use devices::{Algorithm, Unread};
 use std::alloc::{AllocError, AllocFailed, Allocator};
 
 /// The size that no file reaches.

@@ -1,4 +1,4 @@
-use Rattle.std.proofs.Common.{◌≡◌, ◌∙◌, ap, subst, sym, inr, false, IsTrue, ◌+◌, ◌/◌, ◌<◌, ◌^◌, arith, rules, refl}
+use Rattle.std.proofs.Common.{◌≡◌, ◌∙◌, ap, subst, sym, inr, false, IsTrue, ◌<◌, ◌^◌, arith, rules}
 use Rattle.devices.specs.Tree.{AreBytes, HasLevels}
 use Rattle.devices.specs.File.{blocks_of}
 use Rattle.devices.specs.Seal.{lowest_place, MayBeKept, IsTop}

@@ -1,4 +1,4 @@
-use Rattle.std.proofs.Common.{◌≡◌, ◌∙◌, sym, ap, subst, ◌+◌, ◌-◌, ◌*◌, ◌/◌, ◌%◌, length, take, drop, min, arith, ◌≤◌}
+use Rattle.std.proofs.Common.{◌≡◌, ◌∙◌, sym, subst, ◌+◌, ◌*◌, ◌/◌, ◌%◌, length, take, drop, arith, ◌≤◌}
 use Rattle.romfs_seal.proofs.Levels.{part-part}
 use Rattle.devices.specs.Read.{AreRead}
 use Rattle.romfs_seal.proofs.Parts.{part_of, read_inside}

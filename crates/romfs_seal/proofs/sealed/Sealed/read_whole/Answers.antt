@@ -1,4 +1,4 @@
-use Rattle.std.proofs.Common.{◌≡◌, refl, ◌∙◌, ap, subst, ◌*◌, ◌-◌, min, arith}
+use Rattle.std.proofs.Common.{◌≡◌, refl, ◌∙◌, ap, subst, ◌*◌}
 use Rattle.devices.specs.Seal.{IsGiven}
 use Rattle.romfs_seal.proofs.Parts.{part_of, read_block}
 use Rattle.romfs_seal.proofs.Whole.{block_other}
