@@ -1,5 +1,5 @@
--- Shown data are answered as they are: the reply is the defined one, or EIO (shown_told); of held data never EIO (held_told). A reply whose data are read after its header (told_whole),
--- or that of EIO, set over it (told_unread).
+-- Shown data are answered as they are: the reply is the defined one, or EIO (shown_told); never EIO of data of which none lacks (whole_told),
+-- as of held ones (held_told). A reply whose data are read after its header (told_whole), or that of EIO, set over it (told_unread).
 use Rattle.std.proofs.Common.{◌≡◌, ◌∙◌, sym, ap, subst, ℕ, ◌+◌, ◌-◌, ◌<◌, ◌≤◌, List, ◌++◌, length, take, drop, Some, arith, inl, inr, true, false, refl, append_assoc, take-append-drop, length-append, length-drop}
 use Rattle.std.proofs.lemmas.List.{take_at, drop_at, take-take, length-take}
 use Rattle.devices.specs.Sources.{Source, MayGive, MayLack, Shows, held}
@@ -24,23 +24,31 @@ shown_told reading xs unique defined bytes shows is (inl read) =
     ∙ ap (λ l. take OUT_HEADER_SIZE defined ++ l) (given ∙ ap (λ n. take n (drop reading.place xs)) same ∙ sym is)
     ∙ take-append-drop OUT_HEADER_SIZE defined)
 
-right_held : (xs : List ℕ) (place unique : ℕ) (defined bytes : List ℕ)
-    → drop OUT_HEADER_SIZE defined ≡ take (length (drop OUT_HEADER_SIZE defined)) (drop place xs)
-    → IsRight (Some (record { source = held xs; place = place })) unique defined bytes → bytes ≡ defined
-right_held xs place unique defined bytes is (inl e) = e
-right_held xs place unique defined bytes is (inr unread) =
+right_whole : (reading : Reading) (xs : List ℕ) (unique : ℕ) (defined bytes : List ℕ)
+    → ((end : ℕ) → end ≤ length xs → MayLack reading.source end → ⊥)
+    → drop OUT_HEADER_SIZE defined ≡ take (length (drop OUT_HEADER_SIZE defined)) (drop reading.place xs)
+    → IsRight (Some reading) unique defined bytes → bytes ≡ defined
+right_whole reading xs unique defined bytes whole is (inl e) = e
+right_whole reading xs unique defined bytes whole is (inr unread) =
     let some = unread.some in
-    let size = ap length is ∙ length-take _ (drop place xs) in
-    let left = length-drop place xs in
+    let size = ap length is ∙ length-take _ (drop reading.place xs) in
+    let left = length-drop reading.place xs in
     let long = length-drop OUT_HEADER_SIZE defined in
-    absurd (held_lacks xs (place + (length defined - OUT_HEADER_SIZE)) (omega arith) unread.lacks)
+    absurd (whole (reading.place + (length defined - OUT_HEADER_SIZE)) (omega arith) unread.lacks)
+
+-- of bytes that are shown, and of which none lacks
+pub whole_told : (reading : Reading) (xs : List ℕ) (unique : ℕ) (defined bytes : List ℕ) → Shows reading.source xs
+    → ((end : ℕ) → end ≤ length xs → MayLack reading.source end → ⊥)
+    → drop OUT_HEADER_SIZE defined ≡ take (length (drop OUT_HEADER_SIZE defined)) (drop reading.place xs)
+    → IsTold (Some reading) unique defined bytes → bytes ≡ defined
+whole_told reading xs unique defined bytes shows whole is told =
+    right_whole reading xs unique defined bytes whole is (shown_told reading xs unique defined bytes shows is told)
 
 pub held_told : (xs : List ℕ) (place unique : ℕ) (defined bytes : List ℕ)
     → drop OUT_HEADER_SIZE defined ≡ take (length (drop OUT_HEADER_SIZE defined)) (drop place xs)
     → IsTold (Some (record { source = held xs; place = place })) unique defined bytes → bytes ≡ defined
 held_told xs place unique defined bytes is told =
-    right_held xs place unique defined bytes is
-    (shown_told (record { source = held xs; place = place }) xs unique defined bytes refl is told)
+    whole_told (record { source = held xs; place = place }) xs unique defined bytes refl (held_lacks xs) is told
 
 module _ (source : Source) (place unique : ℕ) (bytes filled : List ℕ) (long : length filled ≡ length bytes) where
   whole : reply_with unique bytes ≡ reply_head unique (length bytes) ++ bytes

@@ -1,15 +1,17 @@
 -- Data that are read from sources which show the layers' bytes are those that are defined: they stand in the layer where they begin
 -- (window, data_there), so what may be told of them is right (shown_layers_told), and the reply if they are held (held_layers_told).
 -- Under a digest each byte of data is one for which it vouches (data_vouched).
-use Rattle.std.proofs.Common.{◌≡◌, ◌⊎◌, inl, inr, ◌∙◌, sym, ap, subst, ℕ, zero, suc, ◌+◌, ◌-◌, List, [], ◌∷◌, length, take, drop, map, Option, Some, None, refl, arith, lt_of_not-le}
+use Rattle.std.proofs.Common.{◌≤◌, ◌≡◌, ◌⊎◌, inl, inr, ◌∙◌, sym, ap, subst, ℕ, zero, suc, ◌+◌, ◌-◌, List, [], ◌∷◌, length, take, drop, map, Option, Some, None, refl, arith, lt_of_not-le}
 use Rattle.std.specs.Prelude.{slice_get, ⊤}
 use Rattle.std.specs.Option.{option_map, option_map_or, option_and_then}
 use mathlib.Core.Logic.{dite}
 use native.Mathlib.Decide.{dec_le}
 use Rattle.std.proofs.lemmas.List.{length-take, drop-drop, drop-take, drop_all, take_all, take-take, take_min, drop_at}
 use Rattle.std.proofs.lemmas.Option.{slice_get-map, get_or_from_slice_get}
-use Rattle.devices.specs.Sources.{Source, sealed, Shows, held}
+use Rattle.devices.specs.Sources.{Source, sealed, MayLack, Shows, held}
 use Rattle.devices.specs.Seal.{Seal}
+use Rattle.devices.specs.Honest.{IsHonest}
+use Rattle.devices.proofs.Given.{held_lacks}
 use Rattle.romfs_format.specs.Fields.{name, data_at}
 use Rattle.fuse_wire.specs.declared.limits.TheConstants.{OUT_HEADER_SIZE}
 use Rattle.fuse_wire.specs.declared.errno.Errno.{Errno}
@@ -18,7 +20,7 @@ use Rattle.fuse_wire.specs.Requests.{Asked, NodeOp, Op, at_node, read}
 use Rattle.fuse_wire.specs.Replies.{reply_head, reply_with, error_reply}
 use Rattle.fuse_wire.specs.Told.{IsTold, IsRight, Reading}
 use Rattle.fuse_wire.proofs.Sizes.{length-head, length-error_reply}
-use Rattle.fuse_wire.proofs.Telling.{held_told, shown_told}
+use Rattle.fuse_wire.proofs.Telling.{shown_told, whole_told}
 use Rattle.stack_model.specs.Listing.{Stacked}
 use Rattle.stack_model.specs.Numbers.{Place, node_of}
 use Rattle.stack_model.specs.Attributes.{layer_of, size_at, data_start, data_of}
@@ -26,6 +28,7 @@ use Rattle.reply_model.specs.declared.session.Session.{Session}
 use Rattle.reply_model.specs.Sessions.{agreement_of}
 use Rattle.reply_model.specs.Refusals.{refusal}
 use Rattle.reply_model.specs.Replies.{answer, reply}
+use Rattle.reply_model.specs.Holding.{Holds, AreHeldBy}
 use Rattle.reply_model.specs.Readings.{Sourced, sourced, reading_at, reading_from, reading_in, reading_of, AreShown, AreVouched, IsReplyOver, IsRightOver}
 
 -- a front part is as many bytes as it has
@@ -99,15 +102,26 @@ each_shown (x ∷ sources) (xs ∷ images) s (suc k) source is = each_shown sour
 each_shown [] (xs ∷ images) s k source is = absurd s
 each_shown (x ∷ sources) [] s k source is = absurd s
 
-abbrev pub Holds : Source → List ℕ → Type 0
-Holds source xs = source ≡ held xs
+pub each_held : (sources : List Source) (images : List (List ℕ)) → AreHeldBy sources images → EachHas Holds sources images
+each_held [] [] s k source is = absurd (cc)
+each_held (x ∷ sources) (xs ∷ images) s zero source is =
+    (xs, refl, subst (λ (z : Source). Holds z xs) (let e : x ≡ source = cc in e) s.0)
+each_held (x ∷ sources) (xs ∷ images) s (suc k) source is = each_held sources images s.1 k source is
+each_held [] (xs ∷ images) s k source is = absurd s
+each_held (x ∷ sources) [] s k source is = absurd s
 
-held_of : (o : Option (List ℕ)) (source : Source) → option_map held o ≡ Some source → (xs : List ℕ) × (o ≡ Some xs) × Holds source xs
-held_of None source is = absurd (cc)
-held_of (Some xs) source is = (xs, refl, (let e : source ≡ held xs = cc in e))
+-- bytes that are held are so
+pub are_held : (images : List (List ℕ)) → AreHeldBy (map held images) images
+are_held [] = tt
+are_held (xs ∷ images) = (record { shows = refl; whole = held_lacks xs }, are_held images)
 
-pub each_held : (images : List (List ℕ)) → EachHas Holds (map held images) images
-each_held images k source is = held_of (slice_get images k) source (sym (slice_get-map held images k) ∙ is)
+-- and so are those under a digest, if the file and its tree are held
+pub honest_held : (s : Seal) (xs : List ℕ) → IsHonest s xs → Shows (sealed s) xs → Holds (sealed s) xs
+honest_held s xs h shows = record { shows = shows; whole = whole }
+  where
+    whole : (end : ℕ) → end ≤ length xs → MayLack (sealed s) end → ⊥
+    whole end within (inl fails) = fails.no xs h
+    whole end within (inr past) = (let size = h.size in omega arith)
 
 -- from shown bytes the reply is right, and from held bytes it is the defined one
 pub right_from : (reading : Option Reading) (unique : ℕ) (defined bytes : List ℕ) → AreFrom Shows reading defined
@@ -119,8 +133,7 @@ pub same_from : (reading : Option Reading) (unique : ℕ) (defined bytes : List 
     → IsTold reading unique defined bytes → bytes ≡ defined
 same_from None unique defined bytes from t = t
 same_from (Some reading) unique defined bytes (xs, holds, is) t =
-    held_told xs reading.place unique defined bytes is
-    (subst (λ (z : Source). IsTold (Some (record { source = z; place = reading.place })) unique defined bytes) holds t)
+    whole_told reading xs unique defined bytes holds.shows holds.whole is t
 
 module _ (P : Source → List ℕ → Type 0) (stack : Stacked) (sources : List Source) (each : EachHas P sources stack.layers) (s : Session)
     (unique node : ℕ) where
@@ -182,11 +195,15 @@ shown_layers_told stack sources shown s q bytes t =
     (all_from Shows stack sources (each_shown sources stack.layers shown) s q) t
 
 -- from sources that hold them it is the reply that is defined
+pub same_layers_told : (stack : Stacked) (sources : List Source) → AreHeldBy sources stack.layers → (s : Session) (q : Asked)
+    (bytes : List ℕ) → IsReplyOver (sourced stack sources) s q bytes → bytes ≡ reply stack s q
+same_layers_told stack sources held s q bytes t =
+    same_from (reading_of (sourced stack sources) q) q.unique (reply stack s q) bytes
+    (all_from Holds stack sources (each_held sources stack.layers held) s q) t
+
 pub held_layers_told : (stack : Stacked) (s : Session) (q : Asked) (bytes : List ℕ)
     → IsReplyOver (sourced stack (map held stack.layers)) s q bytes → bytes ≡ reply stack s q
-held_layers_told stack s q bytes t =
-    same_from (reading_of (sourced stack (map held stack.layers)) q) q.unique (reply stack s q) bytes
-    (all_from Holds stack (map held stack.layers) (each_held stack.layers) s q) t
+held_layers_told stack s q bytes t = same_layers_told stack (map held stack.layers) (are_held stack.layers) s q bytes t
 
 -- ---- under a digest
 

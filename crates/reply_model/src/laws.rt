@@ -1,7 +1,8 @@
 //! What holds of every reply.
 
 ghost use Rattle.std.specs.Prelude.{◌≡◌, ◌⊎◌, ◌≤◌, ◌+◌, [], ◌∷◌, ◌++◌, ℕ, List, length, drop, map, slice_get, Some, All, true, false, ◌+ℤ◌};
-ghost use Rattle.devices.specs.Sources.{Source, sealed, held};
+ghost use Rattle.devices.specs.Sources.{Source, Shows, sealed, held};
+ghost use Rattle.devices.specs.Honest.{IsHonest};
 ghost use Rattle.devices.specs.Seal.{Seal};
 ghost use Rattle.romfs_format.specs.declared.rule.Profile.TheVariants.{Usual};
 ghost use Rattle.romfs_format.specs.Fields.{image};
@@ -14,6 +15,7 @@ ghost use Rattle.fuse_wire.specs.Stream.{said_length};
 ghost use Rattle.stack_model.specs.Listing.{Entry, Stacked, IsListing};
 ghost use Rattle.reply_model.specs.declared.session.Session.{Session};
 ghost use Rattle.reply_model.specs.Replies.{reply};
+ghost use Rattle.reply_model.specs.Holding.{Holds, AreHeldBy};
 ghost use Rattle.reply_model.specs.Readings.{sourced, AreShown, AreVouched, IsReplyOver, IsRightOver};
 ghost use Rattle.reply_model.specs.declared.session.Session.TheVariants.{Fresh, LastingFresh};
 ghost use Rattle.reply_model.specs.Sessions.{is_fresh, session_after, agreement_of};
@@ -127,16 +129,21 @@ pub fn attributes_fit_their_fields()
 {}
 
 /// Data that are read from sources which show the layers' bytes are those that are defined: the
-/// reply is the defined one, or to a READ of data EIO. If the sources hold the layers it is the
-/// defined one. Under a digest each byte of data is of a block for which the digest vouches,
-/// whatever the files give.
+/// reply is the defined one, or to a READ of data EIO. If the sources lack none of these bytes it
+/// is the defined one, as of bytes in memory, and of files under a digest that are the named ones.
+/// Under a digest each byte of data is of a block for which the digest vouches, whatever the files
+/// give.
 pub fn data_are_told_as_shown()
     ensures shown { (stack : Stacked) (sources : List Source) → AreShown sources stack.layers →
         (s : Session) (q : Asked) (bytes : List ℕ) →
         IsReplyOver (sourced stack sources) s q bytes →
         IsRightOver (sourced stack sources) (reply stack s q) q bytes }
-    ensures held { (stack : Stacked) (s : Session) (q : Asked) (bytes : List ℕ) →
-        IsReplyOver (sourced stack (map held stack.layers)) s q bytes → bytes ≡ reply stack s q }
+    ensures same { (stack : Stacked) (sources : List Source) → AreHeldBy sources stack.layers →
+        (s : Session) (q : Asked) (bytes : List ℕ) →
+        IsReplyOver (sourced stack sources) s q bytes → bytes ≡ reply stack s q }
+    ensures held { (images : List (List ℕ)) → AreHeldBy (map held images) images }
+    ensures honest { (s : Seal) (xs : List ℕ) → IsHonest s xs → Shows (sealed s) xs →
+        Holds (sealed s) xs }
     ensures vouched { (stack : Stacked) (sources : List Source) (offset size : ℕ) (p : Place)
         (seal : Seal) (s : Session) (q : Asked) (bytes : List ℕ) →
         q.op ≡ at_node (read offset size) → node_of stack.entries q.node ≡ Some p →
