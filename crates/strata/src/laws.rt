@@ -10,10 +10,10 @@ ghost use Rattle.serve_core.specs.declared.stop.Stop.TheVariants.{Read, Write};
 ghost use Rattle.strata.specs.Ending.{EndsWith, IsServedWhole, IsFileFault, IsDoneOver, first_of};
 ghost use Rattle.reply_model.specs.declared.session.Session.{Session};
 ghost use Rattle.reply_model.specs.declared.session.Session.TheVariants.{Fresh, LastingFresh};
-ghost use Rattle.reply_model.specs.Readings.{Sourced, in_memory, sourced, IsReplyOver};
+ghost use Rattle.reply_model.specs.Readings.{Sourced, in_memory, sourced, AreShown, IsReplyOver};
 ghost use Rattle.reply_model.specs.Replies.{reply};
-ghost use Rattle.serve_model.specs.Kept.{WereGatheredFor, over};
-ghost use Rattle.devices.specs.Sources.{held};
+ghost use Rattle.serve_model.specs.Kept.{WereGatheredFor, AreServedAs, over};
+ghost use Rattle.devices.specs.Sources.{Source, Shows, held};
 ghost use Rattle.fuse_wire.specs.Requests.{Asked, at_node, read};
 ghost use Rattle.stack_model.specs.Listing.{Stacked};
 ghost use Rattle.stack_prepare.specs.Preparing.{AreStacked};
@@ -38,6 +38,7 @@ ghost use Rattle.strata.specs.Laws.{AreToBlame, HasMetItsEnd, HasStatusOf, IsOfF
 ghost use Rattle.strata.specs.Mounts.{is_taken_away, status_on_device, IsRunOnDevice, IsTakenAway, StopsWhere};
 
 use std::alloc::Allocator;
+use std::os::unix::fs::FileExt;
 
 /// A status other than 0 is one of 1 to 5. With 2 the arguments are no command of the program, or
 /// have a malformed number or one out of range, or name a file beside the device, and no device was
@@ -133,7 +134,8 @@ pub fn images_stay_in_their_files()
 
 /// If this was gathered from images for a line, and its data are read from sources that hold
 /// exactly these images, they are good, and a request may only get the reply that is defined over
-/// them. And this was gathered so if the line was prepared over such sources.
+/// them. This was gathered so from whatever images the sources of the line show; and these are good,
+/// and served as they are, or with EIO where data may be lacking.
 pub fn lines_are_served_as_over_their_files()
     ensures good { (line : Line) (kept images : List (List ℕ)) (by : Sourced) →
         ArePrepared line kept by → WereGatheredFor (profile_of line) images kept →
@@ -144,8 +146,11 @@ pub fn lines_are_served_as_over_their_files()
         (s : Session) (q : Asked) (bytes : List ℕ) →
         (IsReplyOver (sourced by.stack (map held images)) s q bytes ↔ (bytes ≡ reply whole s q)) }
     ensures gathered { (line : Line) (kept images : List (List ℕ)) (by : Sourced) →
-        ArePrepared line kept by → 1 ≤ length images → by.sources ≡ map held images →
+        ArePrepared line kept by → 1 ≤ length images → AreShown by.sources images →
         WereGatheredFor (profile_of line) images kept }
+    ensures shown { (line : Line) (kept images : List (List ℕ)) (by : Sourced) →
+        ArePrepared line kept by → 1 ≤ length images → AreShown by.sources images →
+        AreServedAs (profile_of line) line.owner by images }
 {}
 
 /// Whatever is read from the files later: a request that is no READ gets the reply that is defined
@@ -158,12 +163,12 @@ pub fn lines_keep_what_they_show()
         ((offset size : ℕ) → q.op ≢ at_node (read offset size)) → bytes ≡ reply whole s q }
 {}
 
-/// What is kept of an image besides its data is judged by the rules of a line as these are, with
-/// attributes and without.
+/// What is kept of an image besides its data is judged by the rules of a line as whatever bytes
+/// these show, with attributes and without.
 #[tactic(auto, using(crate::proofs::Rules::judged))]
 pub fn opened_images_are_judged_as_their_data()
-    ensures { (line : Line) (bytes image : List ℕ) →
-        WasGathered (trailers_of line) (Some bytes) image →
+    ensures { (line : Line) (source : Source) (bytes image : List ℕ) →
+        Shows source bytes → WasGathered (trailers_of line) source image →
         (IsSound (profile_of line) image ↔ IsSound (profile_of line) bytes)
         × ((fault : CheckFault) → IsRefusal (profile_of line) image fault
         ↔ IsRefusal (profile_of line) bytes fault) }
@@ -172,7 +177,7 @@ pub fn opened_images_are_judged_as_their_data()
 /// An image held in full, such as one from a pipe, is judged as all bytes of its file are, if these
 /// are known.
 #[tactic(auto, using(crate::proofs::Rules::judged_whole))]
-pub fn whole_images_are_judged_as_their_files<F, A: Allocator>()
+pub fn whole_images_are_judged_as_their_files<F: FileExt, A: Allocator>()
     ensures { (line : Line) (bytes : List ℕ) (image : LoadedImage F A) →
         IsHeldWhole (Some bytes) image →
         (IsSound (profile_of line) (loaded_bytes image) ↔ IsSound (profile_of line) bytes)
