@@ -14,13 +14,13 @@ use Rattle.fuse_wire.specs.Requests.{Asked, at_node, read}
 use Rattle.reply_model.specs.declared.session.Session.{Session}
 use Rattle.reply_model.specs.Replies.{reply}
 use Rattle.reply_model.specs.Readings.{Sourced, sourced, AreShown, IsReplyOver}
-use Rattle.serve_model.specs.Kept.{WasGatheredFrom, WereGatheredFor, WereGatheredFrom, AreStacksOf, AreServedAs, over}
-use Rattle.serve_model.proofs.Answered as answered
-use Rattle.serve_model.proofs.Shown.{gathered_of, shown_served}
-use Rattle.serve_model.proofs.Stacking.{stacked_back}
+use Rattle.serve_core.specs.Kept.{WasGatheredFrom, WereGatheredFor, WereGatheredFrom, AreStacksOf, AreServedAs, over}
+use Rattle.serve_core.proofs.Answered as answered
+use Rattle.serve_core.proofs.Shown.{gathered_of, shown_served}
+use Rattle.serve_core.proofs.Stacking.{stacked_back}
 use Rattle.strata_words.specs.declared.options.Line.{Line}
-use Rattle.strata.specs.Images.{profile_of, trailers_of, IsDataOf, AreDataOf, AreHeldWhole, ArePrepared}
-use Rattle.strata.proofs.Rules.{reads}
+use Rattle.strata_images.specs.Images.{profile_of, trailers_of, IsDataOf, AreDataOf, AreHeldWhole, ArePrepared}
+use Rattle.strata_images.proofs.Rules.{reads}
 
 -- with the trailer, where attributes are asked for
 by_trailers : (attributes reads : Bool) (source : Source) (a : List ℕ) → reads ≡ attributes
