@@ -1,7 +1,7 @@
 -- What is kept of a part after the rows is judged as the part is (part_judged): nothing if there is
 -- none, all if it is there in full, and otherwise its letters, which are broken as it is.
 use Rattle.std.proofs.Common.{◌≡◌, ◌∙◌, sym, ap, subst, ℕ, ◌+◌, ◌*◌, ◌%◌, ◌^◌, ◌<◌, ◌≤◌, ◌⊎◌, ◌↔◌, inl, inr, List, length, take, drop, IsTrue, refl, arith, length-take, length-take-le}
-use Rattle.std.specs.Prelude.{Bool, true, false, nat_eq, nat_le, codes}
+use Rattle.std.specs.Prelude.{Bool, true, false, nat_eq, codes}
 use Rattle.std.specs.List.{starts_with}
 use Rattle.std.specs.Cmp.Lexicographic.{pointwise}
 use Rattle.std.proofs.lemmas.Bool.{cases_lt, cases_Bool, true≢false}
@@ -133,11 +133,13 @@ module _ (x : List ℕ) where
     | inl w ↦ subst (λ k. (IsTrue (begins x) → IsPart n mode x) ↔ (IsTrue (begins (take k x)) → IsPart n other (take k x))) (sym w.1)
         ((λ p h. absurd (cc)), (λ p h. absurd (let e = w.0 in cc)))
     | inr (inl w) ↦ subst (λ k. (IsTrue (begins x) → IsPart n mode x) ↔ (IsTrue (begins (take k x)) → IsPart n other (take k x)))
-        (sym w.0)
-        ((λ p h. whole_forth x w.1 w.2 n mode other modes (p (sym (begins_kept x (part_size x) (omega arith)) ∙ h))),
-        (λ p h. whole_back x w.1 w.2 n mode other modes (p (begins_kept x (part_size x) (omega arith) ∙ h))))
+        (sym w.0) (
+          (λ p h. whole_forth x w.1 w.2 n mode other modes (p (sym (begins_kept x (part_size x) (omega arith)) ∙ h))),
+          (λ p h. whole_back x w.1 w.2 n mode other modes (p (begins_kept x (part_size x) (omega arith) ∙ h))),
+        )
     | inr (inr w) ↦ subst (λ k. (IsTrue (begins x) → IsPart n mode x) ↔ (IsTrue (begins (take k x)) → IsPart n other (take k x)))
-        (sym w.0)
-        ((λ p h. absurd (cut_broken n mode w.1 (p (sym (begins_kept x 8 (omega arith)) ∙ h)))),
-        (λ p h. absurd (letters_broken n other (p (begins_kept x 8 (omega arith) ∙ h)))))
+        (sym w.0) (
+          (λ p h. absurd (cut_broken n mode w.1 (p (sym (begins_kept x 8 (omega arith)) ∙ h)))),
+          (λ p h. absurd (letters_broken n other (p (begins_kept x 8 (omega arith) ∙ h)))),
+        )
   ]

@@ -1,6 +1,7 @@
 -- What is kept of an image.
-use Rattle.std.specs.Prelude.{◌≡◌, ℕ, ◌+◌, ◌/◌, ◌^◌, ◌≤◌, ◌&&◌, List, length, take, drop, Bool, true, false, Option, Some, None, ⊤, nat_eq, nat_le, nat_lt, codes, if◌then◌else◌}
+use Rattle.std.specs.Prelude.{◌≡◌, ℕ, ◌+◌, ◌/◌, ◌^◌, ◌≤◌, ◌&&◌, List, length, take, drop, Bool, true, false, nat_eq, nat_le, nat_lt, codes, if◌then◌else◌}
 use Rattle.std.specs.List.{starts_with}
+use Rattle.devices.specs.Sources.{Source, IfShown}
 use Rattle.romfs_format.specs.declared.limits.TheConstants.{TRAILER_HEAD_SIZE, PART_HEAD_SIZE}
 use Rattle.romfs_format.specs.Fields.{padded}
 use Rattle.romfs_format.specs.Part.{part_size}
@@ -13,15 +14,13 @@ pub record IsGatheredOf (b a : List ℕ) : Type 0 where
   pub headers : ℕ → Bool
   pub closed : IsClosed (is_same (take (length a) b) a) headers (take (length a) b)
 
--- the same, if the bytes are known
-abbrev pub IsGathered : Option (List ℕ) → List ℕ → Type 0
-IsGathered None a = ⊤
-IsGathered (Some b) a = IsGatheredOf b a
+-- the same of whatever bytes the source shows
+abbrev pub IsGathered : Source → List ℕ → Type 0
+IsGathered source a = IfShown source (λ b. IsGatheredOf b a)
 
 -- this many bytes are looked at
-abbrev pub IsReach : Option (List ℕ) → ℕ → Type 0
-IsReach None size = ⊤
-IsReach (Some b) size = size ≡ reach b
+abbrev pub IsReach : Source → ℕ → Type 0
+IsReach source size = IfShown source (λ b. size ≡ reach b)
 
 -- a trailer begins at the place
 abbrev pub begins_trailer : List ℕ → ℕ → Bool
@@ -56,7 +55,6 @@ pub record IsGatheredWithTrailerOf (b a : List ℕ) : Type 0 where
   pub tail : begins_trailer b (padded (reach b)) ≡ true
       → drop (padded (reach b)) a ≡ kept_tail (reach b) (drop (padded (reach b)) b)
 
--- the same, if the bytes are known
-abbrev pub IsGatheredWithTrailer : Option (List ℕ) → List ℕ → Type 0
-IsGatheredWithTrailer None a = ⊤
-IsGatheredWithTrailer (Some b) a = IsGatheredWithTrailerOf b a
+-- the same of whatever bytes the source shows
+abbrev pub IsGatheredWithTrailer : Source → List ℕ → Type 0
+IsGatheredWithTrailer source a = IfShown source (λ b. IsGatheredWithTrailerOf b a)

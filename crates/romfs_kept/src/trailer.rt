@@ -3,7 +3,7 @@
 //! It follows the full size, where the walk does not look. It is read at once, and put after what
 //! the walk kept.
 
-ghost use Rattle.std.specs.Prelude.{◌≡◌, ◌+◌, ◌*◌, ◌/◌, ◌<◌, ◌≤◌, ◌^◌, length, IfOk, IfErr, IfSome, MatchOption, OnOk};
+ghost use Rattle.std.specs.Prelude.{◌≡◌, ◌+◌, ◌*◌, ◌/◌, ◌<◌, ◌≤◌, ◌^◌, length, IfOk, IfErr, IfSome, IsTrue, MatchOption, OnOk};
 ghost use Rattle.romfs_kept.specs.Gathered.{IsGatheredWithTrailer};
 ghost use Rattle.romfs_kept.specs.Reads.{AreWithin, IsCause, IsHeld};
 ghost use Rattle.romfs_kept.specs.Tails.{BeginsTrailer, BeginsWith, IsNoTail, IsPartEnd, IsRoom};
@@ -42,8 +42,8 @@ pub fn gather_with_trailer<S: Contents, A: Allocator + Copy>(
     alloc: A,
     source: &S,
 ) -> Result<Kept<A>, GatherFault>
-    ensures ok { IfOk result (IsGatheredWithTrailer (S.contents source.now)) }
-    ensures err { IfErr result (IsCause (S.contents source.now)) }
+    ensures ok { IfOk result (IsGatheredWithTrailer (S.source source.now)) }
+    ensures err { IfErr result (IsCause (S.source source.now)) }
 {
     let front = gather(alloc, source)?;
     let full = front.held().len() as u32;
@@ -60,11 +60,11 @@ fn read_trailer<S: Contents, A: Allocator>(
     full: u32,
 ) -> Result<Option<Vec<u8, A>>, GatherFault>
     ensures ok { IfOk result (λ read. MatchOption read
-        (IsNoTail (S.contents source.now) full)
-        (λ tail. IsTail (S.contents source.now) full tail.items)) }
+        (IsNoTail (S.source source.now) full)
+        (λ tail. IsTail (S.source source.now) full tail.items)) }
     ensures small { IfOk result (λ read. IfSome read
         (λ tail. (full + 15) / 16 * 16 + length tail.items < 2 ^ 32)) }
-    ensures err { IfErr result (IsCause (S.contents source.now)) }
+    ensures err { IfErr result (IsCause (S.source source.now)) }
 {
     let place = padded(full as usize);
     let room = source.size().saturating_sub(place as u64);
@@ -85,9 +85,10 @@ fn begins_trailer<S: Contents, A: Allocator>(
     room: u64,
 ) -> Result<bool, GatherFault>
     requires place { place ≤ 2 ^ 32 }
-    requires room { IsRoom (S.contents source.now) place room }
-    ensures ok { IfOk result (λ yes. BeginsTrailer (S.contents source.now) place yes) }
-    ensures err { IfErr result (IsCause (S.contents source.now)) }
+    requires room { IsRoom (S.source source.now) place room }
+    ensures ok { IfOk result (λ yes. BeginsTrailer (S.source source.now) place yes) }
+    ensures some { IfOk result (λ yes. IsTrue yes → 8 ≤ room) }
+    ensures err { IfErr result (IsCause (S.source source.now)) }
 {
     if place as u64 == PLACES {
         return Ok(false);
@@ -104,9 +105,10 @@ fn begins_with<S: Contents, A: Allocator>(
     letters: &[u8; 8],
 ) -> Result<bool, GatherFault>
     requires place { place < 2 ^ 42 }
-    requires room { IsRoom (S.contents source.now) place room }
-    ensures ok { IfOk result (λ yes. BeginsWith (S.contents source.now) place letters.now yes) }
-    ensures err { IfErr result (IsCause (S.contents source.now)) }
+    requires room { IsRoom (S.source source.now) place room }
+    ensures ok { IfOk result (λ yes. BeginsWith (S.source source.now) place letters.now yes) }
+    ensures some { IfOk result (λ yes. IsTrue yes → 8 ≤ room) }
+    ensures err { IfErr result (IsCause (S.source source.now)) }
 {
     if room < 8 {
         return Ok(false);
@@ -124,10 +126,10 @@ fn tail_end<S: Contents, A: Allocator>(
     full: u32,
 ) -> Result<u64, GatherFault>
     requires place { place ≤ 2 ^ 32 }
-    requires room { IsRoom (S.contents source.now) place room }
-    ensures ok { IfOk result (IsTailEnd (S.contents source.now) place full) }
+    requires room { IsRoom (S.source source.now) place room }
+    ensures ok { IfOk result (IsTailEnd (S.source source.now) place full) }
     ensures small { IfOk result (λ end. end < 2 ^ 41) }
-    ensures err { IfErr result (IsCause (S.contents source.now)) }
+    ensures err { IfErr result (IsCause (S.source source.now)) }
 {
     if room < TRAILER_HEAD_SIZE as u64 {
         return Ok(TRAILER_HEAD_SIZE as u64);
@@ -163,10 +165,10 @@ fn part_end<S: Contents, A: Allocator>(
     room: u64,
 ) -> Result<u64, GatherFault>
     requires place { place < 2 ^ 42 }
-    requires room { IsRoom (S.contents source.now) place room }
-    ensures ok { IfOk result (IsPartEnd (S.contents source.now) place) }
+    requires room { IsRoom (S.source source.now) place room }
+    ensures ok { IfOk result (IsPartEnd (S.source source.now) place) }
     ensures small { IfOk result (λ end. end < 2 ^ 32) }
-    ensures err { IfErr result (IsCause (S.contents source.now)) }
+    ensures err { IfErr result (IsCause (S.source source.now)) }
 {
     if !begins_with(source, tail, place, room, PART_LETTERS)? {
         return Ok(0);
@@ -192,11 +194,11 @@ fn read_tail<S: Contents, A: Allocator>(
 ) -> Result<(), GatherFault>
     requires place { place < 2 ^ 42 }
     requires count { count < 2 ^ 41 }
-    requires within { AreWithin (S.contents source.now) (place + count) }
+    requires within { AreWithin (S.source source.now) (place + count) }
     ensures small { OnOk result (place + count < 2 ^ 32) }
     ensures long { OnOk result (length tail.new.items ≡ count) }
-    ensures held { OnOk result (IsHeld (S.contents source.now) place tail.new.items) }
-    ensures err { IfErr result (IsCause (S.contents source.now)) }
+    ensures held { OnOk result (IsHeld (S.source source.now) place tail.new.items) }
+    ensures err { IfErr result (IsCause (S.source source.now)) }
 {
     if place as u64 + count >= PLACES {
         return Err(GatherFault::Memory);

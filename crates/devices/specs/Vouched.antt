@@ -1,8 +1,8 @@
 -- What a digest says of a block that was read, and of bytes: no premise on the hash is in it.
 use Rattle.std.specs.Prelude.{◌≡◌, ℕ, zero, suc, ◌/◌, ◌%◌, ◌<◌, List, slice_index}
-use Rattle.romfs_seal.specs.declared.algorithm.Algorithm.{Algorithm}
-use Rattle.romfs_seal.specs.Tree.{Hash, IsBlock, HasLevels, fan, digest_at}
-use Rattle.romfs_seal.specs.File.{blocks_of, descriptor}
+use Rattle.devices.specs.declared.algorithm.Algorithm.{Algorithm}
+use Rattle.devices.specs.Tree.{Hash, IsBlock, HasLevels, fan, digest_at}
+use Rattle.devices.specs.File.{blocks_of, descriptor}
 
 -- the root hash vouches for the block with this index, this many levels below: a block above it,
 -- for which that hash vouches too, has its digest at its place

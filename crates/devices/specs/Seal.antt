@@ -1,17 +1,14 @@
 -- What is read under a digest, and where the tree's levels stand in its file: as `fsverity digest --out-merkle-tree` writes them.
-use Rattle.std.specs.Prelude.{◌≡◌, ℕ, zero, suc, ◌+◌, ◌-◌, ◌*◌, List, length, replicate, min, Option}
-use Rattle.devices.specs.Sources.{Source, MayGive}
-use Rattle.romfs_seal.specs.declared.algorithm.Algorithm.{Algorithm}
-use Rattle.romfs_seal.specs.Tree.{Hash, AreBytes, IsBlock, IsDigest, digest_size, blocks_above, above, root, root_hash, tree_blocks}
-use Rattle.romfs_seal.specs.File.{blocks_of, filled, descriptor}
+use Rattle.std.specs.Prelude.{◌≡◌, ℕ, zero, suc, ◌*◌, List, length, replicate}
+use Rattle.devices.specs.Given.{Given, Allows}
+use Rattle.devices.specs.declared.algorithm.Algorithm.{Algorithm}
+use Rattle.devices.specs.Tree.{Hash, AreBytes, digest_size, blocks_above, above, root, root_hash, tree_blocks}
+use Rattle.devices.specs.File.{blocks_of, filled, descriptor}
 
--- what the file and the file of its tree hold, where that is known, and may give; how it is hashed;
--- its size and digest
+-- what reads of the file and of the file of its tree may give; how it is hashed; its size and digest
 pub record Seal : Type 0 where
-  pub image_bytes : Option (List ℕ)
-  pub image : Source
-  pub tree_bytes : Option (List ℕ)
-  pub tree : Source
+  pub image : Given
+  pub tree : Given
   pub algorithm : Algorithm
   pub hash : Hash
   pub size : ℕ
@@ -41,11 +38,11 @@ kept_of a h (suc zero) xs n = h (above a h xs n)
 kept_of a h (suc (suc levels)) xs n = above a h (above a h xs n) (blocks_above a n)
 
 -- the source may give these bytes at the place, and filled with zeros they are a block
-pub record IsGiven (source : Source) (place count : ℕ) (b : List ℕ) : Type 0 where
+pub record IsGiven (source : Given) (place count : ℕ) (b : List ℕ) : Type 0 where
   pub of : List ℕ
   pub bytes : AreBytes of
   pub long : length of ≡ count
-  pub given : MayGive source place of
+  pub given : Allows source place of
   pub is : b ≡ filled of
 
 -- the digest of the only block of a file of this size, as reads may give it
@@ -63,7 +60,7 @@ MayBeKept s zero kept = MayBeOnly s s.size kept
 MayBeKept s (suc zero) kept = MayBeFirst s kept
 MayBeKept s (suc (suc levels)) kept =
     (length kept ≡ kept_len s.algorithm (suc (suc levels)) (blocks_of s.size))
-    × MayGive s.tree (4096 * tree_blocks s.algorithm levels (blocks_above s.algorithm (blocks_above s.algorithm (blocks_of s.size)))) kept
+    × Allows s.tree (4096 * tree_blocks s.algorithm levels (blocks_above s.algorithm (blocks_above s.algorithm (blocks_of s.size)))) kept
 
 -- with the size that is reported, this is kept of a file with the digest that is reported
 abbrev pub IsTop : Seal → ℕ → List ℕ → Type 0

@@ -1,9 +1,9 @@
 -- Documentation/filesystems/fsverity.rst, "fs-verity descriptor" and "fs-verity file digest".
 use Rattle.std.specs.Prelude.{◌≡◌, ℕ, ◌+◌, ◌-◌, ◌*◌, ◌/◌, ◌^◌, ◌<◌, List, [], ◌∷◌, ◌++◌, length, replicate}
 use Rattle.std.specs.Int.{to_le_bytes, w64}
-use Rattle.romfs_seal.specs.declared.algorithm.Algorithm.{Algorithm}
-use Rattle.romfs_seal.specs.declared.algorithm.Algorithm.TheVariants.{Sha256, Sha512}
-use Rattle.romfs_seal.specs.Tree.{Hash, AreBytes, HasLevels, root_hash}
+use Rattle.devices.specs.declared.algorithm.Algorithm.{Algorithm}
+use Rattle.devices.specs.declared.algorithm.Algorithm.TheVariants.{Sha256, Sha512}
+use Rattle.devices.specs.Tree.{Hash, AreBytes, HasLevels, root_hash}
 
 -- how many blocks this many bytes fill
 abbrev pub blocks_of : ℕ → ℕ

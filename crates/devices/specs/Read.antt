@@ -1,14 +1,14 @@
 -- What reads under a digest give: no premise is on the hash alone, but on those bytes that reads may give.
-use Rattle.std.specs.Prelude.{◌≡◌, ◌≢◌, ℕ, ◌+◌, ◌-◌, ◌*◌, ◌<◌, List, length, slice_index}
-use Rattle.devices.specs.Sources.{Source, MayGive}
-use Rattle.romfs_seal.specs.Tree.{Hash, AreBytes, HasLevels, block, blocks_above, above}
-use Rattle.romfs_seal.specs.File.{blocks_of, filled, in_blocks, IsFileDigest}
-use Rattle.romfs_seal.specs.Vouched.{VouchesAt}
-use Rattle.romfs_seal.specs.Seal.{Seal, lowest_place, kept_of, MayBeKept, IsTop}
+use Rattle.std.specs.Prelude.{◌≡◌, ◌≢◌, ℕ, ◌+◌, ◌*◌, ◌<◌, List, length, slice_index}
+use Rattle.devices.specs.Given.{Given, Allows}
+use Rattle.devices.specs.Tree.{Hash, AreBytes, HasLevels, block, blocks_above, above}
+use Rattle.devices.specs.File.{blocks_of, filled, in_blocks, IsFileDigest}
+use Rattle.devices.specs.Vouched.{VouchesAt}
+use Rattle.devices.specs.Seal.{Seal, lowest_place, kept_of, MayBeKept, IsTop}
 
 -- no read of the source at this place gives other bytes, as many, that have these bytes' digest
-pub record IsAloneAt (source : Source) (place : ℕ) (h : Hash) (b : List ℕ) : Type 0 where
-  pub alone : (c : List ℕ) → AreBytes c → length c ≡ length b → MayGive source place c
+pub record IsAloneAt (source : Given) (place : ℕ) (h : Hash) (b : List ℕ) : Type 0 where
+  pub alone : (c : List ℕ) → AreBytes c → length c ≡ length b → Allows source place c
       → h (filled c) ≡ h (filled b) → c ≡ b
 
 -- the digest is that of a file of these bytes. And what reads may give of the upper levels makes,

@@ -1,7 +1,7 @@
 -- Documentation/filesystems/fsverity.rst, "Merkle tree": the tree of digests over blocks of 4,096 bytes, with no salt.
 use Rattle.std.specs.Prelude.{◌≡◌, ℕ, zero, suc, ◌+◌, ◌-◌, ◌*◌, ◌/◌, ◌^◌, ◌<◌, ◌≤◌, List, [], ◌++◌, length, take, drop, replicate, slice_index}
-use Rattle.romfs_seal.specs.declared.algorithm.Algorithm.{Algorithm}
-use Rattle.romfs_seal.specs.declared.algorithm.Algorithm.TheVariants.{Sha256, Sha512}
+use Rattle.devices.specs.declared.algorithm.Algorithm.{Algorithm}
+use Rattle.devices.specs.declared.algorithm.Algorithm.TheVariants.{Sha256, Sha512}
 
 -- what a block's digest is
 abbrev pub Hash : Type 0

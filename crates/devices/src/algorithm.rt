@@ -1,8 +1,8 @@
 //! The hash algorithms.
 
 ghost use Rattle.std.specs.Prelude.{◌≡◌, ◌+◌, ◌*◌, ◌^◌, ◌<◌, ◌≤◌};
-ghost use Rattle.romfs_seal.specs.Tree.{blocks_above, digest_size, fan};
-ghost use Rattle.romfs_seal.specs.File.{number};
+ghost use Rattle.devices.specs.Tree.{blocks_above, digest_size, fan};
+ghost use Rattle.devices.specs.File.{number};
 
 /// A hash algorithm of fs-verity.
 #[derive(Clone, Copy, Debug, PartialEq, Eq)]
