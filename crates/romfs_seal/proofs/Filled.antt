@@ -7,7 +7,7 @@ use Rattle.romfs_seal.specs.Digests.{bytes-append}
 use Rattle.romfs_seal.specs.Tree.{Hash, AreBytes, IsBlock, IsDigest, block, blocks_above, above, tree, tree_blocks}
 use Rattle.romfs_seal.specs.File.{blocks_of, filled, in_blocks}
 use Rattle.romfs_seal.proofs.Levels.{bytes-zeros, block-is, blocks-above, index-block}
-use Rattle.romfs_seal.proofs.Files.{blocks-file}
+use Rattle.romfs_seal.proofs.FileBlocks.{blocks-file}
 
 -- ---- zeros behind bytes
 

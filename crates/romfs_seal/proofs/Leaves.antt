@@ -10,7 +10,7 @@ use Rattle.romfs_seal.specs.Vouched.{Vouches}
 use Rattle.romfs_seal.proofs.Fans.{none_yet, above_within, split_is, rest_below, one_block, few_blocks, one_level_less, one_count}
 use Rattle.romfs_seal.proofs.Levels.{block-is, block-only, blocks-above, digest_at-above, digest_at-block}
 use Rattle.romfs_seal.proofs.Binding.{vouches}
-use Rattle.romfs_seal.proofs.Files.{blocks-file, root_some}
+use Rattle.romfs_seal.proofs.FileBlocks.{blocks-file, root_some}
 use Rattle.romfs_seal.proofs.Filled.{filled_whole}
 use Rattle.devices.specs.Sources.{Source, MayGive}
 use Rattle.romfs_seal.specs.Seal.{Seal, lowest_place, kept_len, kept_root, kept_of, IsGiven, MayBeKept}

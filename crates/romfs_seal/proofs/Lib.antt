@@ -1,7 +1,7 @@
 pub mod Fans
 pub mod Levels
 pub mod Binding
-pub mod Files
+pub mod FileBlocks
 pub mod Filled
 pub mod Blocks
 pub mod Stored

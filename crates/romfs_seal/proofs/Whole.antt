@@ -9,7 +9,7 @@ use Rattle.romfs_seal.specs.Tree.{Hash, AreBytes, IsBlock, IsDigest, HasLevels, 
 use Rattle.romfs_seal.specs.File.{blocks_of, in_blocks, filled, descriptor, file_digest, IsFileDigest}
 use Rattle.romfs_seal.proofs.Fans.{above_within, one_level_less, one_block, one_count, many_blocks}
 use Rattle.romfs_seal.proofs.Levels.{block-is, block-only, blocks-above}
-use Rattle.romfs_seal.proofs.Files.{blocks-file, root_some}
+use Rattle.romfs_seal.proofs.FileBlocks.{blocks-file, root_some}
 use Rattle.romfs_seal.proofs.Filled.{filled_whole, filled-is, block-filled, length-block, length-tree, only-filled}
 use Rattle.romfs_seal.specs.Seal.{Seal, lowest_place, kept_len, kept_root, kept_of, IsGiven, MayBeOnly, MayBeKept, IsTop}
 use Rattle.romfs_seal.specs.Read.{IsAloneAt, IsUnmatched}
@@ -169,9 +169,9 @@ too_long s long = record { no = λ xs o. (let small = o.of.small in let e = o.si
 short : (known : Option (List ℕ)) (ys : List ℕ) (place size : ℕ) → known ≡ Some ys → place + size ≤ length ys → IsShort known place size → ⊥
 short known ys place size is fits lacks = (let less : length ys < place + size = subst (λ k. IsShort k place size) is lacks in omega arith)
 
-pub image_short : (s : Seal) (place count : ℕ) → place + count ≤ s.size → IsShort s.devices place count → IsTampered s
+pub image_short : (s : Seal) (place count : ℕ) → place + count ≤ s.size → IsShort s.image_bytes place count → IsTampered s
 image_short s place count fits lacks = record {
-  no = λ xs o. short s.devices xs place count (o.image_is) (let e = o.size in omega (arith, e, fits)) lacks;
+  no = λ xs o. short s.image_bytes xs place count (o.image_is) (let e = o.size in omega (arith, e, fits)) lacks;
 }
 
 -- this many blocks of a tree from a place on

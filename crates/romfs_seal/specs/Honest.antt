@@ -9,7 +9,7 @@ use Rattle.romfs_seal.specs.Seal.{Seal}
 pub record IsHonest (s : Seal) (xs : List ℕ) : Type 0 where
   pub of : IsFileDigest s.algorithm s.hash xs s.digest
   pub size : s.size ≡ length xs
-  pub image_is : s.devices ≡ Some xs
+  pub image_is : s.image_bytes ≡ Some xs
   pub image_held : s.image ≡ held xs
   pub tree_is : s.tree_bytes ≡ Some (tree s.algorithm s.hash of.levels (in_blocks xs) (blocks_of (length xs)))
   pub tree_held : s.tree ≡ held (tree s.algorithm s.hash of.levels (in_blocks xs) (blocks_of (length xs)))

@@ -8,7 +8,7 @@ use Rattle.romfs_seal.specs.File.{blocks_of, filled, descriptor}
 -- what the file and the file of its tree hold, where that is known, and may give; how it is hashed;
 -- its size and digest
 pub record Seal : Type 0 where
-  pub devices : Option (List ℕ)
+  pub image_bytes : Option (List ℕ)
   pub image : Source
   pub tree_bytes : Option (List ℕ)
   pub tree : Source

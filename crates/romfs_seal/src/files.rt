@@ -39,7 +39,7 @@ pub trait NamedFiles {
         requires fits { count ≤ 4096 }
         requires near { place + count < 2 ^ 64 }
         ensures ok { OnOk result (IsGiven (seal self.now).image place count block.new) }
-        ensures err { OnErr result (IsShort (seal self.now).devices place count) };
+        ensures err { OnErr result (IsShort (seal self.now).image_bytes place count) };
 
     /// Reads a block of the tree.
     fn fill_tree(&self, block: &mut [u8], place: u64) -> Result<(), Unread>
@@ -111,7 +111,7 @@ impl<C: Contents, D: Contents, H: BlockHash> NamedFiles for Files<C, D, H> {
     ghost use Rattle.romfs_seal.specs.Digests.{digest_bytes};
 
     ghost seal = { λ files. record {
-      devices = C.contents files.image;
+      image_bytes = C.contents files.image;
       image = C.source files.image;
       tree_bytes = D.contents files.tree;
       tree = D.source files.tree;

@@ -15,12 +15,12 @@ use Rattle.fuse_wire.specs.Requests.{Asked, at_node, read}
 use Rattle.reply_model.specs.declared.session.Session.{Session}
 use Rattle.reply_model.specs.Replies.{reply}
 use Rattle.reply_model.specs.Readings.{Sourced, sourced, IsReplyOver}
-use Rattle.serve_model.specs.Kept.{WereGatheredFor, AreStacksOf, over}
-use Rattle.serve_model.proofs.Answered as answered
-use Rattle.serve_model.proofs.Stacking.{stacked_back}
+use Rattle.serve_core.specs.Kept.{WereGatheredFor, AreStacksOf, over}
+use Rattle.serve_core.proofs.Answered as answered
+use Rattle.serve_core.proofs.Stacking.{stacked_back}
 use Rattle.strata_words.specs.declared.options.Line.{Line}
-use Rattle.strata.specs.Images.{profile_of, trailers_of, IsDataOf, AreDataOf, AreHeldWhole, ArePrepared}
-use Rattle.strata.proofs.Rules.{reads}
+use Rattle.strata_images.specs.Images.{profile_of, trailers_of, IsDataOf, AreDataOf, AreHeldWhole, ArePrepared}
+use Rattle.strata_images.proofs.Rules.{reads}
 
 -- sources that hold different bytes differ
 held_one : (xs ys : List ℕ) → held xs ≡ held ys → xs ≡ ys

@@ -1,6 +1,6 @@
 use Rattle.std.proofs.Common.{◌∙◌, ap, [], ◌∷◌, ◌++◌, arith}
 use Rattle.std.specs.Int.{to_le_bytes, w64}
-use Rattle.romfs_seal.proofs.Files.{descriptor_made}
+use Rattle.romfs_seal.proofs.FileBlocks.{descriptor_made}
 use Rattle.romfs_seal.proofs.descriptor.descriptor_of.Goals as goal
 
 pub returns : goal.returns

@@ -1,4 +1,4 @@
-use Rattle.romfs_seal.proofs.Files.{one_file}
+use Rattle.romfs_seal.proofs.FileBlocks.{one_file}
 use Rattle.romfs_seal.proofs.tree_laws.one_digest_one_file.Goals as goal
 
 pub returns : goal.returns
