@@ -3,7 +3,7 @@ use Rattle.std.proofs.Common.{◌≡◌, sym, subst, ℕ, List, Option, IfOk, If
 use Rattle.romfs_files.specs.declared.opening.FileKind.{FileKind}
 use Rattle.romfs_files.specs.declared.opening.FileKind.TheVariants.{Regular, BlockDevice, Stream}
 use Rattle.romfs_files.specs.declared.image_data.ImageData.{ImageData}
-use Rattle.romfs_files.specs.declared.image_data.ImageData.TheVariants.{File, Memory}
+use Rattle.romfs_files.specs.declared.image_data.ImageData.TheVariants.{File, Memory, Sealed}
 use Rattle.romfs_files.specs.declared.loaded.LoadedImage.{LoadedImage}
 use Rattle.romfs_files.specs.declared.loaded.Loading.{Loading}
 use Rattle.romfs_files.specs.declared.loaded.Loading.TheVariants as how
@@ -40,6 +40,9 @@ seen_of : {F A : Type 0} (kind : FileKind) (known : Option (List ℕ)) (source :
     → IfShown (source_of source) (λ ys. IfSome known (λ xs. ys ≡ xs))
 seen_of kind known (File file) h = record { each = λ ys shown. absurd shown }
 seen_of (Regular size) known (Memory bytes) h = absurd h
+seen_of (Regular size) known (Sealed source) h = absurd h
+seen_of BlockDevice known (Sealed source) h = absurd h
+seen_of Stream known (Sealed source) h = absurd h
 seen_of BlockDevice known (Memory bytes) h = absurd h
 seen_of Stream known (Memory bytes) h = record { each = λ ys shown. same_bytes known bytes.items ys shown h }
 

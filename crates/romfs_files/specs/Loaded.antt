@@ -1,6 +1,7 @@
 -- What comes of the file of an image that is loaded.
 use Rattle.std.specs.Prelude.{◌≡◌, ℕ, List, [], ◌∷◌, ◌++◌, Option, Some, None, map}
-use Rattle.devices.specs.Sources.{Source, unknown}
+use Rattle.devices.specs.Sources.{Source, sealed, unknown}
+use Rattle.romfs_seal.specs.Named.{seal_of}
 use Rattle.romfs_kept.specs.Gathered.{IsGathered, IsGatheredWithTrailer}
 use Rattle.romfs_held.specs.declared.image.HeldImage.{HeldImage}
 use Rattle.romfs_held.specs.declared.image.HeldImage.TheVariants as held
@@ -34,13 +35,15 @@ pub record IsOpenOver {F A : Type 0} (source : ImageData F A) (trailers : Traile
   pub source_is : image.source ≡ Some source
   pub kept : IsKeptOf (source_of source) trailers image
 
--- an image has let these data go: of a file what the rules look at is held; all bytes that were in
--- memory are
+-- an image has let these data go: of a file, sealed or not, what the rules look at is held; all bytes
+-- that were in memory are
 abbrev pub IsLetGo : {F A : Type 0} → ImageData F A → Trailers → LoadedImage F A → Type 0
 IsLetGo (from.File file) trailers image =
     IsKeptOf unknown trailers image × (image.source ≡ None)
 IsLetGo (from.Memory bytes) trailers image =
     (image.held ≡ held.Whole bytes) × (image.source ≡ None)
+IsLetGo (from.Sealed name) trailers image =
+    IsKeptOf (sealed (seal_of name)) trailers image × (image.source ≡ None)
 
 -- a list with what is added, if there is something
 abbrev pub added : {T : Type 0} → List T → Option T → List T

@@ -27,15 +27,17 @@ IsKindOf m (Regular size) = IsFile (file_type m) × (size ≡ metadata_len m) ×
 IsKindOf m BlockDevice = IsBlockDevice m
 IsKindOf m Stream = (IsFile (file_type m) → metadata_len m ≡ 0) × (IsBlockDevice m → ⊥)
 
--- the data stay in their file
+-- the data stay in their file, under no digest
 abbrev pub StayInFile : {F A : Type 0} → ImageData F A → Type 0
 StayInFile (from.File file) = ⊤
 StayInFile (from.Memory bytes) = ⊥
+StayInFile (from.Sealed name) = ⊥
 
 -- all bytes of the data are in memory, those that are known
 abbrev pub AreAllOf : {F A : Type 0} → Option (List ℕ) → ImageData F A → Type 0
 AreAllOf known (from.File file) = ⊥
 AreAllOf known (from.Memory bytes) = AreBytesOf known bytes
+AreAllOf known (from.Sealed name) = ⊥
 
 -- what the data of a file of this kind are read from, of which these bytes are known
 abbrev pub AreOfFile : {F A : Type 0} → FileKind → Option (List ℕ) → ImageData F A → Type 0

@@ -21,6 +21,11 @@ abbrev pub digest_bytes : Digest → List ℕ
 digest_bytes (Short bytes) = bytes
 digest_bytes (Long bytes) = bytes
 
+-- the algorithm that makes such digests
+abbrev pub made_by : Digest → Algorithm
+made_by (Short bytes) = Sha256
+made_by (Long bytes) = Sha512
+
 -- the digest by an algorithm
 abbrev pub sha : Algorithm → List ℕ → List ℕ
 sha Sha256 bytes = sha256 bytes

@@ -1,3 +1,4 @@
 pub mod Twins
 pub mod Digests
+pub mod Named
 pub mod Kept

@@ -8,8 +8,9 @@ use Rattle.strata_words.specs.CommandLine.{IsLineOf}
 use Rattle.devices.specs.States.{Devices}
 use Rattle.strata.specs.declared.faults.Fault.{Fault}
 use Rattle.strata.specs.Sessions.{status_at}
-use Rattle.strata.specs.Images.{NamesAsMany, profile_of}
-use Rattle.strata.specs.Ending.{AreNotStacked, EndsAtSocket, EndsInFault, IsNotBound, IsOfSessions, IsOverWith, IsServedAtSocket}
+use Rattle.strata_images.specs.Images.{AreNotStacked, NamesAsMany, profile_of}
+use Rattle.strata.specs.Faults.{IsOfImages}
+use Rattle.strata.specs.Ending.{EndsAtSocket, EndsInFault, IsNotBound, IsOfSessions, IsOverWith, IsServedAtSocket}
 use Rattle.strata.proofs.Ended.{begun, whole}
 use Rattle.strata.proofs.InTurn.{of_sessions}
 
@@ -49,7 +50,8 @@ module _ (A : Type 0) (words : List (List ℕ)) (line : Line) (images : List (Li
   over_there (Err fault) e = e
 
   -- where images were not stacked or no socket was bound, the command ended in that fault
-  pub stopped_there : (r : Result ℕ Fault) → IfErr r (λ fault. AreNotStacked (profile_of line) images fault ⊎ IsNotBound line images fault)
+  pub stopped_there : (r : Result ℕ Fault)
+      → IfErr r (λ fault. IsOfImages (AreNotStacked (profile_of line) images) fault ⊎ IsNotBound line images fault)
       → IfErr r (λ fault. EndsInFault A words fault old old)
   stopped_there (Ok status) e = e
   stopped_there (Err fault) (inl e) = begun A words line images Socket old old line_is named verb_is fault (refl, inl e)

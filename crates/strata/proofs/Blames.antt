@@ -3,10 +3,12 @@
 use Rattle.std.proofs.Common.{◌≡◌, ℕ, inl, inr, refl, arith}
 use Rattle.serve_core.specs.declared.stop.Stop.{Stop}
 use Rattle.serve_core.specs.declared.stop.Stop.TheVariants.{Layer, Layers, BadLength, CutOff, Read, Write, Turns, Memory}
+use Rattle.strata_images.specs.declared.faults.ImagesFault.{ImagesFault}
+use Rattle.strata_images.specs.declared.faults.ImagesFault.TheVariants as faults
 use Rattle.strata.specs.declared.faults.Fault.{Fault}
-use Rattle.strata.specs.declared.faults.Fault.TheVariants.{Usage, ImageFile, RequestsFile, RepliesFile, BalancesFile, Bind, Accept, Broken, InSession, Stopped}
+use Rattle.strata.specs.declared.faults.Fault.TheVariants.{Usage, RequestsFile, RepliesFile, BalancesFile, Bind, Accept, Images, InSession, Stopped}
 use Rattle.strata.specs.Faults.{stop_status, status_of}
-use Rattle.strata.specs.Laws.{IsStoppedSo, IsOfFiles, IsOfStreams, IsOfImages, IsOfRequests, HasStatusOf}
+use Rattle.strata.specs.Laws.{AreAtFault, IsStoppedSo, IsOfFiles, IsOfStreams, IsOfLayers, IsOfRequests, HasStatusOf}
 
 -- ---- why serving stopped
 
@@ -14,7 +16,7 @@ use Rattle.strata.specs.Laws.{IsStoppedSo, IsOfFiles, IsOfStreams, IsOfImages, I
 pub record HasStopStatusOf (stop : Stop) : Type 0 where
   pub streams : stop_status stop ≡ 1 → IsOfStreams stop
   pub words : stop_status stop ≡ 2 → ⊥
-  pub images : stop_status stop ≡ 3 → IsOfImages stop
+  pub images : stop_status stop ≡ 3 → IsOfLayers stop
   pub requests : stop_status stop ≡ 4 → IsOfRequests stop
   pub memory : stop_status stop ≡ 5 → stop ≡ Memory
 
@@ -27,7 +29,7 @@ stop_1 stop s is = record {
   memory = λ e. absurd (omega (arith, s, e));
 }
 
-stop_3 : (stop : Stop) → stop_status stop ≡ 3 → IsOfImages stop → HasStopStatusOf stop
+stop_3 : (stop : Stop) → stop_status stop ≡ 3 → IsOfLayers stop → HasStopStatusOf stop
 stop_3 stop s is = record {
   streams = λ e. absurd (omega (arith, s, e));
   words = λ e. absurd (omega (arith, s, e));
@@ -82,6 +84,35 @@ stopped_so Is stop is = (stop, is, inl refl)
 session_so : (Is : Stop → Type 0) (n : ℕ) (stop : Stop) → Is stop → IsStoppedSo Is (InSession n stop)
 session_so Is n stop is = (stop, is, inr (n, refl))
 
+fault_3 : (fault : ImagesFault) → status_of (Images fault) ≡ 3 → AreAtFault fault → HasStatusOf (Images fault)
+fault_3 fault s is = record {
+  files = λ e. absurd (omega (arith, s, e));
+  words = λ e. absurd (omega (arith, s, e));
+  images = λ e. inl (fault, refl, is);
+  requests = λ e. absurd (omega (arith, s, e));
+  memory = λ e. absurd (omega (arith, s, e));
+}
+
+-- and so does each of images
+images_status : (fault : ImagesFault) → HasStatusOf (Images fault)
+images_status (faults.Unread image) = fault_1 (Images (faults.Unread image)) refl (inl (faults.Unread image, refl, (image, refl)))
+images_status (faults.Broken image fault) = fault_3 (faults.Broken image fault) refl (inl (image, fault, refl))
+images_status (faults.Layers count) = fault_3 (faults.Layers count) refl (inr (count, refl))
+images_status faults.Write = record {
+  files = λ e. inr (inr (faults.Write, refl, refl));
+  words = λ e. absurd (omega (arith, e));
+  images = λ e. absurd (omega (arith, e));
+  requests = λ e. absurd (omega (arith, e));
+  memory = λ e. absurd (omega (arith, e));
+}
+images_status faults.Memory = record {
+  files = λ e. absurd (omega (arith, e));
+  words = λ e. absurd (omega (arith, e));
+  images = λ e. absurd (omega (arith, e));
+  requests = λ e. absurd (omega (arith, e));
+  memory = λ e. inr (faults.Memory, refl, refl);
+}
+
 -- each fault meets the condition of its status
 pub each_status : (fault : Fault) → HasStatusOf fault
 each_status (Usage text) = record {
@@ -91,30 +122,23 @@ each_status (Usage text) = record {
   requests = λ e. absurd (omega (arith, e));
   memory = λ e. absurd (omega (arith, e));
 }
-each_status (ImageFile image) = fault_1 (ImageFile image) refl (inl (image, refl))
 each_status RequestsFile = fault_1 RequestsFile refl (inr (inl refl))
 each_status RepliesFile = fault_1 RepliesFile refl (inr (inr (inl refl)))
 each_status BalancesFile = fault_1 BalancesFile refl (inr (inr (inr (inl refl))))
 each_status Bind = fault_1 Bind refl (inr (inr (inr (inr (inl refl)))))
 each_status Accept = fault_1 Accept refl (inr (inr (inr (inr (inr refl)))))
-each_status (Broken image fault) = record {
-  files = λ e. absurd (omega (arith, e));
-  words = λ e. absurd (omega (arith, e));
-  images = λ e. inl (image, fault, refl);
-  requests = λ e. absurd (omega (arith, e));
-  memory = λ e. absurd (omega (arith, e));
-}
+each_status (Images fault) = images_status fault
 each_status (Stopped stop) = record {
-  files = λ e. inr (stopped_so IsOfStreams stop ((stop_of stop).streams e));
+  files = λ e. inr (inl (stopped_so IsOfStreams stop ((stop_of stop).streams e)));
   words = λ e. absurd ((stop_of stop).words e);
-  images = λ e. inr (stopped_so IsOfImages stop ((stop_of stop).images e));
+  images = λ e. inr (stopped_so IsOfLayers stop ((stop_of stop).images e));
   requests = λ e. stopped_so IsOfRequests stop ((stop_of stop).requests e);
-  memory = λ e. stopped_so (λ s. s ≡ Memory) stop ((stop_of stop).memory e);
+  memory = λ e. inl (stopped_so (λ s. s ≡ Memory) stop ((stop_of stop).memory e));
 }
 each_status (InSession n stop) = record {
-  files = λ e. inr (session_so IsOfStreams n stop ((stop_of stop).streams e));
+  files = λ e. inr (inl (session_so IsOfStreams n stop ((stop_of stop).streams e)));
   words = λ e. absurd ((stop_of stop).words e);
-  images = λ e. inr (session_so IsOfImages n stop ((stop_of stop).images e));
+  images = λ e. inr (session_so IsOfLayers n stop ((stop_of stop).images e));
   requests = λ e. session_so IsOfRequests n stop ((stop_of stop).requests e);
-  memory = λ e. session_so (λ s. s ≡ Memory) n stop ((stop_of stop).memory e);
+  memory = λ e. inl (session_so (λ s. s ≡ Memory) n stop ((stop_of stop).memory e));
 }

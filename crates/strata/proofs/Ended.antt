@@ -1,6 +1,6 @@
 -- How a command ends, by how its last step ended. `whole` and `begun` join what was done over the images with the arguments that asked for
 -- it; `unread` is the end before that, and no fault has the status 0.
-use Rattle.std.proofs.Common.{◌≡◌, ◌≢◌, ◌<◌, ◌≤◌, ◌∙◌, sym, ap, subst, refl, ℕ, ◌⊎◌, inl, inr, List, None, Result, Ok, Err, IfOk, IfErr, OnOk, MatchResult, IsErrAnd, arith, map, vec_len, Vec}
+use Rattle.std.proofs.Common.{◌≡◌, ◌≢◌, ◌≤◌, ◌∙◌, sym, subst, refl, ℕ, inl, inr, List, None, Result, Ok, Err, IfOk, IfErr, OnOk, MatchResult, IsErrAnd, arith, map, vec_len, Vec}
 use Rattle.std.proofs.lemmas.List.{length-map}
 use Rattle.serve_core.specs.declared.stop.Stop.{Stop}
 use Rattle.serve_core.specs.declared.stop.Stop.TheVariants as stops
@@ -8,12 +8,13 @@ use Rattle.strata_words.specs.declared.options.Line.{Line}
 use Rattle.strata_words.specs.declared.options.Verb.{Verb}
 use Rattle.strata_words.specs.CommandLine.{IsLineOf}
 use Rattle.devices.specs.States.{Devices}
-use Rattle.romfs_files.specs.declared.images.FilesFault.{FilesFault}
-use Rattle.romfs_files.specs.declared.images.FilesFault.TheVariants as files
+use Rattle.strata_images.specs.declared.faults.ImagesFault.{ImagesFault}
+use Rattle.strata_images.specs.declared.faults.ImagesFault.TheVariants as faults
+use Rattle.strata_images.specs.Faults.{AreUnread, status_of as images_status}
+use Rattle.strata_images.specs.Images.{NamesAsMany}
 use Rattle.strata.specs.declared.faults.Fault.{Fault}
-use Rattle.strata.specs.declared.faults.Fault.TheVariants.{Usage, ImageFile, RequestsFile, RepliesFile, BalancesFile, Bind, Accept, Broken, InSession, Stopped}
-use Rattle.strata.specs.Faults.{AreUnread, status_of, stop_status, files_told_of}
-use Rattle.strata.specs.Images.{NamesAsMany}
+use Rattle.strata.specs.declared.faults.Fault.TheVariants.{Usage, RequestsFile, RepliesFile, BalancesFile, Bind, Accept, Images, InSession, Stopped}
+use Rattle.strata.specs.Faults.{status_of, stop_status}
 use Rattle.strata.specs.Ending.{IsDoneOver, IsStoppedOver, IsDone, EndsInFault, IsOverWith}
 
 -- as many images as the line names
@@ -49,42 +50,24 @@ module _ (A : Type 0) (words : List (List ℕ)) (line : Line) (images : List (Li
   })
 
   -- a command whose work had this result has ended so, with the status 0 if it was done
-  pub ended : {Done : Type 0} {Stopped : Fault → Type 0} (work : Result (Unit {0}) Fault) (r : Result ℕ Fault)
-      → MatchResult work (λ _. r ≡ Ok 0) (λ fault. r ≡ Err fault) → OnOk work Done → IfErr work Stopped
-      → (Done → IsDoneOver A verb line images old new) → ((fault : Fault) → Stopped fault → IsStoppedOver A verb line images fault old new)
+  pub ended : {E Done : Type 0} {Stopped : E → Type 0} (told : E → Fault) (work : Result (Unit {0}) E) (r : Result ℕ Fault)
+      → MatchResult work (λ _. r ≡ Ok 0) (λ fault. r ≡ Err (told fault)) → OnOk work Done → IfErr work Stopped
+      → (Done → IsDoneOver A verb line images old new) → ((fault : E) → Stopped fault → IsStoppedOver A verb line images (told fault) old new)
       → IfOk r (λ status. IsOverWith A words status old new) × IfErr r (λ fault. EndsInFault A words fault old new)
-  ended (Ok u) r same done stopped d s =
+  ended told (Ok u) r same done stopped d s =
       subst (λ r. IfOk r (λ status. IsOverWith A words status old new) × IfErr r (λ fault. EndsInFault A words fault old new)) (sym same)
       (did (d done), tt)
-  ended (Err fault) r same done stopped d s =
+  ended told (Err fault) r same done stopped d s =
       subst (λ r. IfOk r (λ status. IsOverWith A words status old new) × IfErr r (λ fault. EndsInFault A words fault old new)) (sym same)
-      (tt, begun fault (s fault stopped))
-
--- the reason why files of images were not read is reported as it is
-pub told_unread : {X : Type 0} (count : ℕ) (fault : FilesFault)
-    → (fault ≡ files.Memory) ⊎ ((image : ℕ) × (image < count) × (fault ≡ files.Unread image)) → (r : Result X Fault)
-    → IsErrAnd r (λ told. told ≡ files_told_of fault) → IfErr r (AreUnread count)
-told_unread count fault f (Ok u) e = absurd e
-told_unread count fault (inl f) (Err told) e = inr (e ∙ ap files_told_of f)
-told_unread count fault (inr f) (Err told) e = inl (f.0, f.1, e ∙ ap files_told_of f.2)
+      (tt, begun (told fault) (s fault stopped))
 
 -- an image that was not read, or memory that ran out before all were
-pub unread : {X : Type 0} {words : List (List ℕ)} {line : Line} (A : Type 0) (old : Devices) → IsLineOf words line → (fault : Fault)
-    → AreUnread (vec_len line.images) fault → (r : Result X Fault) → IsErrAnd r (λ told. told ≡ fault)
+pub unread : {X : Type 0} {words : List (List ℕ)} {line : Line} (A : Type 0) (old : Devices) → IsLineOf words line → (fault : ImagesFault)
+    → AreUnread (vec_len line.images) fault → (r : Result X Fault) → IsErrAnd r (λ told. told ≡ Images fault)
     → IfErr r (λ told. EndsInFault A words told old old)
 unread A old l fault f (Ok u) e = absurd e
-unread A old l fault (inr f) (Err told) e = inl (record { kept = refl; which = inr (inr (e ∙ f)) })
-unread {line = line} A old l fault (inl f) (Err told) e =
-    inl (record {
-      kept = refl;
-      which = inr (inl (record {
-        line = line;
-        image = f.0;
-        line_is = l;
-        named = f.1;
-        told = e ∙ f.2;
-      }));
-    })
+unread {line = line} A old l fault f (Err told) e =
+    inl (record { kept = refl; which = inr (record { line = line; line_is = l; unread = (fault, e, f) }) })
 
 -- a status that a fault ends the program with
 abbrev pub IsStatus : ℕ → Type 0
@@ -100,16 +83,22 @@ stop_range stops.Write = (omega arith, omega arith)
 stop_range stops.Turns = (omega arith, omega arith)
 stop_range stops.Memory = (omega arith, omega arith)
 
+images_range : (fault : ImagesFault) → IsStatus (images_status fault)
+images_range (faults.Unread image) = (omega arith, omega arith)
+images_range (faults.Broken image fault) = (omega arith, omega arith)
+images_range (faults.Layers count) = (omega arith, omega arith)
+images_range faults.Write = (omega arith, omega arith)
+images_range faults.Memory = (omega arith, omega arith)
+
 -- each fault has one of them
 pub fault_range : (fault : Fault) → IsStatus (status_of fault)
 fault_range (Usage text) = (omega arith, omega arith)
-fault_range (ImageFile image) = (omega arith, omega arith)
 fault_range RequestsFile = (omega arith, omega arith)
 fault_range RepliesFile = (omega arith, omega arith)
 fault_range BalancesFile = (omega arith, omega arith)
 fault_range Bind = (omega arith, omega arith)
 fault_range Accept = (omega arith, omega arith)
-fault_range (Broken image fault) = (omega arith, omega arith)
+fault_range (Images fault) = images_range fault
 fault_range (InSession session stop) = stop_range stop
 fault_range (Stopped stop) = stop_range stop
 

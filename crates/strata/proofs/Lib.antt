@@ -1,16 +1,10 @@
-pub mod Sizes
-pub mod Printed
 pub mod Served
 pub mod Ended
-pub mod Opened
-pub mod Small
 pub mod Shared
 pub mod Rules
 pub mod InTurn
 pub mod AtSocket
-pub mod Listed
 pub mod Statuses
 pub mod Mounts
 pub mod Blames
-pub mod Told
 pub mod OverFiles

@@ -11,7 +11,7 @@ use Rattle.serve_device.specs.Spouts.{spout_gone}
 use Rattle.serve_device.specs.Taps.{buffered_of, tap_gone}
 use Rattle.serve_core.specs.declared.stop.Stop.TheVariants as stops
 use Rattle.strata.specs.declared.faults.Fault.{Fault}
-use Rattle.strata.specs.declared.faults.Fault.TheVariants.{Usage, ImageFile, RequestsFile, RepliesFile, BalancesFile, Bind, Accept, Broken, InSession, Stopped}
+use Rattle.strata.specs.declared.faults.Fault.TheVariants.{Usage, RequestsFile, RepliesFile, BalancesFile, Bind, Accept, Images, InSession, Stopped}
 use Rattle.strata.specs.Faults.{status_of}
 use Rattle.strata.specs.Sessions.{status_at}
 use Rattle.strata.specs.Ending.{IsDone, EndsInFault, EndsWith, IsOfSessions, IsOver, IsOverWith}
@@ -94,13 +94,12 @@ module _ (A : Type 0) (words : List (List ℕ)) (old new : MountEnds) where
   away_by (Stopped stops.Turns) input output e s = absurd (true≢false (sym e))
   away_by (Stopped stops.Memory) input output e s = absurd (true≢false (sym e))
   away_by (Usage text) input output e s = absurd (true≢false (sym e))
-  away_by (ImageFile image) input output e s = absurd (true≢false (sym e))
   away_by RequestsFile input output e s = absurd (true≢false (sym e))
   away_by RepliesFile input output e s = absurd (true≢false (sym e))
   away_by BalancesFile input output e s = absurd (true≢false (sym e))
   away_by Bind input output e s = absurd (true≢false (sym e))
   away_by Accept input output e s = absurd (true≢false (sym e))
-  away_by (Broken image fault) input output e s = absurd (true≢false (sym e))
+  away_by (Images fault) input output e s = absurd (true≢false (sym e))
   away_by (InSession session stop) input output e s = absurd (true≢false (sym e))
 
   -- after an unmount the status is 0, and a read or a write failed

@@ -2,18 +2,16 @@
 -- the others derive how `serve` ended: stopped, complete, or complete but for its balances.
 use Rattle.std.proofs.Common.{◌≡◌, ◌∙◌, sym, ap, refl, subst, ℕ, ◌⊎◌, inl, inr, List, Option, None, Some, is_some, true, false, true≢false, Result, Ok, Err, OnOk, IfErr, IsErrAnd}
 use Rattle.strata_words.specs.declared.options.Line.{Line}
-use Rattle.stack_prepare.specs.declared.refusal.Refusal.{Refusal}
-use Rattle.stack_prepare.specs.Layers.{AreRefused}
 use Rattle.reply_model.specs.Readings.{Sourced}
 use Rattle.serve_core.specs.declared.stop.Stop.{Stop}
-use Rattle.serve_core.specs.Stops.{stop_of_refusal}
 use Rattle.serve_loop.specs.declared.done.Done.{Done}
 use Rattle.devices.specs.States.{Devices, SourceState, SinkState}
 use Rattle.serve_loop.specs.Serving.{Trace}
 use Rattle.strata.specs.declared.faults.Fault.{Fault}
-use Rattle.strata.specs.declared.faults.Fault.TheVariants.{Stopped}
+use Rattle.strata.specs.declared.faults.Fault.TheVariants.{Images, Stopped}
+use Rattle.strata_images.specs.declared.faults.ImagesFault.{ImagesFault}
+use Rattle.strata_images.specs.Images.{AreNotStacked, ArePrepared, profile_of}
 use Rattle.strata.specs.Faults.{out_of_memory, write_failed}
-use Rattle.strata.specs.Images.{ArePrepared, profile_of}
 use Rattle.strata.specs.Ending.{Gave, Took, Asks, GetsReplies, IsServing, IsServedWhole, IsNotServed, IsFileFault}
 
 none_where : {X : Type 0} (o : Option X) → is_some o ≡ false → o ≡ None
@@ -59,10 +57,10 @@ module _ (A : Type 0) (line : Line) (images : List (List ℕ)) (old new : Device
   unopened fault (Err told) w f = inl (subst (λ x. IsFileFault line x old new) (sym f) w)
 
   -- the images were refused
-  pub refused : (refusal : Refusal) (told : Result (Unit {0}) Fault) → AreRefused (profile_of line) images refusal → new ≡ old
-      → IsErrAnd told (λ fault. fault ≡ Stopped (stop_of_refusal refusal)) → IfErr told (λ fault. IsNotServed A line images fault old new)
-  refused refusal (Ok u) r k f = absurd f
-  refused refusal (Err fault) r k f = inr (inl (record { refusal = refusal; told = f; refused = r }, k))
+  pub refused : (why : ImagesFault) (told : Result (Unit {0}) Fault) → AreNotStacked (profile_of line) images why → new ≡ old
+      → IsErrAnd told (λ fault. fault ≡ Images why) → IfErr told (λ fault. IsNotServed A line images fault old new)
+  refused why (Ok u) r k f = absurd f
+  refused why (Err fault) r k f = inr (inl ((why, f, r), k))
 
   module _ (by : Sourced) (prepared : ArePrepared line images by) where
     -- serving stopped

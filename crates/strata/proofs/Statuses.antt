@@ -17,15 +17,17 @@ use Rattle.reply_model.specs.Readings.{Sourced}
 use Rattle.stack_prepare.specs.Layers.{AreRefused}
 use Rattle.devices.specs.States.{Devices}
 use Rattle.serve_loop.specs.Serving.{Trace}
-use Rattle.serve_core.specs.Stops.{stop_of_refusal}
 use Rattle.serve_core.proofs.Stops.{never_broken, never_many}
 use Rattle.stack_prepare.specs.declared.refusal.Refusal.{Refusal}
 use Rattle.stack_prepare.specs.declared.refusal.Refusal.TheVariants as refusals
 use Rattle.stack_prepare.proofs.Refusals.{not_few, none_broken}
 use Rattle.strata.specs.declared.faults.Fault.{Fault}
-use Rattle.strata.specs.declared.faults.Fault.TheVariants.{ImageFile, RequestsFile, RepliesFile, BalancesFile, Bind, Accept, Broken, InSession, Stopped}
-use Rattle.strata.specs.Faults.{status_of, stop_status, out_of_memory, line_told_of}
-use Rattle.strata.specs.Images.{profile_of}
+use Rattle.strata.specs.declared.faults.Fault.TheVariants.{RequestsFile, RepliesFile, BalancesFile, Bind, Accept, Images, InSession, Stopped}
+use Rattle.strata_images.specs.declared.faults.ImagesFault.{ImagesFault}
+use Rattle.strata_images.specs.declared.faults.ImagesFault.TheVariants as faults
+use Rattle.strata_images.specs.Faults.{AreUnread, refusal_told_of, status_of as images_status}
+use Rattle.strata_images.specs.Images.{AreNotStacked, profile_of}
+use Rattle.strata.specs.Faults.{IsOfImages, status_of, stop_status, out_of_memory, line_told_of}
 use Rattle.serve_core.specs.Headline.{nodes_counted}
 use Rattle.strata.specs.Ending.{counted_of, first_of, IsStoppedOver, IsDone, EndsInFault, EndsWith, IsOver, IsOverWith, IsRunOf}
 use Rattle.strata.specs.Laws.{AreBad, AreToBlame}
@@ -55,6 +57,17 @@ three_is_other e = absurd (omega arith)
 five_is_other : ◌≢◌ {A = ℕ} 5 2
 five_is_other e = absurd (omega arith)
 
+two_is_other : (fault : ImagesFault) → images_status fault ≢ 2
+two_is_other (faults.Unread image) = one_is_other
+two_is_other (faults.Broken image fault) = three_is_other
+two_is_other (faults.Layers count) = three_is_other
+two_is_other faults.Write = one_is_other
+two_is_other faults.Memory = five_is_other
+
+-- a fault of images is not one of words
+of_images : (Is : ImagesFault → Type 0) (fault : Fault) → IsOfImages Is fault → status_of fault ≢ 2
+of_images Is fault f = told_as fault (Images f.0) f.1 (two_is_other f.0)
+
 -- the work of a command is never stopped for its words
 work_other : (A : Type 0) (verb : Verb) (line : Line) (images : List (List ℕ)) (fault : Fault) (old new : Devices)
     → IsStoppedOver A verb line images fault old new → status_of fault ≢ 2
@@ -65,7 +78,7 @@ work_other A verbs.Serve line images fault old new s =
         | inr (inl w) ↦ told_as fault RepliesFile w.0 one_is_other
         | inr (inr w) ↦ told_as fault BalancesFile w.0 one_is_other
       ]
-      | inr (inl r) ↦ told_as fault (Stopped (stop_of_refusal r.0.refusal)) r.0.told (stop_of (stop_of_refusal r.0.refusal)).words
+      | inr (inl r) ↦ of_images (AreNotStacked (profile_of line) images) fault r.0
       | inr (inr (inl p)) ↦ told_as fault (Stopped p.stop) p.told (stop_of p.stop).words
       | inr (inr (inr b)) ↦ elim b.told [
         | inl w ↦ told_as fault (Stopped stops.Write) w one_is_other
@@ -74,29 +87,15 @@ work_other A verbs.Serve line images fault old new s =
     ]
 work_other A verbs.Socket line images fault old new s =
     elim s.1 [
-      | inl r ↦ told_as fault (Stopped (stop_of_refusal r.refusal)) r.told (stop_of (stop_of_refusal r.refusal)).words
+      | inl r ↦ of_images (AreNotStacked (profile_of line) images) fault r
       | inr (inl b) ↦ told_as fault Bind b.told one_is_other
       | inr (inr served) ↦ elim (of_sessions {A = A} line.sessions fault served.served) [
         | inl accept ↦ told_as fault Accept accept one_is_other
         | inr s ↦ told_as fault (InSession s.0 s.1) s.2 (stop_of s.1).words
       ]
     ]
-work_other A verbs.Check line images fault old new s =
-    elim s.1 [
-      | inl g ↦ elim g.0 [
-        | inl r ↦ elim r.refused [
-          | inl b ↦ told_as fault (Broken _ b.0) b.1 three_is_other
-          | inr m ↦ told_as fault out_of_memory m five_is_other
-        ]
-        | inr m ↦ told_as fault out_of_memory m five_is_other
-      ]
-      | inr l ↦ told_as fault (Stopped stops.Write) l.lost.told one_is_other
-    ]
-work_other A verbs.List line images fault old new s =
-    elim s.1 [
-      | inl r ↦ told_as fault (Stopped (stop_of_refusal r.0.refusal)) r.0.told (stop_of (stop_of_refusal r.0.refusal)).words
-      | inr l ↦ told_as fault (Stopped stops.Write) l.told one_is_other
-    ]
+work_other A verbs.Check line images fault old new s = of_images _ fault s.1
+work_other A verbs.List line images fault old new s = of_images _ fault s.1
 
 -- of the two faults of words lack of memory has another status
 misread : (words : List (List ℕ)) (line : LineFault) → IsLineFault words line → status_of (line_told_of line) ≡ 2 → IsRefused words
@@ -113,8 +112,7 @@ ends_for_words A words old new e =
     elim e.stopped [
       | inl early ↦ elim early.which [
         | inl taken ↦ (misread words taken.line taken.is (sym (ap status_of taken.told) ∙ two), early.kept)
-        | inr (inl unread) ↦ absurd (told_as e.fault (ImageFile unread.image) unread.told one_is_other two)
-        | inr (inr m) ↦ absurd (told_as e.fault out_of_memory m five_is_other two)
+        | inr unread ↦ absurd (of_images _ e.fault unread.unread two)
       ]
       | inr off ↦ absurd (work_other A off.line.verb off.line off.images e.fault old new off.stopped two)
     ]
@@ -137,12 +135,18 @@ three_of : (fault other : Fault) → fault ≡ other → status_of fault ≡ 3 �
 three_of fault other f e = sym (ap status_of f) ∙ e
 
 refused_bad : (profile : Profile) (images : List (List ℕ)) (refusal : Refusal) → AreRefused profile images refusal
-    → stop_status (stop_of_refusal refusal) ≡ 3 → AreBad profile images
+    → images_status (refusal_told_of refusal) ≡ 3 → AreBad profile images
 refused_bad profile images (refusals.Layers count) r e = inl (not_few profile images count r)
 refused_bad profile images (refusals.Layer layer fault) r e =
     (let b = r.1 in inr (λ s. none_broken profile b.below b.above b.bytes fault.rule fault.place
     (subst (All (IsSound profile)) b.images_are s) b.broken))
 refused_bad profile images refusals.Memory r e = absurd (five_is_more e)
+
+-- images that are not stacked are bad, if that is their fault
+unstacked_bad : (profile : Profile) (images : List (List ℕ)) (fault : Fault) → IsOfImages (AreNotStacked profile images) fault
+    → status_of fault ≡ 3 → AreBad profile images
+unstacked_bad profile images fault f e =
+    refused_bad profile images f.2.refusal f.2.refused (sym (ap status_of (f.1 ∙ ap Images f.2.told)) ∙ e)
 
 -- no session is stopped for images
 session_less : {A : Type 0} (first : Session) (by : Sourced) (counted : ℕ) (t : Trace) (stop : Stop)
@@ -165,8 +169,7 @@ work_bad A verbs.Serve line images fault old new s e =
         | inr (inl w) ↦ absurd (one_is_less (three_of fault RepliesFile w.0 e))
         | inr (inr w) ↦ absurd (one_is_less (three_of fault BalancesFile w.0 e))
       ]
-      | inr (inl r) ↦ refused_bad (profile_of line) images r.0.refusal r.0.refused
-          (three_of fault (Stopped (stop_of_refusal r.0.refusal)) r.0.told e)
+      | inr (inl r) ↦ unstacked_bad (profile_of line) images fault r.0 e
       | inr (inr (inl p)) ↦ absurd (session_less (first_of line) p.by (nodes_counted (counted_of line) p.by.stack) p.trace p.stop p.serving.session
           (three_of fault (Stopped p.stop) p.told e))
       | inr (inr (inr b)) ↦ elim b.told [
@@ -176,8 +179,7 @@ work_bad A verbs.Serve line images fault old new s e =
     ]
 work_bad A verbs.Socket line images fault old new s e =
     elim s.1 [
-      | inl r ↦ refused_bad (profile_of line) images r.refusal r.refused
-          (three_of fault (Stopped (stop_of_refusal r.refusal)) r.told e)
+      | inl r ↦ unstacked_bad (profile_of line) images fault r e
       | inr (inl b) ↦ absurd (one_is_less (three_of fault Bind b.told e))
       | inr (inr served) ↦ elim (of_sessions {A = A} line.sessions fault served.served) [
         | inl accept ↦ absurd (one_is_less (three_of fault Accept accept e))
@@ -185,27 +187,37 @@ work_bad A verbs.Socket line images fault old new s e =
       ]
     ]
 work_bad A verbs.Check line images fault old new s e =
-    elim s.1 [
+    let f = s.1 in
+    let told : (other : ImagesFault) → f.0 ≡ other → images_status other ≡ 3 = λ other same. sym (ap status_of (f.1 ∙ ap Images same)) ∙ e in
+    elim f.2 [
       | inl g ↦ elim g.0 [
         | inl r ↦ elim r.refused [
           | inl b ↦ inr (λ sound. none_broken (profile_of line) r.before r.after r.bytes b.0.rule b.0.place
               (subst (All (IsSound (profile_of line))) r.images_are sound) b.2)
-          | inr m ↦ absurd (five_is_more (three_of fault out_of_memory m e))
+          | inr m ↦ absurd (five_is_more (told faults.Memory m))
         ]
-        | inr m ↦ absurd (five_is_more (three_of fault out_of_memory m e))
+        | inr m ↦ absurd (five_is_more (told faults.Memory m))
       ]
-      | inr l ↦ absurd (one_is_less (three_of fault (Stopped stops.Write) l.lost.told e))
+      | inr l ↦ absurd (one_is_less (told faults.Write l.told))
     ]
 work_bad A verbs.List line images fault old new s e =
-    elim s.1 [
-      | inl r ↦ refused_bad (profile_of line) images r.0.refusal r.0.refused
-          (three_of fault (Stopped (stop_of_refusal r.0.refusal)) r.0.told e)
-      | inr l ↦ absurd (one_is_less (three_of fault (Stopped stops.Write) l.told e))
+    let f = s.1 in
+    elim f.2 [
+      | inl r ↦ unstacked_bad (profile_of line) images fault (f.0, f.1, r.0) e
+      | inr l ↦ absurd (one_is_less (three_of fault (Images faults.Write) (f.1 ∙ ap Images l.told) e))
     ]
 
 words_less : (line : LineFault) → status_of (line_told_of line) ≢ 3
 words_less (lines.Usage text) e = two_is_less e
 words_less lines.Memory e = five_is_more e
+
+-- images that were not read have another status
+unread_less : {count : ℕ} (fault : Fault) → IsOfImages (AreUnread count) fault → status_of fault ≢ 3
+unread_less fault f e =
+    elim f.2 [
+      | inl u ↦ one_is_less (three_of fault (Images (faults.Unread u.0)) (f.1 ∙ ap Images u.2) e)
+      | inr m ↦ five_is_more (three_of fault (Images faults.Memory) (f.1 ∙ ap Images m) e)
+    ]
 
 -- with the status 3 the images are to blame
 pub ends_for_images : (A : Type 0) (words : List (List ℕ)) (old new : Devices) → EndsWith A words 3 old new → AreToBlame words
@@ -214,8 +226,7 @@ ends_for_images A words old new e =
     elim e.stopped [
       | inl early ↦ elim early.which [
         | inl taken ↦ absurd (words_less taken.line (three_of e.fault (line_told_of taken.line) taken.told three))
-        | inr (inl unread) ↦ absurd (one_is_less (three_of e.fault (ImageFile unread.image) unread.told three))
-        | inr (inr m) ↦ absurd (five_is_more (three_of e.fault out_of_memory m three))
+        | inr unread ↦ absurd (unread_less e.fault unread.unread three)
       ]
       | inr off ↦ record {
         line = off.line;

@@ -1,17 +1,10 @@
 -- What a command leaves behind: its status, and what its output gained.
-use Rattle.std.specs.Prelude.{◌≡◌, ◌≢◌, ◌<◌, ◌+◌, ◌⊎◌, ◌||◌, ℕ, List, true, Option, Some, None, is_some, vec_len, Result, Ok, Err, OnOk, if◌then◌else◌}
+use Rattle.std.specs.Prelude.{◌≡◌, ◌≢◌, ◌⊎◌, ◌||◌, ℕ, List, true, Option, Some, None, is_some, vec_len, Result, Ok, Err, OnOk, if◌then◌else◌}
 use Rattle.std.specs.Io.KnownBytes.{Appends, Consumes, IsAtEnd}
-use Rattle.romfs_format.specs.declared.rule.Profile.{Profile}
-use Rattle.stack_model.specs.declared.owner.TheConstants.Owner.{ROOT}
 use Rattle.devices.specs.Counting.{no_pulls, no_pushes, no_accepts}
-use Rattle.devices.specs.Pushing.{HasFlushed, GainsFront}
 use Rattle.devices.specs.States.{SourceState, SinkState, Devices}
-use Rattle.stack_model.specs.Listing.{Stacked}
 use Rattle.serve_core.specs.declared.stop.Stop.{Stop}
 use Rattle.serve_loop.specs.declared.done.Done.{Done}
-use Rattle.stack_prepare.specs.declared.refusal.Refusal.{Refusal}
-use Rattle.stack_prepare.specs.Layers.{AreRefused}
-use Rattle.stack_prepare.specs.Preparing.{AreStacked}
 use Rattle.serve_loop.specs.Serving.{Trace}
 use Rattle.reply_model.specs.declared.session.Session.{Session}
 use Rattle.reply_model.specs.Readings.{Sourced}
@@ -19,19 +12,20 @@ use Rattle.reply_model.specs.declared.session.Session.TheVariants.{Fresh, Lastin
 use Rattle.serve_core.specs.declared.terms.Counted.{Counted}
 use Rattle.serve_core.specs.declared.terms.Counted.TheVariants.{AllNodes, NoNodes}
 use Rattle.serve_core.specs.Headline.{nodes_counted}
-use Rattle.serve_core.specs.Stops.{stop_of_refusal}
-use Rattle.node_list.specs.declared.walk.ListFault.TheVariants.{Write}
-use Rattle.node_list.specs.Faults.{Lists, IsBrokenOff}
 use Rattle.strata_words.specs.declared.options.Line.{Line}
 use Rattle.strata_words.specs.declared.options.LineFault.{LineFault}
 use Rattle.strata_words.specs.declared.options.Verb.{Verb}
 use Rattle.strata_words.specs.declared.options.Verb.TheVariants as verbs
 use Rattle.strata_words.specs.CommandLine.{IsLineOf, IsLineFault}
 use Rattle.strata.specs.declared.faults.Fault.{Fault}
-use Rattle.strata.specs.declared.faults.Fault.TheVariants.{ImageFile, RequestsFile, RepliesFile, BalancesFile, Bind, Accept, InSession, Stopped}
-use Rattle.strata.specs.Faults.{AreSizes, IsFirstFault, line_told_of, status_of, out_of_memory, write_failed}
-use Rattle.strata.specs.Texts.{size_lines, version_line}
-use Rattle.strata.specs.Images.{ArePrepared, NamesAsMany, profile_of}
+use Rattle.strata.specs.declared.faults.Fault.TheVariants.{RequestsFile, RepliesFile, BalancesFile, Bind, Accept, InSession, Stopped}
+use Rattle.strata_images.specs.Faults.{AreUnread}
+use Rattle.strata_images.specs.Images.{AreNotStacked, ArePrepared, NamesAsMany, profile_of}
+use Rattle.strata_images.specs.Lines.{AreLost, ArePut}
+use Rattle.strata_images.specs.Checking.{AreGood, AreNotGood}
+use Rattle.strata_images.specs.Listing.{IsNotListed, IsStackListed}
+use Rattle.strata.specs.Faults.{IsOfImages, line_told_of, status_of, out_of_memory, write_failed}
+use Rattle.strata.specs.Texts.{version_line}
 use Rattle.strata.specs.Sessions.{Accepting, AreServed, status_at, IsSession}
 
 -- the session that its stream begins in: over a device, and if the line says so, the client learns
@@ -53,22 +47,10 @@ pub record AreNew (devices : Devices) : Type 0 where
   pub pulls : devices.source.counts ≡ no_pulls
   pub pushes : devices.sink.counts ≡ no_pushes
 
--- lines were put to a sink and flushed
-pub record ArePut (lines : List ℕ) (old new : SinkState) : Type 0 where
-  pub written : Appends old.held new.held lines
-  pub flushed : HasFlushed lines old.counts new.counts
-
--- a fault of the output is reported: the output failed once more, and gained at most a beginning of
--- these lines
-pub record IsLost (fault : Fault) (lines : List ℕ) (old new : SinkState) : Type 0 where
-  pub told : fault ≡ write_failed
-  pub failed : new.counts.failures ≡ old.counts.failures + 1
-  pub gained : GainsFront lines old.held new.held
-
 -- lines were not put: the output failed, or memory ran out and it is as it was
 abbrev pub AreNotPut : List ℕ → SinkState → SinkState → Fault → Type 0
 AreNotPut lines old new fault =
-    IsLost fault lines old new ⊎ ((fault ≡ out_of_memory) × (new ≡ old))
+    ((fault ≡ write_failed) × AreLost lines old new) ⊎ ((fault ≡ out_of_memory) × (new ≡ old))
 
 -- ---- the version
 
@@ -78,58 +60,6 @@ pub record TellsVersion (status : ℕ) (old new : SinkState) : Type 0 where
   pub told : status ≡ 0 → ArePut version_line old new
   pub failed : status ≢ 0 → (fault : Fault) × (status ≡ status_of fault)
       × AreNotPut version_line old new fault
-
--- ---- check
-
--- these images are good, and the output gained a line with the size of each, and was flushed
-pub record AreGood (profile : Profile) (images : List (List ℕ)) (old new : SinkState) : Type 0 where
-  pub sizes : List ℕ
-  pub sizes_are : AreSizes profile images sizes
-  pub put : ArePut (size_lines 0 sizes) old new
-
--- these images are good, but the output failed as it took the lines of their sizes
-pub record AreUntold (profile : Profile) (images : List (List ℕ)) (fault : Fault)
-    (old new : SinkState) : Type 0 where
-  pub sizes : List ℕ
-  pub sizes_are : AreSizes profile images sizes
-  pub lost : IsLost fault (size_lines 0 sizes) old new
-
--- a check stopped: one of the images is to blame or memory ran out, and the output is as it was; or
--- the output failed
-abbrev pub AreNotGood : Profile → List (List ℕ) → Fault → SinkState → SinkState → Type 0
-AreNotGood profile images fault old new =
-    (IsFirstFault profile images fault × (new ≡ old)) ⊎ AreUntold profile images fault old new
-
--- ---- list
-
--- the images are good, and the output gained a line for each path that their stack shows; none
--- waits for a flush. Owners are not listed
-pub record IsStackListed (profile : Profile) (images : List (List ℕ))
-    (old new : SinkState) : Type 0 where
-  pub stack : Stacked
-  pub stacked : AreStacked profile ROOT images stack
-  pub listed : Lists stack old new
-
--- why images are not stacked: one of them is to blame, or their number, or memory ran out
-pub record AreNotStacked (profile : Profile) (images : List (List ℕ))
-    (fault : Fault) : Type 0 where
-  pub refusal : Refusal
-  pub told : fault ≡ Stopped (stop_of_refusal refusal)
-  pub refused : AreRefused profile images refusal
-
--- the images are good, but the output failed as it took the lines of their paths
-pub record IsListLost (profile : Profile) (images : List (List ℕ)) (fault : Fault)
-    (old new : SinkState) : Type 0 where
-  pub told : fault ≡ write_failed
-  pub stack : Stacked
-  pub stacked : AreStacked profile ROOT images stack
-  pub broken : IsBrokenOff stack old new Write
-
--- a list stopped: so, and the output is as it was; or the output failed
-abbrev pub IsNotListed : Profile → List (List ℕ) → Fault → SinkState → SinkState → Type 0
-IsNotListed profile images fault old new =
-    (AreNotStacked profile images fault × (new ≡ old))
-    ⊎ IsListLost profile images fault old new
 
 -- ---- serve
 
@@ -210,7 +140,7 @@ pub record AreBalancesLost (A : Type 0) (line : Line) (images : List (List ℕ))
 abbrev pub IsNotServed : (A : Type 0) → Line → List (List ℕ) → Fault → Devices → Devices → Type 0
 IsNotServed A line images fault old new =
     IsFileFault line fault old new
-    ⊎ ((AreNotStacked (profile_of line) images fault × (new ≡ old))
+    ⊎ ((IsOfImages (AreNotStacked (profile_of line) images) fault × (new ≡ old))
     ⊎ (IsServedInPart A line images fault old new ⊎ AreBalancesLost A line images fault old new))
 
 -- ---- socket
@@ -241,7 +171,7 @@ pub record IsNotBound (line : Line) (images : List (List ℕ)) (fault : Fault) :
 -- why serving at a socket stopped
 abbrev pub IsNotServedAtSocket : (A : Type 0) → Line → List (List ℕ) → Fault → Type 0
 IsNotServedAtSocket A line images fault =
-    AreNotStacked (profile_of line) images fault
+    IsOfImages (AreNotStacked (profile_of line) images) fault
     ⊎ (IsNotBound line images fault ⊎ IsServedAtSocket A line images (Some fault))
 
 -- ---- all four
@@ -264,9 +194,11 @@ IsStoppedOver A verbs.Serve line images fault old new = IsNotServed A line image
 IsStoppedOver A verbs.Socket line images fault old new =
     (new ≡ old) × IsNotServedAtSocket A line images fault
 IsStoppedOver A verbs.Check line images fault old new =
-    (new.source ≡ old.source) × AreNotGood (profile_of line) images fault old.sink new.sink
+    (new.source ≡ old.source)
+    × IsOfImages (λ f. AreNotGood (profile_of line) images f old.sink new.sink) fault
 IsStoppedOver A verbs.List line images fault old new =
-    (new.source ≡ old.source) × IsNotListed (profile_of line) images fault old.sink new.sink
+    (new.source ≡ old.source)
+    × IsOfImages (λ f. IsNotListed (profile_of line) images f old.sink new.sink) fault
 
 -- the program did what its arguments say
 pub record IsDone (A : Type 0) (words : List (List ℕ)) (old new : Devices) : Type 0 where
@@ -285,13 +217,11 @@ pub record IsDoneInPart (A : Type 0) (words : List (List ℕ)) (fault : Fault)
   pub named : NamesAsMany line images
   pub stopped : IsStoppedOver A line.verb line images fault old new
 
--- one of the images in the arguments could not be read
+-- one of the images in the arguments could not be read, or memory ran out
 pub record HasUnreadImage (words : List (List ℕ)) (fault : Fault) : Type 0 where
   pub line : Line
-  pub image : ℕ
   pub line_is : IsLineOf words line
-  pub named : image < vec_len line.images
-  pub told : fault ≡ ImageFile image
+  pub unread : IsOfImages (AreUnread (vec_len line.images)) fault
 
 -- the arguments are no command, or memory ran out while they were read
 pub record AreNotTaken (words : List (List ℕ)) (fault : Fault) : Type 0 where
@@ -299,11 +229,11 @@ pub record AreNotTaken (words : List (List ℕ)) (fault : Fault) : Type 0 where
   pub is : IsLineFault words line
   pub told : fault ≡ line_told_of line
 
--- the program stopped before its work: because of its arguments, an image's file or memory; and no
+-- the program stopped before its work, because of its arguments, an image's file or memory, and no
 -- device was touched
 pub record IsEarly (words : List (List ℕ)) (fault : Fault) (old new : Devices) : Type 0 where
   pub kept : new ≡ old
-  pub which : AreNotTaken words fault ⊎ (HasUnreadImage words fault ⊎ (fault ≡ out_of_memory))
+  pub which : AreNotTaken words fault ⊎ HasUnreadImage words fault
 
 -- the program stopped with a fault, before its work or in it
 abbrev pub EndsInFault : (A : Type 0) → List (List ℕ) → Fault → Devices → Devices → Type 0

@@ -14,10 +14,12 @@ use Rattle.stack_prepare.specs.Layers.{IsFew}
 use Rattle.strata_words.specs.declared.options.Line.{Line}
 use Rattle.strata_words.specs.CommandLine.{IsLineOf}
 use Rattle.strata.specs.declared.faults.Fault.{Fault}
-use Rattle.strata.specs.declared.faults.Fault.TheVariants.{Usage, ImageFile, RequestsFile, RepliesFile, BalancesFile, Bind, Accept, Broken, InSession, Stopped}
-use Rattle.strata.specs.Faults.{stop_status, status_of}
+use Rattle.strata.specs.declared.faults.Fault.TheVariants.{Usage, RequestsFile, RepliesFile, BalancesFile, Bind, Accept, InSession, Stopped}
+use Rattle.strata.specs.Faults.{IsOfImages, stop_status, status_of}
 use Rattle.strata.specs.Sessions.{ServedSession}
-use Rattle.strata.specs.Images.{NamesAsMany, profile_of}
+use Rattle.strata_images.specs.declared.faults.ImagesFault.{ImagesFault}
+use Rattle.strata_images.specs.declared.faults.ImagesFault.TheVariants as faults
+use Rattle.strata_images.specs.Images.{NamesAsMany, profile_of}
 
 -- there are none or too many, or one of them breaks a rule of the profile
 abbrev pub AreBad : Profile → List (List ℕ) → Type 0
@@ -88,7 +90,7 @@ IsOfWords _ = ⊥
 -- a file could not be opened, created or read to its end, a socket not bound or no client accepted
 abbrev pub IsOfFiles : Fault → Type 0
 IsOfFiles fault =
-    ((image : ℕ) × (fault ≡ ImageFile image))
+    IsOfImages (λ f. (image : ℕ) × (f ≡ faults.Unread image)) fault
     ⊎ ((fault ≡ RequestsFile) ⊎ ((fault ≡ RepliesFile) ⊎ ((fault ≡ BalancesFile)
     ⊎ ((fault ≡ Bind) ⊎ (fault ≡ Accept)))))
 
@@ -97,8 +99,14 @@ abbrev pub IsOfStreams : Stop → Type 0
 IsOfStreams stop = (stop ≡ Read) ⊎ (stop ≡ Write)
 
 -- an image is broken, or there are none or too many
-abbrev pub IsOfImages : Stop → Type 0
-IsOfImages stop =
+abbrev pub AreAtFault : ImagesFault → Type 0
+AreAtFault fault =
+    ((image : ℕ) × (broken : ImageFault) × (fault ≡ faults.Broken image broken))
+    ⊎ ((count : ℕ) × (fault ≡ faults.Layers count))
+
+-- the same, as why serving stopped
+abbrev pub IsOfLayers : Stop → Type 0
+IsOfLayers stop =
     ((layer : ℕ) × (fault : ImageFault) × (stop ≡ Layer layer fault))
     ⊎ ((count : ℕ) × (stop ≡ Layers count))
 
@@ -110,11 +118,14 @@ IsOfRequests stop =
 
 -- a fault that has the status 1, 2, 3, 4 or 5 is one of these
 pub record HasStatusOf (fault : Fault) : Type 0 where
-  pub files : status_of fault ≡ 1 → IsOfFiles fault ⊎ IsStoppedSo IsOfStreams fault
+  pub files :
+      status_of fault ≡ 1
+      → IsOfFiles fault
+      ⊎ (IsStoppedSo IsOfStreams fault ⊎ IsOfImages (λ f. f ≡ faults.Write) fault)
   pub words : status_of fault ≡ 2 → IsOfWords fault
   pub images :
-      status_of fault ≡ 3
-      → ((image : ℕ) × (broken : ImageFault) × (fault ≡ Broken image broken))
-      ⊎ IsStoppedSo IsOfImages fault
+      status_of fault ≡ 3 → IsOfImages AreAtFault fault ⊎ IsStoppedSo IsOfLayers fault
   pub requests : status_of fault ≡ 4 → IsStoppedSo IsOfRequests fault
-  pub memory : status_of fault ≡ 5 → IsStoppedSo (λ stop. stop ≡ Memory) fault
+  pub memory :
+      status_of fault ≡ 5
+      → IsStoppedSo (λ stop. stop ≡ Memory) fault ⊎ IsOfImages (λ f. f ≡ faults.Memory) fault

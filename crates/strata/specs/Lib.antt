@@ -1,6 +1,5 @@
 pub mod Faults
 pub mod Texts
-pub mod Images
 pub mod Sessions
 pub mod Ending
 pub mod Ends
@@ -8,6 +7,10 @@ pub mod Readers
 pub mod Laws
 pub mod Mounts
 pub use Rattle.strata_words.specs.CommandLine
+pub use Rattle.strata_images.specs.Images
+pub use Rattle.strata_images.specs.Checking
+pub use Rattle.strata_images.specs.Listing
+pub use Rattle.strata_images.specs.Lines
 pub use Rattle.devices.specs.States
 pub use Rattle.stack_prepare.specs.Layers
 pub use Rattle.stack_prepare.specs.Preparing

@@ -1,5 +1,5 @@
 -- fuse(4): what a command leaves behind that was run over an open /dev/fuse by several readers.
-use Rattle.std.specs.Prelude.{◌≡◌, ◌<◌, ◌⊎◌, ℕ, List, Option, replicate, vec_len}
+use Rattle.std.specs.Prelude.{◌≡◌, ◌⊎◌, ℕ, List, Option, replicate, vec_len}
 use Rattle.strata_words.specs.declared.options.Line.{Line}
 use Rattle.devices.specs.declared.limits.TheConstants.{MAX_TURNS}
 use Rattle.serve_device.specs.declared.ends.End.{End}
@@ -10,11 +10,11 @@ use Rattle.reply_model.specs.Readings.{Sourced}
 use Rattle.serve_core.specs.Headline.{bounds}
 use Rattle.serve_loop.specs.declared.done.Done.{Done}
 use Rattle.strata.specs.declared.faults.Fault.{Fault}
-use Rattle.strata.specs.declared.faults.Fault.TheVariants as faults
-use Rattle.strata.specs.Faults.{out_of_memory, status_of, stop_status}
-use Rattle.strata.specs.Ending.{AreNotStacked, first_of}
+use Rattle.strata_images.specs.Faults.{AreUnread}
+use Rattle.strata_images.specs.Images.{AreNotStacked, ArePrepared, NamesAsMany, profile_of}
+use Rattle.strata.specs.Faults.{IsOfImages, out_of_memory, status_of, stop_status}
+use Rattle.strata.specs.Ending.{first_of}
 use Rattle.strata.specs.Ends.{EndStates, readers, unused}
-use Rattle.strata.specs.Images.{ArePrepared, NamesAsMany, profile_of}
 
 -- the exit status of the end that is reported for readers
 abbrev pub status_of_end : End → ℕ
@@ -38,9 +38,9 @@ pub record AreShared (A : Type 0) (line : Line) (left : Option (List ℕ))
 -- out
 abbrev pub IsNotShared : Line → Fault → Type 0
 IsNotShared line fault =
-    ((image : ℕ) × (image < vec_len line.images) × (fault ≡ faults.ImageFile image))
+    IsOfImages (AreUnread (vec_len line.images)) fault
     ⊎ (((images : List (List ℕ)) × NamesAsMany line images
-    × AreNotStacked (profile_of line) images fault) ⊎ (fault ≡ out_of_memory))
+    × IsOfImages (AreNotStacked (profile_of line) images) fault) ⊎ (fault ≡ out_of_memory))
 
 -- readers over a reader with this left served what the line says, and the end reported for them has
 -- this status; or there are none, and an earlier fault has it

@@ -2,14 +2,15 @@
 
 ghost use Rattle.std.specs.Prelude.{◌≡◌, ◌<◌, ◌^◌, ◌⊎◌, is_some, true, string_bytes, IfOk, IfErr, OnOk};
 ghost use Rattle.strata.specs.Faults.{out_of_memory, write_failed};
-ghost use Rattle.strata.specs.Ending.{ArePut, AreNotPut};
+ghost use Rattle.strata_images.specs.Lines.{ArePut};
+ghost use Rattle.strata.specs.Ending.{AreNotPut};
 ghost use Rattle.strata.specs.Texts.{balance_lines};
 
 use crate::faults::Fault;
-use crate::lines::put_lines;
 use devices::{Sink, Spout};
 use std::alloc::{AllocError, Allocator};
 use std::io::Write;
+use strata_images::put_lines;
 
 /// Writes a line for each balance to the file, if there is one: `<number> <balance>`, in the order
 /// of the nodes.
@@ -40,7 +41,7 @@ fn put_balances<K: Sink, A: Allocator>(
         (K.state sink.old) (K.state sink.new)) }
 {
     let lines = lines_of(alloc, balances)?;
-    put_lines(sink, lines.as_bytes())
+    Ok(put_lines(sink, lines.as_bytes())?)
 }
 
 // A line for each of these balances, by the number of its node.

@@ -8,8 +8,6 @@ ghost use Rattle.strata.specs.Readers.{AreShared, IsNotShared, IsRunByReaders, s
 
 use crate::ends::{Ends, Ran};
 use crate::faults::Fault;
-use crate::images::open_all;
-use crate::preparing::prepare;
 use crate::settings::{first_of, plan_of};
 use serve_core::{Counted, FreePass, MAX_TURNS, Served, Terms};
 use serve_device::{End, Seat, end_of_all, seats_over, serve_by_readers};
@@ -18,6 +16,7 @@ use std::fs::Files;
 use std::io::{Read, Write};
 use std::os::unix::fs::FileExt;
 use std::thread::Threads;
+use strata_images::{open_all, prepare};
 use strata_words::Line;
 
 /// Serves an open `/dev/fuse` over the images of a line with as many readers as it says, all of

@@ -3,20 +3,17 @@
 ghost use Rattle.std.specs.Prelude.{◌≡◌, ◌++◌, ◌∷◌, [], OnOk, IfSome};
 ghost use Rattle.std.specs.Io.KnownBytes.{Appends};
 ghost use Rattle.devices.specs.Pushing.{GainsFront};
-ghost use Rattle.strata.specs.Faults.{out_of_memory, status_of, stop_status, write_failed};
+ghost use Rattle.strata.specs.Faults.{status_of, stop_status};
 ghost use Rattle.strata.specs.Texts.{fault_text, stop_text};
 
-use crate::lines::write_bytes;
 use arrayvec::ArrayString;
-use node_list::ListFault;
-use romfs_files::FilesFault;
-use romfs_image::ImageFault;
+use devices::Failed;
 use serve_core::Stop;
-use stack_prepare::Refusal;
 use std::alloc::{AllocError, AllocFailed};
 use std::fmt::Write as _;
 use std::io::Write;
 use std::{fmt, io};
+use strata_images::{ImagesFault, write_bytes};
 use strata_words::LineFault;
 
 /// How many bytes a line has room for before it is written: as many as a pipe takes at once.
@@ -27,8 +24,6 @@ const LINE: usize = 4096;
 pub enum Fault {
     /// The arguments are no command of the program, or ask for help.
     Usage { text: String },
-    /// The file of this image, counted from 0, cannot be read to its end.
-    ImageFile { image: u64 },
     /// The file of requests cannot be opened.
     RequestsFile,
     /// The file of replies cannot be created.
@@ -39,40 +34,25 @@ pub enum Fault {
     Bind,
     /// No client can be accepted at the socket.
     Accept,
-    /// This image, counted from 0, breaks a rule, as a check of images by themselves has found.
-    Broken { image: u64, fault: ImageFault },
+    /// The images are not used, or what is said of them is not printed.
+    Images(ImagesFault),
     /// This session at a socket, counted from 1, was not served to its end.
     InSession { session: u32, stop: Stop },
-    /// A stream was not served to its end, the images could not be stacked, a write of the
-    /// program's own lines failed, or memory ran out.
+    /// A stream was not served to its end, a write of the program's own lines failed, or memory ran
+    /// out.
     Stopped(Stop),
 }
 
 impl Fault {
-    /// A write of the program's own lines failed.
-    pub(crate) fn write_failed() -> Fault
-        ensures { result ≡ write_failed }
-    {
-        Fault::Stopped(Stop::Write)
-    }
-
-    /// Memory ran out.
-    pub(crate) fn out_of_memory() -> Fault
-        ensures { result ≡ out_of_memory }
-    {
-        Fault::Stopped(Stop::Memory)
-    }
-
     /// The exit status that it ends the program with.
     pub fn status(&self) -> u8
         ensures { result ≡ status_of self.now }
     {
         match self {
             Fault::Usage { .. } => 2,
-            Fault::ImageFile { .. } => 1,
             Fault::RequestsFile | Fault::RepliesFile | Fault::BalancesFile => 1,
             Fault::Bind | Fault::Accept => 1,
-            Fault::Broken { .. } => 3,
+            Fault::Images(fault) => fault.status(),
             Fault::InSession { stop, .. } => stop_status(*stop),
             Fault::Stopped(stop) => stop_status(*stop),
         }
@@ -159,15 +139,12 @@ impl fmt::Display for Fault {
     fn fmt<W: fmt::Write>(&self, f: &mut fmt::Formatter<W>) -> fmt::Result {
         match self {
             Fault::Usage { text } => write!(f, "{text}"),
-            Fault::ImageFile { image } => write!(f, "image {image}: cannot be read"),
             Fault::RequestsFile => write!(f, "requests: cannot be opened"),
             Fault::RepliesFile => write!(f, "replies: cannot be created"),
             Fault::BalancesFile => write!(f, "balances: cannot be created"),
             Fault::Bind => write!(f, "socket: cannot be bound"),
             Fault::Accept => write!(f, "socket: cannot accept"),
-            Fault::Broken { image, fault } => {
-                write!(f, "layer {image} at {:08x}: {}", fault.place, fault.rule)
-            }
+            Fault::Images(fault) => write!(f, "{fault}"),
             Fault::InSession { session, stop } => {
                 let why = Why { stop: *stop };
                 write!(f, "session {session}: {why}")
@@ -220,40 +197,13 @@ impl From<LineFault> for Fault {
     }
 }
 
-impl From<FilesFault> for Fault {
-    ghost use Rattle.strata.specs.Faults.{files_told_of};
+impl From<ImagesFault> for Fault {
+    ghost use Rattle.strata.specs.declared.faults.Fault.TheVariants.{Images};
 
-    ghost from_gives = { λ files fault. fault ≡ files_told_of files };
+    ghost from_gives = { λ images fault. fault ≡ Images images };
 
-    fn from(fault: FilesFault) -> Fault {
-        match fault {
-            FilesFault::Unread { image } => Fault::ImageFile { image },
-            FilesFault::Memory => Fault::Stopped(Stop::Memory),
-        }
-    }
-}
-
-impl From<ListFault> for Fault {
-    ghost use Rattle.strata.specs.Faults.{list_told_of};
-
-    ghost from_gives = { λ list fault. fault ≡ list_told_of list };
-
-    fn from(fault: ListFault) -> Fault {
-        match fault {
-            ListFault::Write => Fault::Stopped(Stop::Write),
-            ListFault::Memory => Fault::Stopped(Stop::Memory),
-        }
-    }
-}
-
-impl From<Refusal> for Fault {
-    ghost use Rattle.serve_core.specs.Stops.{stop_of_refusal};
-    ghost use Rattle.strata.specs.declared.faults.Fault.TheVariants.{Stopped};
-
-    ghost from_gives = { λ refusal fault. fault ≡ Stopped (stop_of_refusal refusal) };
-
-    fn from(refusal: Refusal) -> Fault {
-        Fault::Stopped(Stop::from(refusal))
+    fn from(fault: ImagesFault) -> Fault {
+        Fault::Images(fault)
     }
 }
 
@@ -264,6 +214,16 @@ impl From<Stop> for Fault {
 
     fn from(stop: Stop) -> Fault {
         Fault::Stopped(stop)
+    }
+}
+
+impl From<Failed> for Fault {
+    ghost use Rattle.strata.specs.Faults.{write_failed};
+
+    ghost from_gives = { λ _ fault. fault ≡ write_failed };
+
+    fn from(_failed: Failed) -> Fault {
+        Fault::Stopped(Stop::Write)
     }
 }
 

@@ -1,6 +1,6 @@
 //! What the exit statuses mean, by what [`crate::command`] and [`crate::sessions_from`] promise.
 
-ghost use Rattle.std.specs.Prelude.{◌≡◌, ◌≢◌, ◌≤◌, ◌⊎◌, ◌↔◌, ℕ, List, [], Bool, true, false, length, map, is_some, Option, Some, None, Ok, Err};
+ghost use Rattle.std.specs.Prelude.{◌≡◌, ◌≢◌, ◌≤◌, ◌⊎◌, ◌↔◌, ℕ, List, Bool, true, false, length, map, is_some, Option, Some, None, Ok, Err};
 ghost use Rattle.std.specs.List.{AllByRecursion};
 ghost use Rattle.strata_words.specs.CommandLine.{IsRefused, IsMisnumbered, IsCrossed};
 ghost use Rattle.strata_words.specs.declared.options.Line.{Line};
@@ -10,9 +10,9 @@ ghost use Rattle.serve_core.specs.declared.stop.Stop.TheVariants.{Read, Write};
 ghost use Rattle.strata.specs.Ending.{EndsWith, IsServedWhole, IsFileFault, IsDoneOver, first_of};
 ghost use Rattle.reply_model.specs.declared.session.Session.{Session};
 ghost use Rattle.reply_model.specs.declared.session.Session.TheVariants.{Fresh, LastingFresh};
-ghost use Rattle.reply_model.specs.Readings.{Sourced, in_memory, sourced, IsReplyOver};
+ghost use Rattle.reply_model.specs.Readings.{Sourced, sourced, AreShown, IsReplyOver};
 ghost use Rattle.reply_model.specs.Replies.{reply};
-ghost use Rattle.serve_model.specs.Kept.{WereGatheredFor, over};
+ghost use Rattle.serve_core.specs.Kept.{WereGatheredFor, AreServedAs, over};
 ghost use Rattle.devices.specs.Sources.{held};
 ghost use Rattle.fuse_wire.specs.Requests.{Asked, at_node, read};
 ghost use Rattle.stack_model.specs.Listing.{Stacked};
@@ -20,17 +20,10 @@ ghost use Rattle.stack_prepare.specs.Preparing.{AreStacked};
 ghost use Rattle.serve_loop.specs.declared.done.Done.{Done};
 ghost use Rattle.serve_loop.specs.Serving.{Trace};
 ghost use Rattle.serve_device.specs.MountEnds.{MountEnds};
-ghost use Rattle.strata.specs.Images.{ArePrepared, AreReadWhole, profile_of, trailers_of};
+ghost use Rattle.strata_images.specs.Images.{ArePrepared, profile_of};
 ghost use Rattle.strata.specs.Readers.{status_of_end};
 ghost use Rattle.serve_core.specs.declared.stop.Stop.{Stop};
 ghost use Rattle.serve_device.specs.Ends.{end_of_stop};
-ghost use Rattle.romfs_files.specs.Loaded.{WasGathered};
-ghost use Rattle.romfs_files.specs.Opening.{IsHeldWhole, loaded_bytes};
-ghost use Rattle.romfs_files.specs.declared.loaded.LoadedImage.{LoadedImage};
-ghost use Rattle.romfs_image.specs.declared.refusal.CheckFault.{CheckFault};
-ghost use Rattle.romfs_image.specs.Refusals.{IsRefusal};
-ghost use Rattle.romfs_format.specs.Profiles.{asks_sums, reads_attributes};
-ghost use Rattle.romfs_format.specs.Rules.{IsSound};
 ghost use Rattle.strata.specs.Sessions.{first_fault, status_at, Accepting, AreServed, EndWith, IsSession, ServedSession};
 ghost use Rattle.strata.specs.declared.faults.Fault.{Fault};
 ghost use Rattle.strata.specs.declared.faults.Fault.TheVariants.{Stopped};
@@ -38,6 +31,7 @@ ghost use Rattle.strata.specs.Laws.{AreToBlame, HasMetItsEnd, HasStatusOf, IsOfF
 ghost use Rattle.strata.specs.Mounts.{is_taken_away, status_on_device, IsRunOnDevice, IsTakenAway, StopsWhere};
 
 use std::alloc::Allocator;
+use std::os::unix::fs::FileExt;
 
 /// A status other than 0 is one of 1 to 5. With 2 the arguments are no command of the program, or
 /// have a malformed number or one out of range, or name a file beside the device, and no device was
@@ -105,35 +99,10 @@ pub fn devices_are_served_lastingly()
         first_of line ≡ Fresh }
 {}
 
-/// The data of images that are read in full are read from nothing, as with `--whole`: what is
-/// promised over their stack is what is promised over a held stack, and a READ is answered with
-/// their bytes. And only the data of a stack whose bytes are all held are read from nothing.
-#[tactic(auto, using(crate::proofs::Opened::read_held, crate::proofs::Opened::whole_held, crate::proofs::Opened::held_whole))]
-pub fn whole_images_are_held()
-    ensures read { (line : Line) (images : List (List ℕ)) (by : Sourced)
-        (p : ArePrepared line images by) → AreReadWhole line p.sources.told →
-        by ≡ in_memory by.stack }
-    ensures asked { (line : Line) (images : List (List ℕ)) (by : Sourced) → line.whole ≡ true →
-        ArePrepared line images by → by ≡ in_memory by.stack }
-    ensures held { (line : Line) (images : List (List ℕ)) (by : Sourced) → by.sources ≡ [] →
-        ArePrepared line images by → by.stack.whole ≡ true }
-{}
-
-/// The data of images that are not read in full are read from a source for each, as over a device,
-/// and with `--in-files`, if the line does not have `--whole`.
-#[tactic(auto, using(crate::proofs::Opened::left_in_files, crate::proofs::Opened::in_their_files))]
-pub fn images_stay_in_their_files()
-    ensures left { (line : Line) (images : List (List ℕ)) (by : Sourced)
-        (p : ArePrepared line images by) → (AreReadWhole line p.sources.told → ⊥) →
-        length by.sources ≡ length images }
-    ensures said { (line : Line) (images : List (List ℕ)) (by : Sourced) → line.whole ≡ false →
-        (line.in_files ≡ true) ⊎ (line.device ≡ true) → ArePrepared line images by →
-        length by.sources ≡ length images }
-{}
-
 /// If this was gathered from images for a line, and its data are read from sources that hold
 /// exactly these images, they are good, and a request may only get the reply that is defined over
-/// them. And this was gathered so if the line was prepared over such sources.
+/// them. This was gathered so from whatever images the sources of the line show; and these are good,
+/// and served as they are, or with EIO where data may be lacking.
 pub fn lines_are_served_as_over_their_files()
     ensures good { (line : Line) (kept images : List (List ℕ)) (by : Sourced) →
         ArePrepared line kept by → WereGatheredFor (profile_of line) images kept →
@@ -144,8 +113,11 @@ pub fn lines_are_served_as_over_their_files()
         (s : Session) (q : Asked) (bytes : List ℕ) →
         (IsReplyOver (sourced by.stack (map held images)) s q bytes ↔ (bytes ≡ reply whole s q)) }
     ensures gathered { (line : Line) (kept images : List (List ℕ)) (by : Sourced) →
-        ArePrepared line kept by → 1 ≤ length images → by.sources ≡ map held images →
+        ArePrepared line kept by → 1 ≤ length images → AreShown by.sources images →
         WereGatheredFor (profile_of line) images kept }
+    ensures shown { (line : Line) (kept images : List (List ℕ)) (by : Sourced) →
+        ArePrepared line kept by → 1 ≤ length images → AreShown by.sources images →
+        AreServedAs (profile_of line) line.owner by images }
 {}
 
 /// Whatever is read from the files later: a request that is no READ gets the reply that is defined
@@ -156,37 +128,6 @@ pub fn lines_keep_what_they_show()
         (whole : Stacked) → AreStacked (profile_of line) line.owner images whole →
         (s : Session) (q : Asked) (bytes : List ℕ) → IsReplyOver by s q bytes →
         ((offset size : ℕ) → q.op ≢ at_node (read offset size)) → bytes ≡ reply whole s q }
-{}
-
-/// What is kept of an image besides its data is judged by the rules of a line as these are, with
-/// attributes and without.
-#[tactic(auto, using(crate::proofs::Rules::judged))]
-pub fn opened_images_are_judged_as_their_data()
-    ensures { (line : Line) (bytes image : List ℕ) →
-        WasGathered (trailers_of line) (Some bytes) image →
-        (IsSound (profile_of line) image ↔ IsSound (profile_of line) bytes)
-        × ((fault : CheckFault) → IsRefusal (profile_of line) image fault
-        ↔ IsRefusal (profile_of line) bytes fault) }
-{}
-
-/// An image held in full, such as one from a pipe, is judged as all bytes of its file are, if these
-/// are known.
-#[tactic(auto, using(crate::proofs::Rules::judged_whole))]
-pub fn whole_images_are_judged_as_their_files<F, A: Allocator>()
-    ensures { (line : Line) (bytes : List ℕ) (image : LoadedImage F A) →
-        IsHeldWhole (Some bytes) image →
-        (IsSound (profile_of line) (loaded_bytes image) ↔ IsSound (profile_of line) bytes)
-        × ((fault : CheckFault) → IsRefusal (profile_of line) (loaded_bytes image) fault
-        ↔ IsRefusal (profile_of line) bytes fault) }
-{}
-
-/// A line has an option each for sums and for attributes, and its stack has its owner.
-#[tactic(auto, using(crate::proofs::Rules::asks, crate::proofs::Rules::reads))]
-pub fn lines_say_their_rules()
-    ensures sums { (line : Line) → asks_sums (profile_of line) ≡ line.strict }
-    ensures attributes { (line : Line) → reads_attributes (profile_of line) ≡ line.attributes }
-    ensures owner { (line : Line) (images : List (List ℕ)) (by : Sourced) →
-        ArePrepared line images by → by.stack.owner ≡ line.owner }
 {}
 
 /// A reader of several ends with the status with which one alone would.

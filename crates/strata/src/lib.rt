@@ -7,31 +7,21 @@
 //! [`sessions_from`] those of anything that gives clients. [`faults`] has a line and an exit status
 //! for each thing that can go wrong.
 //!
-//! Images stay in their files: what the rules check is read at once, all else on demand. With
-//! `--whole`, and for a small stack that no mount shows, all their bytes are read at first, and
-//! held (`images`). Either way `preparing` makes one table of them, kept with the files;
-//! `specs/Images` and `serve_core` say what is answered about data in a file.
-//!
-//! `strata_words` reads the arguments, `romfs_files` the files of images; `stack_prepare` checks
-//! images and stacks them, for each command that needs their stack, `serve_core` serves a stream
-//! over that, `node_list` writes the paths that it shows, and `serve_device` detects an unmount;
-//! `serve_device` serves a device with several readers (`by_readers`). `checking`, `listing`,
-//! `serving` and `listening` are the four commands; the first two use nothing that serves.
+//! `strata_words` reads the arguments, and `strata_images` has all that concerns images: their
+//! files, their table, and the commands `check` and `list`. Here are the files of a stream, the
+//! commands that serve (`serving`, `listening`), and the program. `serve_core` serves a stream over
+//! a table and its files, and says what is answered about data in a file; `serve_device` detects an
+//! unmount, and serves a device with several readers (`by_readers`).
 #![tactic(auto)]
 
 mod balances;
 mod by_readers;
-mod checking;
 mod clients;
 mod ends;
 pub mod faults;
 mod files;
-mod images;
 pub mod laws;
-mod lines;
 mod listening;
-mod listing;
-mod preparing;
 mod program;
 mod serving;
 mod settings;

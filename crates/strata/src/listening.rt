@@ -3,13 +3,12 @@
 ghost use Rattle.std.specs.Prelude.{◌≡◌, ◌⊎◌, ℕ, List, is_some, true, IfOk, IfErr};
 ghost use Rattle.strata_words.specs.CommandLine.{IsInLimits};
 ghost use Rattle.fuse_answer.specs.Puts.{sourced_by};
-ghost use Rattle.strata.specs.Ending.{AreNotStacked, EndsAtSocket, IsNotBound};
-ghost use Rattle.strata.specs.Images.{ArePrepared, HaveSources, are_whole, bytes_of, profile_of, sources_of};
+ghost use Rattle.strata.specs.Ending.{EndsAtSocket, IsNotBound};
+ghost use Rattle.strata.specs.Faults.{IsOfImages};
+ghost use Rattle.strata_images.specs.Images.{AreNotStacked, ArePrepared, HaveSources, are_whole, bytes_of, profile_of, sources_of};
 
 use crate::clients::sessions_from;
 use crate::faults::Fault;
-use crate::images::LineImages;
-use crate::preparing::prepare;
 use crate::settings::{first_of, plan_of};
 use devices::{Contents, Listening};
 use serve_core::Served;
@@ -20,6 +19,7 @@ use std::net::Net;
 use std::os::unix::fs::FileExt;
 use std::os::unix::net::UnixListener;
 use std::thread::Threads;
+use strata_images::{LineImages, prepare};
 use strata_words::Line;
 
 /// Checks and stacks the images, binds a socket at the line's path, serves its sessions over the
@@ -40,7 +40,7 @@ where
         (sources_of images.files) }
     ensures ended { IfOk result (λ status. EndsAtSocket A line.now (bytes_of images.held) status) }
     ensures stopped { IfErr result (λ fault.
-        AreNotStacked (profile_of line.now) (bytes_of images.held) fault
+        IsOfImages (AreNotStacked (profile_of line.now) (bytes_of images.held)) fault
         ⊎ IsNotBound line.now (bytes_of images.held) fault) }
 {
     let path = line.listen.unwrap();

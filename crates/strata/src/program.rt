@@ -15,14 +15,10 @@ ghost use Rattle.strata.specs.Ends.{end_states, given};
 ghost use Rattle.strata.specs.Mounts.{status_on_device, IsRunAsSaid, IsRunBy, IsRunMounted, IsRunOnDevice};
 
 use crate::by_readers::mount_by_readers;
-use crate::checking::check;
 use crate::ends::{Ends, Ran};
 use crate::faults::Fault;
-use crate::images::{gather_all, open_all};
 use crate::listening::listen;
-use crate::listing::list;
 use crate::serving::serve;
-use crate::settings::profile_of;
 use crate::version::tell_version;
 use devices::{Sink, Source, Spout, Tap};
 use serve_core::Stop;
@@ -34,6 +30,7 @@ use std::io::{Read, Write};
 use std::net::Net;
 use std::os::unix::fs::FileExt;
 use std::thread::Threads;
+use strata_images::{ImagesFault, check, gather_all, list, open_all, profile_of};
 use strata_words::{Line, NoLine, Verb, line};
 
 /// Runs the program on the arguments after its name, over a reader and a writer that were not used
@@ -281,11 +278,11 @@ where
         }
         Verb::Check => {
             let images = gather_all(rt, alloc, line)?;
-            as_status(check(alloc, images, profile_of(line), output))
+            as_told(check(alloc, images, profile_of(line), output))
         }
         Verb::List => {
             let images = open_all(rt, alloc, line)?;
-            as_status(list(rt, alloc, line, images.held, output))
+            as_told(list(rt, alloc, line, images.held, output))
         }
     }
 }
@@ -297,6 +294,16 @@ fn as_status(done: Result<(), Fault>) -> Result<u8, Fault>
     match done {
         Ok(()) => Ok(0),
         Err(fault) => Err(fault),
+    }
+}
+
+// The same of work on images.
+fn as_told(done: Result<(), ImagesFault>) -> Result<u8, Fault>
+    ensures { MatchResult done (λ _. result ≡ Ok 0) (λ fault. result ≡ Err (Fault.Images fault)) }
+{
+    match done {
+        Ok(()) => Ok(0),
+        Err(fault) => Err(Fault::Images(fault)),
     }
 }
 

@@ -7,13 +7,11 @@ ghost use Rattle.strata_words.specs.CommandLine.{IsInLimits};
 ghost use Rattle.fuse_answer.specs.Puts.{sourced_by};
 ghost use Rattle.serve_loop.specs.Serving.{Trace, Does};
 ghost use Rattle.strata.specs.Ending.{AreNamed, AreNew, Gave, GetsReplies, IsFileFault, IsServing, IsServedWhole, IsSessionOf, IsNotServed};
-ghost use Rattle.strata.specs.Images.{ArePrepared, HaveSources, are_whole, bytes_of, sources_of};
+ghost use Rattle.strata_images.specs.Images.{ArePrepared, HaveSources, are_whole, bytes_of, sources_of};
 
 use crate::balances::tell_balances;
 use crate::faults::Fault;
 use crate::files::{create_named, open_requests};
-use crate::images::LineImages;
-use crate::preparing::prepare;
 use crate::settings::{counted_of, first_of, plan_of};
 use devices::{Contents, Sink, Source, Spout, Tap};
 use serve_core::{Done, FreePass, MAX_TURNS, Served, Stop, Terms, run_from};
@@ -22,6 +20,7 @@ use std::fs::Files;
 use std::io::{Read, Write};
 use std::os::unix::fs::FileExt;
 use std::thread::Threads;
+use strata_images::{LineImages, prepare};
 use strata_words::Line;
 
 /// Checks the images, stacks them, and answers the requests from a file, or else the input, over

@@ -1,20 +1,12 @@
-//! What a line says about serving: the rules for images, the session that a stream begins in, the
-//! nodes whose lookups are counted, and the plan.
+//! What a line says about serving: the session that a stream begins in, the nodes whose lookups are
+//! counted, and the plan.
 
 ghost use Rattle.std.specs.Prelude.{◌≡◌};
 ghost use Rattle.strata_words.specs.CommandLine.{IsInLimits};
 ghost use Rattle.strata.specs.Ending.{counted_of, first_of};
-ghost use Rattle.strata.specs.Images.{profile_of};
 
-use serve_core::{Counted, Plan, Profile, Session};
+use serve_core::{Counted, Plan, Session};
 use strata_words::Line;
-
-/// The rules that the line holds images to, and whether their attributes are read.
-pub fn profile_of(line: &Line<'_>) -> Profile
-    ensures { result ≡ profile_of line.now }
-{
-    Profile::with(line.strict, line.attributes)
-}
 
 /// The session that the line has its streams begin in.
 pub fn first_of(line: &Line<'_>) -> Session

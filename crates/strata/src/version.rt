@@ -1,14 +1,15 @@
 //! The version, as `--version` prints it.
 
 ghost use Rattle.std.specs.Prelude.{◌≡◌, ◌<◌, ◌^◌, string_bytes, IfErr, IfOk, OnOk};
-ghost use Rattle.strata.specs.Ending.{AreNotPut, ArePut, TellsVersion};
+ghost use Rattle.strata_images.specs.Lines.{ArePut};
+ghost use Rattle.strata.specs.Ending.{AreNotPut, TellsVersion};
 ghost use Rattle.strata.specs.Texts.{version_line};
 
 use crate::faults::Fault;
-use crate::lines::put_lines;
 use devices::Sink;
 use std::alloc::{AllocError, Allocator};
 use std::io::Write;
+use strata_images::put_lines;
 use strata_words::version::{LOGIC, VERSION};
 
 /// Puts the line of the version, and gives the exit status: 0, or that of a fault, whose line goes
@@ -30,7 +31,7 @@ fn put_version<A: Allocator, K: Sink>(alloc: A, output: &mut K) -> Result<(), Fa
         AreNotPut version_line (K.state output.old) (K.state output.new) fault) }
 {
     let line = line(alloc)?;
-    put_lines(output, line.as_bytes())
+    Ok(put_lines(output, line.as_bytes())?)
 }
 
 fn line<A: Allocator>(alloc: A) -> Result<String<A>, AllocError>

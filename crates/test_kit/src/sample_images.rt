@@ -1,5 +1,8 @@
 //! Images that several tests use, and images given as words.
 
+ghost use Rattle.std.specs.Prelude.{◌≡◌, true, IfOk};
+ghost use Rattle.romfs_reader.specs.Images.{all_whole};
+
 use crate::bytes::bytes_of;
 use romfs_image::sample::{BuildFault, Item, What, build};
 use romfs_image::{Check, CheckFault, Image};
@@ -42,7 +45,9 @@ pub fn mixed(alloc: Global) -> Result<Vec<u8>, BuildFault> {
 }
 
 /// The image that bytes are, checked.
-pub fn checked<A: Allocator + Copy>(alloc: A, bytes: Vec<u8, A>) -> Result<Image<A>, BuildFault> {
+pub fn checked<A: Allocator + Copy>(alloc: A, bytes: Vec<u8, A>) -> Result<Image<A>, BuildFault>
+    ensures { IfOk result (λ image. image.whole ≡ true) }
+{
     match Image::check(alloc, bytes) {
         Ok(image) => Ok(image),
         Err(CheckFault::Memory) => Err(BuildFault::Memory),
@@ -51,7 +56,10 @@ pub fn checked<A: Allocator + Copy>(alloc: A, bytes: Vec<u8, A>) -> Result<Image
 }
 
 /// Layers of such words, the lowest first, with a `+` between any two.
-pub fn layers<A: Allocator + Copy>(alloc: A, all: &str) -> Result<Vec<Image<A>, A>, BuildFault> {
+#[tactic(auto, using(crate::proofs::Wholes::all_whole_and_one))]
+pub fn layers<A: Allocator + Copy>(alloc: A, all: &str) -> Result<Vec<Image<A>, A>, BuildFault>
+    ensures { IfOk result (λ images. all_whole images.items ≡ true) }
+{
     let mut images = Vec::new(alloc);
     for words in all.split('+') {
         images.push(layer(alloc, words)?)?;
@@ -144,6 +152,8 @@ fn items_of<A: Allocator + Copy>(alloc: A, words: &str) -> Result<Vec<Item<A>, A
     Ok(items)
 }
 
-fn layer<A: Allocator + Copy>(alloc: A, words: &str) -> Result<Image<A>, BuildFault> {
+fn layer<A: Allocator + Copy>(alloc: A, words: &str) -> Result<Image<A>, BuildFault>
+    ensures { IfOk result (λ image. image.whole ≡ true) }
+{
     checked(alloc, image(alloc, b"v", words)?)
 }

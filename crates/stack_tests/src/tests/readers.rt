@@ -1,5 +1,6 @@
 //! What is read from checked images.
 
+ghost use Rattle.std.specs.Prelude.{◌≡◌, true};
 ghost use Rattle.romfs_reader.specs.Readers.{IsGiven};
 
 use romfs_image::sample::seal;
@@ -24,7 +25,9 @@ const THREE_FILES: [u32; 64] = [
 ];
 
 /// The names of the root's members, each with the data at the end of its hard links.
-fn files<A: Allocator>(alloc: Global, image: &Image<A>) -> Result<Vec<(&[u8], &[u8])>, AllocError> {
+fn files<A: Allocator>(alloc: Global, image: &Image<A>) -> Result<Vec<(&[u8], &[u8])>, AllocError>
+    requires { image.now.whole ≡ true }
+{
     let mut files = Vec::new(alloc);
     for head in image.members(&image.root()) {
         let file = image.target(&head);
@@ -34,7 +37,9 @@ fn files<A: Allocator>(alloc: Global, image: &Image<A>) -> Result<Vec<(&[u8], &[
 }
 
 /// Whether the image has its three files, in their order.
-fn has_three_files<A: Allocator>(alloc: Global, image: &Image<A>) -> Result<bool, AllocError> {
+fn has_three_files<A: Allocator>(alloc: Global, image: &Image<A>) -> Result<bool, AllocError>
+    requires { image.now.whole ≡ true }
+{
     let wanted = [
         (
             b"passwd".as_slice(),
@@ -59,7 +64,9 @@ fn tells_files(
     alloc: Global,
     memory: &Refusing<Global>,
     image: &Image<&Refusing<Global>>,
-) -> Result<bool, AllocError> {
+) -> Result<bool, AllocError>
+    requires { image.now.whole ≡ true }
+{
     let requests = memory.requests();
     let has_files = has_three_files(alloc, image)?;
     let has_root = image.head(32) == Some(image.root()) && image.head(33).is_none();
@@ -84,7 +91,7 @@ fn list<A: Allocator>(
     image: &Image<A>,
     directory: &Head,
 ) -> Result<Vec<(u32, u32)>, AllocError>
-    requires { IsGiven image.now directory.now }
+    requires { IsGiven image.now.bytes directory.now }
 {
     let mut found = Vec::new(alloc);
     for head in image.members(directory) {

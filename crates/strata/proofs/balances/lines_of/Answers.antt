@@ -1,6 +1,6 @@
 use Rattle.std.proofs.Common.{pos, refl, string_bytes}
 use Rattle.strata.specs.Texts.{balance_line}
-use Rattle.strata.proofs.Printed.{none_printed, one_more_printed, all_printed}
+use Rattle.strata_images.proofs.Printed.{none_printed, one_more_printed, all_printed}
 use Rattle.strata.proofs.balances.lines_of.Goals as goal
 
 pub loop-place-init : goal.loop-place-init

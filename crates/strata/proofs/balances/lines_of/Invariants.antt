@@ -1,6 +1,6 @@
 use Rattle.std.proofs.Common.{string_bytes}
 use Rattle.strata.specs.Texts.{balance_line}
-use Rattle.strata.proofs.Printed.{IsPrinted}
+use Rattle.strata_images.proofs.Printed.{IsPrinted}
 use Rattle.strata.proofs.balances.lines_of.Given as goal
 
 -- the lines so far

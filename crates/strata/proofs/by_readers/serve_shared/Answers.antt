@@ -7,8 +7,8 @@ use Rattle.romfs_files.specs.Data.{source_of}
 use Rattle.reply_model.specs.Readings.{sourced}
 use Rattle.serve_core.specs.Headline.{bounds}
 use Rattle.strata.specs.Ending.{first_of}
-use Rattle.strata.specs.Images.{bytes_of}
-use Rattle.strata.proofs.Opened.{seen_as}
+use Rattle.strata_images.specs.Images.{bytes_of}
+use Rattle.strata_images.proofs.Opened.{seen_as}
 use Rattle.strata.proofs.Shared.{shared_with}
 use Rattle.strata.proofs.by_readers.serve_shared.Goals as goal
 

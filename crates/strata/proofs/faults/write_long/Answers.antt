@@ -1,5 +1,5 @@
 use Rattle.std.proofs.Common.{[], ◌∷◌}
-use Rattle.strata.proofs.Told.{front_more, then_more}
+use Rattle.strata_images.proofs.Told.{front_more, then_more}
 use Rattle.strata.proofs.faults.write_long.Goals as goal
 
 pub returns-in_err-write_bytes-clause-front : goal.returns-in_err-write_bytes-clause-front

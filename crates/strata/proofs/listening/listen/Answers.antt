@@ -1,6 +1,6 @@
-use Rattle.strata.specs.Images.{bytes_of}
+use Rattle.strata_images.specs.Images.{bytes_of}
 use Rattle.strata.proofs.AtSocket.{unbound}
-use Rattle.strata.proofs.Opened.{seen_as}
+use Rattle.strata_images.proofs.Opened.{seen_as}
 use Rattle.strata.proofs.listening.listen.Goals as goal
 
 pub returns-clause-stopped : goal.returns-clause-stopped

@@ -1,5 +1,5 @@
 use Rattle.strata.proofs.faults.WhyDisplay.fmt.Goals as goal
-use Rattle.strata.proofs.Printed.{as_place}
+use Rattle.strata_images.proofs.Printed.{as_place}
 
 pub returns-in-Layer-clause-writes : goal.returns-in-Layer-clause-writes
 returns-in-Layer-clause-writes g c = rw (c.in-Layer.is, ← as_place c.in-Layer.fault.place)

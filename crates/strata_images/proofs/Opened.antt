@@ -1,0 +1,220 @@
+-- The images of a line. `loaded_sources` says what the data of those that were loaded are read from, `stacked_sources` that
+-- their stack has the same; `read_held` and `whole_held` that nothing is where they are read in full, and `held_whole` that a
+-- stack without sources is held. `seen_as` lends their files. `loaded_ones` says what is held of images for a line that checks.
+use Rattle.std.proofs.Common.{◌≡◌, ◌≤◌, ◌⊎◌, ◌||◌, ◌∙◌, sym, ap, subst, refl, ℕ, suc, inl, inr, true, false, true≢false, List, [], ◌∷◌, length, map, Bool, Option, Vec, vec_len, arith}
+use Rattle.std.specs.List.{AllByRecursion, list_all}
+use Rattle.std.proofs.lemmas.List.Sums.{list_all-from_AllPass}
+use Rattle.std.proofs.lemmas.List.{length-map}
+use Rattle.std.proofs.lemmas.List.Elements.{All-map, All-weaker, recursion_from_All}
+use Rattle.devices.specs.Sources.{Source}
+use Rattle.romfs_files.specs.declared.image_data.ImageData.{ImageData}
+use Rattle.romfs_files.specs.declared.loaded.LoadedImage.{LoadedImage}
+use Rattle.romfs_files.specs.declared.loaded.Loading.{Loading}
+use Rattle.romfs_files.specs.declared.loaded.Loading.TheVariants as how
+use Rattle.romfs_files.specs.declared.loaded.Trailers.{Trailers}
+use Rattle.romfs_files.specs.Data.{source_of}
+use Rattle.romfs_held.specs.declared.image.HeldImage.{HeldImage}
+use Rattle.romfs_held.specs.declared.image.HeldImage.TheVariants.{Kept, Whole}
+use Rattle.romfs_held.specs.Images.{held_bytes, is_whole}
+use Rattle.romfs_files.specs.Files.{AreLoaded, IsHeldOf, IsHeldWith, IsLoadedOf, IsOfFile, IsWholeOf}
+use Rattle.romfs_files.specs.Loaded.{AreApart, IsKeptWith, before, files_of}
+use Rattle.strata_words.specs.declared.options.Line.{Line}
+use Rattle.stack_model.specs.Listing.{Stacked}
+use Rattle.reply_model.specs.Readings.{Sourced, in_memory, sourced}
+use Rattle.strata_images.specs.Images.{AreDataOf, AreHeldFor, AreHeldWhole, ArePrepared, AreReadWhole, HaveSources, IsDataOf, IsLoadingOf, sources_of, stay_in_files, trailers_of}
+
+-- the data of an image that is open
+is_data : {F A : Type 0} (trailers : Trailers) (held : HeldImage A) (source : ImageData F A)
+    → IsKeptWith (source_of source) trailers held → IsDataOf trailers (held_bytes held) (source_of source)
+is_data trailers (Whole bytes) source h = absurd h
+is_data trailers (Kept kept) source h = h
+
+abbrev held_of : {F A : Type 0} → List (LoadedImage F A) → List (HeldImage A)
+held_of {F} {A} images = map (λ (image : LoadedImage F A). image.held) images
+
+are_data : {F A : Type 0} (known : F → Option (List ℕ)) (trailers : Trailers) (images : List (LoadedImage F A))
+    → AllByRecursion (IsOfFile (λ file. IsLoadedOf (known file) (how.Open trailers))) images
+    → AreDataOf trailers (map held_bytes (held_of images)) (map source_of (files_of images))
+are_data known trailers [] all = tt
+are_data known trailers (image ∷ images) all =
+    let its = all.0.read in
+    subst (λ s. AreDataOf trailers (held_bytes image.held ∷ map held_bytes (held_of images)) (map source_of (before s (files_of images))))
+    (sym its.over.source_is)
+    (is_data trailers image.held its.source its.over.kept.1, are_data known trailers images all.1)
+
+-- the sources of images that stay in their files
+are_sources : {F A : Type 0} (line : Line) (known : F → Option (List ℕ)) (images : List (LoadedImage F A)) (whole : Bool)
+    (told : List (Option ℕ)) → length told ≡ vec_len line.images → (AreReadWhole line told → ⊥)
+    → AreLoaded known (how.Open (trailers_of line)) images
+    → HaveSources line whole (map held_bytes (held_of images)) (map source_of (files_of images))
+are_sources line known images whole told each left loaded =
+    let are = are_data known (trailers_of line) images
+    (recursion_from_All (IsOfFile (λ file. IsLoadedOf (known file) (how.Open (trailers_of line)))) images loaded) in
+    record {
+      told = told;
+      each = each;
+      read = λ all. absurd (left all);
+      left = λ _. are;
+      either = inr are;
+    }
+
+is_whole_of : {A : Type 0} (known : Option (List ℕ)) (held : HeldImage A) → IsWholeOf known held → is_whole held ≡ true
+is_whole_of known (Kept kept) h = absurd h
+is_whole_of known (Whole bytes) h = refl
+
+-- images that are read in full are held whole
+all_held : {F A : Type 0} (known : F → Option (List ℕ)) (images : List (LoadedImage F A)) → AreLoaded known how.Whole images
+    → list_all is_whole (held_of images) ≡ true
+all_held {F} {A} known images h = list_all-from_AllPass is_whole (held_of images)
+    (All-map (λ (held : HeldImage A). is_whole held ≡ true) (λ (image : LoadedImage F A). image.held) images
+    (All-weaker (IsOfFile (λ file. IsLoadedOf (known file) how.Whole)) (λ (image : LoadedImage F A). is_whole image.held ≡ true)
+    (λ image of. is_whole_of (known of.file) image.held of.read.0) images h))
+
+-- and their data are read from nothing
+no_files : {F A : Type 0} (known : F → Option (List ℕ)) (images : List (LoadedImage F A))
+    → AllByRecursion (IsOfFile (λ file. IsLoadedOf (known file) how.Whole)) images → files_of images ≡ []
+no_files known [] all = refl
+no_files known (image ∷ images) all = ap (λ s. before s (files_of images)) all.0.read.1 ∙ no_files known images all.1
+
+no_sources : {F A : Type 0} (line : Line) (known : F → Option (List ℕ)) (images : List (LoadedImage F A)) (told : List (Option ℕ))
+    → length told ≡ vec_len line.images → AreReadWhole line told → AreLoaded known how.Whole images
+    → HaveSources line (list_all is_whole (held_of images)) (map held_bytes (held_of images)) (map source_of (files_of images))
+no_sources line known images told each all loaded =
+    let none = no_files known images (recursion_from_All (IsOfFile (λ file. IsLoadedOf (known file) how.Whole)) images loaded) in
+    let held : AreHeldWhole (list_all is_whole (held_of images)) (map source_of (files_of images)) =
+    (all_held known images loaded, ap (map source_of) none) in
+    record {
+      told = told;
+      each = each;
+      read = λ _. held;
+      left = λ kept. absurd (kept all);
+      either = inl held;
+    }
+
+-- as many images are held as were loaded
+pub as_many_held : {F A : Type 0} (images : List (LoadedImage F A)) (held : List (HeldImage A)) (files : List (ImageData F A))
+    → AreApart images held files → length (map held_bytes held) ≡ length images
+as_many_held {F} {A} images held files apart =
+    length-map held held_bytes ∙ ap length apart.held_are ∙ length-map images (λ (image : LoadedImage F A). image.held)
+
+-- what the data of the images of a line are read from, as they are loaded
+pub loaded_sources : {F A : Type 0} (line : Line) (known : F → Option (List ℕ)) (loading : Loading) (images : List (LoadedImage F A))
+    (held : List (HeldImage A)) (files : List (ImageData F A)) → IsLoadingOf line (how.Open (trailers_of line)) loading
+    → AreLoaded known loading images → AreApart images held files
+    → HaveSources line (list_all is_whole held) (map held_bytes held) (map source_of files)
+loaded_sources line known loading images held files is loaded apart =
+    subst (λ h. HaveSources line (list_all is_whole h) (map held_bytes h) (map source_of files)) (sym apart.held_are)
+    (subst (λ f. HaveSources line (list_all is_whole (held_of images)) (map held_bytes (held_of images)) (map source_of f))
+    (sym apart.files_are) (by_way is.is))
+  where
+    by_way : (AreReadWhole line is.told × (loading ≡ how.Whole)) ⊎ ((AreReadWhole line is.told → ⊥) × (loading ≡ how.Open (trailers_of line)))
+        → HaveSources line (list_all is_whole (held_of images)) (map held_bytes (held_of images)) (map source_of (files_of images))
+    by_way (inl whole) = no_sources line known images is.told is.each whole.0 (subst (λ l. AreLoaded known l images) whole.1 loaded)
+    by_way (inr left) = are_sources line known images (list_all is_whole (held_of images)) is.told is.each left.0
+        (subst (λ l. AreLoaded known l images) left.1 loaded)
+
+-- what images have their data from where they are held whole, a stack that is whole has too
+pub stacked_sources : (line : Line) (whole stacked : Bool) (images : List (List ℕ)) (sources : List Source)
+    → (whole ≡ true → stacked ≡ true) → HaveSources line whole images sources → HaveSources line stacked images sources
+stacked_sources line whole stacked images sources same have =
+    let held : AreHeldWhole whole sources → AreHeldWhole stacked sources = λ all. (same all.0, all.1) in
+    record {
+      told = have.told;
+      each = have.each;
+      read = λ all. held (have.read all);
+      left = have.left;
+      either = by_either have.either held;
+    }
+  where
+    by_either : AreHeldWhole whole sources ⊎ AreDataOf (trailers_of line) images sources
+        → (AreHeldWhole whole sources → AreHeldWhole stacked sources)
+        → AreHeldWhole stacked sources ⊎ AreDataOf (trailers_of line) images sources
+    by_either (inl all) held = inl (held all)
+    by_either (inr are) held = inr are
+
+-- the stack of images that are read in full is held
+pub read_held : (line : Line) (images : List (List ℕ)) (by : Sourced) (p : ArePrepared line images by) → AreReadWhole line p.sources.told
+    → by ≡ in_memory by.stack
+read_held line images by p all = ap (λ sources. sourced by.stack sources) (p.sources.read all).1
+
+-- as where a line asks for all bytes
+pub whole_held : (line : Line) (images : List (List ℕ)) (by : Sourced) → line.whole ≡ true → ArePrepared line images by
+    → by ≡ in_memory by.stack
+whole_held line images by whole p = read_held line images by p (inl whole)
+
+-- a stack whose data are read from nothing is held in full
+pub held_whole : (line : Line) (images : List (List ℕ)) (by : Sourced) → by.sources ≡ [] → ArePrepared line images by
+    → by.stack.whole ≡ true
+held_whole line images by none p = by_either images p.stacked.layers.few.0 p.sources.either
+  where
+    by_either : (images : List (List ℕ)) → 1 ≤ length images
+        → AreHeldWhole by.stack.whole by.sources ⊎ AreDataOf (trailers_of line) images by.sources → by.stack.whole ≡ true
+    by_either images few (inl all) = all.0
+    by_either [] few (inr are) = absurd (omega arith)
+    by_either (image ∷ images) few (inr are) = absurd (subst (λ s. AreDataOf (trailers_of line) (image ∷ images) s) none are)
+
+-- each image has a source
+as_many : (trailers : Trailers) (images : List (List ℕ)) (sources : List Source) → AreDataOf trailers images sources
+    → length sources ≡ length images
+as_many trailers [] [] a = refl
+as_many trailers [] (s ∷ sources) a = absurd a
+as_many trailers (image ∷ images) [] a = absurd a
+as_many trailers (image ∷ images) (s ∷ sources) a = ap suc (as_many trailers images sources a.1)
+
+-- one of the two options that leave images in their files
+pub stays : (in_files device : Bool) → (in_files ≡ true) ⊎ (device ≡ true) → (in_files || device) ≡ true
+stays true device said = refl
+stays false device (inl said) = absurd (true≢false (sym said))
+stays false device (inr said) = said
+
+-- each image that is not read in full has a source
+pub left_in_files : (line : Line) (images : List (List ℕ)) (by : Sourced) (p : ArePrepared line images by)
+    → (AreReadWhole line p.sources.told → ⊥) → length by.sources ≡ length images
+left_in_files line images by p left = as_many (trailers_of line) images by.sources (p.sources.left left)
+
+not_whole : (line : Line) (told : List (Option ℕ)) → line.whole ≡ false → stay_in_files line ≡ true → AreReadWhole line told → ⊥
+not_whole line told left stay (inl whole) = true≢false (sym whole ∙ left)
+not_whole line told left stay (inr small) = true≢false (sym stay ∙ small.0)
+
+-- and so it is over a device, and where a line says `--in-files`
+pub in_their_files : (line : Line) (images : List (List ℕ)) (by : Sourced) → line.whole ≡ false
+    → (line.in_files ≡ true) ⊎ (line.device ≡ true) → ArePrepared line images by → length by.sources ≡ length images
+in_their_files line images by left said p =
+    left_in_files line images by p (not_whole line p.sources.told left (stays line.in_files line.device said))
+
+held_with : {A : Type 0} (known : Option (List ℕ)) (trailers its : Trailers) (held : HeldImage A) → IsWholeOf known held
+    → IsHeldWith known trailers its held
+held_with known trailers its (Kept kept) h = absurd h
+held_with known trailers its (Whole bytes) h = h
+
+whole_ones : {F A : Type 0} (line : Line) (known : F → Option (List ℕ)) (images : List (LoadedImage F A))
+    → AreLoaded known how.Whole images → AreHeldFor line known images
+whole_ones line known images h =
+    All-weaker (IsOfFile (λ file. IsLoadedOf (known file) how.Whole)) (IsOfFile (λ file. IsHeldOf (known file) (trailers_of line)))
+    (λ image of. record {
+      file = of.file;
+      read = held_with (known of.file) (trailers_of line) image.trailers image.held of.read.0;
+    }) images h
+
+gathered_ones : {F A : Type 0} (line : Line) (known : F → Option (List ℕ)) (images : List (LoadedImage F A))
+    → AreLoaded known (how.Gather (trailers_of line)) images → AreHeldFor line known images
+gathered_ones line known images h =
+    let gather = how.Gather (trailers_of line) in
+    All-weaker (IsOfFile (λ file. IsLoadedOf (known file) gather)) (IsOfFile (λ file. IsHeldOf (known file) (trailers_of line)))
+    (λ image of. record { file = of.file; read = of.read.0 }) images h
+
+-- images that are loaded for a line that checks are held for it
+pub loaded_ones : {F A : Type 0} (line : Line) (known : F → Option (List ℕ)) (loading : Loading) (images : List (LoadedImage F A))
+    → IsLoadingOf line (how.Gather (trailers_of line)) loading → AreLoaded known loading images → AreHeldFor line known images
+loaded_ones line known loading images is loaded = by_way is.is
+  where
+    by_way : (AreReadWhole line is.told × (loading ≡ how.Whole)) ⊎ ((AreReadWhole line is.told → ⊥) × (loading ≡ how.Gather (trailers_of line)))
+        → AreHeldFor line known images
+    by_way (inl whole) = whole_ones line known images (subst (λ l. AreLoaded known l images) whole.1 loaded)
+    by_way (inr left) = gathered_ones line known images (subst (λ l. AreLoaded known l images) left.1 loaded)
+
+-- images that are prepared with their files are so with all of these, lent
+pub seen_as : {F A B : Type 0} (line : Line) (images : List (List ℕ)) (stack : Stacked) (files : Vec (ImageData F A) B)
+    (lent : List (ImageData F A)) → lent ≡ files.items → ArePrepared line images (sourced stack (sources_of files))
+    → ArePrepared line images (sourced stack (map source_of lent))
+seen_as line images stack files lent e p = subst (λ fs. ArePrepared line images (sourced stack (map source_of fs))) (sym e) p

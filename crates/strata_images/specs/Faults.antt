@@ -1,0 +1,39 @@
+-- Why the images of a line are not used, or what is said of them is not printed.
+use Rattle.std.specs.Prelude.{◌≡◌, ◌<◌, ℕ, ◌⊎◌}
+use Rattle.romfs_files.specs.declared.images.FilesFault.{FilesFault}
+use Rattle.romfs_files.specs.declared.images.FilesFault.TheVariants as files
+use Rattle.stack_prepare.specs.declared.refusal.Refusal.{Refusal}
+use Rattle.stack_prepare.specs.declared.refusal.Refusal.TheVariants as refusals
+use Rattle.node_list.specs.declared.walk.ListFault.{ListFault}
+use Rattle.node_list.specs.declared.walk.ListFault.TheVariants as list
+use Rattle.strata_images.specs.declared.faults.ImagesFault.{ImagesFault}
+use Rattle.strata_images.specs.declared.faults.ImagesFault.TheVariants.{Unread, Broken, Layers, Write, Memory}
+
+-- the exit status of a fault: 1 for files and the output, 3 for images, 5 for memory
+abbrev pub status_of : ImagesFault → ℕ
+status_of (Unread image) = 1
+status_of (Broken image fault) = 3
+status_of (Layers count) = 3
+status_of Write = 1
+status_of Memory = 5
+
+-- why the files of images were not read
+abbrev pub files_told_of : FilesFault → ImagesFault
+files_told_of (files.Unread image) = Unread image
+files_told_of files.Memory = Memory
+
+-- why images were not stacked
+abbrev pub refusal_told_of : Refusal → ImagesFault
+refusal_told_of (refusals.Layer layer fault) = Broken layer fault
+refusal_told_of (refusals.Layers count) = Layers count
+refusal_told_of refusals.Memory = Memory
+
+-- why a list was not written
+abbrev pub list_told_of : ListFault → ImagesFault
+list_told_of list.Write = Write
+list_told_of list.Memory = Memory
+
+-- the file of one of this many images was not read, or memory ran out
+abbrev pub AreUnread : ℕ → ImagesFault → Type 0
+AreUnread count fault =
+    ((image : ℕ) × (image < count) × (fault ≡ Unread image)) ⊎ (fault ≡ Memory)

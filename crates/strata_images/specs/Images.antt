@@ -1,0 +1,117 @@
+-- The images of a line, as they are held: all bytes of each, or what the rules check, with zeros
+-- for the rest.
+use Rattle.std.specs.Prelude.{◌≡◌, ◌≤◌, ◌^◌, ◌⊎◌, ◌||◌, ℕ, Bool, true, false, List, [], ◌∷◌, Option, Some, All, ⊤, length, map, sum, vec_len, if◌then◌else◌}
+use Rattle.std.specs.declared.vec.Vec.{Vec}
+use Rattle.romfs_format.specs.declared.rule.Profile.{Profile}
+use Rattle.romfs_format.specs.Profiles.{profile_with}
+use Rattle.devices.specs.Sources.{Source}
+use Rattle.romfs_files.specs.declared.image_data.ImageData.{ImageData}
+use Rattle.romfs_files.specs.declared.loaded.LoadedImage.{LoadedImage}
+use Rattle.romfs_files.specs.declared.loaded.Loading.{Loading}
+use Rattle.romfs_files.specs.declared.loaded.Loading.TheVariants.{Whole}
+use Rattle.romfs_files.specs.declared.loaded.Trailers.{Trailers}
+use Rattle.romfs_files.specs.declared.loaded.Trailers.TheVariants.{Read, Left}
+use Rattle.romfs_files.specs.Data.{source_of}
+use Rattle.romfs_files.specs.Files.{IsHeldOf, IsOfFile}
+use Rattle.romfs_files.specs.Loaded.{WasGathered}
+use Rattle.romfs_held.specs.declared.image.HeldImage.{HeldImage}
+use Rattle.stack_prepare.specs.declared.refusal.Refusal.{Refusal}
+use Rattle.stack_prepare.specs.Layers.{AreRefused, held_contents, are_whole as all_held_whole}
+use Rattle.stack_prepare.specs.Preparing.{AreStacked}
+use Rattle.reply_model.specs.Readings.{Sourced}
+use Rattle.strata_words.specs.declared.options.Line.{Line}
+use Rattle.strata_images.specs.declared.faults.ImagesFault.{ImagesFault}
+use Rattle.strata_images.specs.Faults.{refusal_told_of}
+
+-- the rules that a line holds images to, and whether their attributes are read
+abbrev pub profile_of : Line → Profile
+profile_of line = profile_with line.strict line.attributes
+
+-- whether the trailers of its images are read
+abbrev pub trailers_of : Line → Trailers
+trailers_of line = if line.attributes then Read else Left
+
+-- as many images as the line names
+abbrev pub NamesAsMany : Line → List (List ℕ) → Type 0
+NamesAsMany line images = length images ≡ vec_len line.images
+
+-- this is held of the images of a line, each of which was read of some file: all its bytes, those
+-- that are known of it; or what the rules look at, with the trailer where the line asks for
+-- attributes
+abbrev pub AreHeldFor : {F A : Type 0} → Line → (F → Option (List ℕ)) → List (LoadedImage F A)
+    → Type 0
+AreHeldFor line known images =
+    All (IsOfFile (λ file. IsHeldOf (known file) (trailers_of line))) images
+
+-- the bytes that are held of images
+abbrev pub bytes_of : {A B : Type 0} → Vec (HeldImage A) B → List (List ℕ)
+bytes_of images = held_contents images
+
+-- whether all bytes of images are held
+abbrev pub are_whole : {A B : Type 0} → Vec (HeldImage A) B → Bool
+are_whole images = all_held_whole images.items
+
+-- what reads of the data of images may give
+abbrev pub sources_of : {F A B : Type 0} → Vec (ImageData F A) B → List Source
+sources_of files = map source_of files.items
+
+-- the data of an image of which this is held are read from where it was gathered
+abbrev pub IsDataOf : Trailers → List ℕ → Source → Type 0
+IsDataOf trailers image source = WasGathered trailers source image
+
+-- those of each image are so
+abbrev pub AreDataOf : Trailers → List (List ℕ) → List Source → Type 0
+AreDataOf trailers [] [] = ⊤
+AreDataOf trailers (image ∷ images) (source ∷ sources) =
+    IsDataOf trailers image source × AreDataOf trailers images sources
+AreDataOf trailers [] (source ∷ sources) = ⊥
+AreDataOf trailers (image ∷ images) [] = ⊥
+
+-- whether the images of a line stay in their files, however few bytes they have
+abbrev pub stay_in_files : Line → Bool
+stay_in_files line = line.in_files || line.device
+
+-- the data of images are read from nothing, since all bytes are held
+abbrev pub AreHeldWhole : Bool → List Source → Type 0
+AreHeldWhole whole sources = (whole ≡ true) × (sources ≡ [])
+
+-- files reported their sizes: all are regular, and have at most 32 MiB together
+pub record AreSmall (told : List (Option ℕ)) : Type 0 where
+  pub sizes : List ℕ
+  pub told_is : told ≡ map Some sizes
+  pub few : sum sizes ≤ 2 ^ 25
+
+-- images are read in full: if their line says so, or if their files reported small sizes and the
+-- line leaves no image in its file
+abbrev pub AreReadWhole : Line → List (Option ℕ) → Type 0
+AreReadWhole line told = (line.whole ≡ true) ⊎ ((stay_in_files line ≡ false) × AreSmall told)
+
+-- how the images of a line are loaded, by what the file of each has told of its size: whole, or
+-- else so
+pub record IsLoadingOf (line : Line) (otherwise loading : Loading) : Type 0 where
+  pub told : List (Option ℕ)
+  pub each : length told ≡ vec_len line.images
+  pub is : (AreReadWhole line told × (loading ≡ Whole))
+      ⊎ ((¬ AreReadWhole line told) × (loading ≡ otherwise))
+
+-- what the data of the images of a line are read from, by what the file of each has told of its
+-- size: from nothing, where they are read in full; else each from a source of its own
+pub record HaveSources (line : Line) (whole : Bool) (images : List (List ℕ))
+    (sources : List Source) : Type 0 where
+  pub told : List (Option ℕ)
+  pub each : length told ≡ vec_len line.images
+  pub read : AreReadWhole line told → AreHeldWhole whole sources
+  pub left : ¬ AreReadWhole line told → AreDataOf (trailers_of line) images sources
+  pub either : AreHeldWhole whole sources ⊎ AreDataOf (trailers_of line) images sources
+
+-- the images of a line are good, and this is their stack with the sources of their data
+pub record ArePrepared (line : Line) (images : List (List ℕ)) (by : Sourced) : Type 0 where
+  pub stacked : AreStacked (profile_of line) line.owner images by.stack
+  pub sources : HaveSources line by.stack.whole images by.sources
+
+-- why images are not stacked: one of them is to blame, or their number, or memory ran out
+pub record AreNotStacked (profile : Profile) (images : List (List ℕ))
+    (fault : ImagesFault) : Type 0 where
+  pub refusal : Refusal
+  pub told : fault ≡ refusal_told_of refusal
+  pub refused : AreRefused profile images refusal

@@ -1,0 +1,10 @@
+pub mod Faults
+pub mod Texts
+pub mod Images
+pub mod Lines
+pub mod Checking
+pub mod Listing
+pub use Rattle.strata_words.specs.CommandLine
+pub use Rattle.devices.specs.States
+pub use Rattle.stack_prepare.specs.Layers
+pub use Rattle.stack_prepare.specs.Preparing

@@ -1,0 +1,39 @@
+-- What the program prints about images.
+use Rattle.std.specs.Prelude.{ℕ, ◌+◌, ◌-◌, List, [], ◌∷◌, ◌++◌, length, replicate, codes, false}
+use Rattle.std.specs.Fmt.{decimal, digits}
+use Rattle.romfs_format.specs.declared.rule.ImageFault.{ImageFault}
+use Rattle.romfs_format.specs.Texts.{text_of}
+use Rattle.strata_images.specs.declared.faults.ImagesFault.{ImagesFault}
+use Rattle.strata_images.specs.declared.faults.ImagesFault.TheVariants.{Unread, Broken, Layers, Write, Memory}
+
+-- a place in an image as eight hexadecimal digits: zeros (48) and then its own
+abbrev pub place_text : ℕ → List ℕ
+place_text place = replicate (8 - length (digits 16 false place)) 48 ++ digits 16 false place
+
+-- the line of an image that breaks a rule, by its number, without its end
+abbrev pub broken_text : ℕ → ImageFault → List ℕ
+broken_text image fault =
+    codes "layer " ++ (decimal image
+    ++ (codes " at " ++ (place_text fault.place ++ (codes ": " ++ text_of fault.rule))))
+
+-- the line of a fault, without its end
+abbrev pub fault_text : ImagesFault → List ℕ
+fault_text (Unread image) = codes "image " ++ (decimal image ++ codes ": cannot be read")
+fault_text (Broken image fault) = broken_text image fault
+fault_text (Layers count) = codes "layers: " ++ (decimal count ++ codes ", allowed 1 to 128")
+fault_text Write = codes "write fault"
+fault_text Memory = codes "out of memory"
+
+-- a line for each of these, numbered from this number on
+unfoldable pub numbered_lines : {X : Type 0} → (ℕ → X → List ℕ) → ℕ → List X → List ℕ
+numbered_lines line n [] = []
+numbered_lines line n (x ∷ xs) = line n x ++ numbered_lines line (n + 1) xs
+
+-- the line of an image that was checked, by its number and its size in bytes
+abbrev pub size_line : ℕ → ℕ → List ℕ
+size_line layer size =
+    codes "layer " ++ (decimal layer ++ (codes ": " ++ (decimal size ++ codes " bytes\n")))
+
+-- the lines of images that were checked, numbered from this one on
+abbrev pub size_lines : ℕ → List ℕ → List ℕ
+size_lines = numbered_lines size_line

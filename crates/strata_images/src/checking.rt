@@ -1,0 +1,86 @@
+//! The command `check`.
+
+ghost use Rattle.std.specs.Prelude.{◌≡◌, ◌<◌, ◌^◌, length, string_bytes, OnOk, IfOk, IfErr};
+ghost use Rattle.romfs_format.specs.Fields.{image};
+ghost use Rattle.romfs_format.specs.Rules.{IsSound};
+ghost use Rattle.romfs_files.specs.Opening.{loaded_bytes, loaded_contents};
+ghost use Rattle.strata_images.specs.Checking.{AreGood, AreNotGood, AreSizes, IsFirstFault, IsImageFault};
+ghost use Rattle.strata_images.specs.Texts.{size_lines};
+
+use crate::faults::ImagesFault;
+use crate::lines::put_lines;
+use devices::Sink;
+use romfs_files::LoadedImage;
+use romfs_image::{CheckFault, Profile, check_held};
+use std::alloc::{AllocError, Allocator};
+use std::io::Write;
+use std::os::unix::fs::FileExt;
+
+/// Checks the images in order, by what is held of them, and puts a line for each if all are good.
+/// Else nothing is put.
+pub fn check<F: FileExt + Drop, A: Allocator + Copy, K: Sink>(
+    alloc: A,
+    images: Vec<LoadedImage<F, A>, A>,
+    profile: Profile,
+    output: &mut K,
+) -> Result<(), ImagesFault>
+    requires { (K.state output.old).counts.failures < 2 ^ 63 }
+    ensures done { OnOk result (AreGood profile (loaded_contents images)
+        (K.state output.old) (K.state output.new)) }
+    ensures stopped { IfErr result (λ fault. AreNotGood profile (loaded_contents images) fault
+        (K.state output.old) (K.state output.new)) }
+{
+    let sizes = checked_sizes(alloc, images, profile)?;
+    let lines = lines_of(alloc, sizes.as_slice())?;
+    Ok(put_lines(output, lines.as_bytes())?)
+}
+
+// A line for each of these sizes in bytes, by the number of its image.
+fn lines_of<A: Allocator>(alloc: A, sizes: &[u32]) -> Result<String<A>, AllocError>
+    ensures { IfOk result (λ lines. string_bytes lines ≡ size_lines 0 sizes.now) }
+{
+    let mut lines = String::new(alloc);
+    for (layer, size) in sizes.iter().enumerate() {
+        writeln!(lines, "layer {layer}: {size} bytes")?;
+    }
+    Ok(lines)
+}
+
+// How many bytes of each image are accessible, if all are good. Else it names the fault of the
+// first that is not.
+fn checked_sizes<F: FileExt + Drop, A: Allocator + Copy>(
+    alloc: A,
+    images: Vec<LoadedImage<F, A>, A>,
+    profile: Profile,
+) -> Result<Vec<u32, A>, ImagesFault>
+    ensures ok { IfOk result (λ sizes. AreSizes profile (loaded_contents images) sizes.items) }
+    ensures err { IfErr result (λ fault. IsFirstFault profile (loaded_contents images) fault) }
+{
+    let mut sizes = Vec::with_capacity(alloc, images.len())?;
+    for loaded in images {
+        let image = sizes.len() as u64;
+        sizes.push(checked_size(alloc, image, loaded, profile)?)?;
+    }
+    Ok(sizes)
+}
+
+// How many bytes of the image of this number are accessible.
+fn checked_size<F: FileExt + Drop, A: Allocator + Copy>(
+    alloc: A,
+    number: u64,
+    loaded: LoadedImage<F, A>,
+    profile: Profile,
+) -> Result<u32, ImagesFault>
+    ensures ok { IfOk result (λ full. (full ≡ length (image (loaded_bytes loaded)))
+        × IsSound profile (loaded_bytes loaded)) }
+    ensures err { IfErr result (λ fault. IsImageFault profile number (loaded_bytes loaded) fault) }
+{
+    match check_held(alloc, loaded.held, profile) {
+        Ok((image, _rows)) => Ok(image.full()),
+        Err(CheckFault::Broken(fault)) => Err(ImagesFault::Broken {
+            image: number,
+            fault,
+        }),
+        Err(CheckFault::Memory) => Err(ImagesFault::Memory),
+    }
+}

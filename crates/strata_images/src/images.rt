@@ -1,0 +1,134 @@
+//! The images of a line, as they are read: in full, or what the rules check.
+
+ghost use Rattle.std.specs.Prelude.{◌≡◌, ◌↔◌, ℕ, List, Option, length, vec_len, IfOk, IfErr, IsTrue};
+ghost use Rattle.strata_images.specs.Faults.{AreUnread};
+ghost use Rattle.strata_images.specs.Images.{AreHeldFor, AreReadWhole, AreSmall, IsLoadingOf, NamesAsMany, HaveSources, are_whole, bytes_of, sources_of, trailers_of};
+
+use crate::faults::ImagesFault;
+use romfs_files::{ImageData, LoadedImage, Loading, Trailers, apart, load};
+use romfs_held::HeldImage;
+use std::alloc::Allocator;
+use std::fs;
+use std::fs::Files;
+use std::os::unix::fs::FileExt;
+use std::thread::Threads;
+use strata_words::Line;
+
+/// The most bytes, in all, of images that are read in full if no mount is served: to read this many
+/// takes less time than to gather what the rules check.
+const SMALL_STACK: u64 = 32 << 20;
+
+/// The images of a line, the lowest layer first: what is held of them, and what the data of each
+/// are read from, where they are not held whole.
+#[derive(Drop)]
+pub struct LineImages<F: FileExt, A: Allocator> {
+    pub held: Vec<HeldImage<A>, A>,
+    pub files: Vec<ImageData<F, A>, A>,
+}
+
+/// The images of a line that serves or lists. They are read in full with `--whole`, or if they are
+/// regular files of at most [`SMALL_STACK`] bytes together and the line neither has `--in-files`
+/// nor serves a device; otherwise they stay in their files.
+pub fn open_all<R: Files + Threads + Sync, A: Allocator + Copy + Send + Sync>(
+    rt: &R,
+    alloc: A,
+    line: &Line<'_>,
+) -> Result<LineImages<R::File, A>, ImagesFault>
+where
+    R::File: FileExt + Send,
+    R::Dir: Send,
+    ensures named { IfOk result (λ images. NamesAsMany line.now (bytes_of images.held)) }
+    ensures sources { IfOk result (λ images.
+        HaveSources line.now (are_whole images.held) (bytes_of images.held)
+        (sources_of images.files)) }
+    ensures err { IfErr result (AreUnread (vec_len line.now.images)) }
+{
+    let loading = loading_of(rt, line, Loading::Open(trailers_of(line)));
+    let images = load(rt, alloc, line.images.as_slice(), loading)?;
+    let (held, files) = apart(alloc, images)?;
+    Ok(LineImages { held, files })
+}
+
+/// What is held of the images of a line that checks, none of which stays open. They are read in
+/// full if those of a line that lists are; otherwise it is what the rules check.
+pub fn gather_all<R: Files + Threads + Sync, A: Allocator + Copy + Send + Sync>(
+    rt: &R,
+    alloc: A,
+    line: &Line<'_>,
+) -> Result<Vec<LoadedImage<R::File, A>, A>, ImagesFault>
+where
+    R::File: FileExt + Send,
+    R::Dir: Send,
+    ensures ok { IfOk result (λ images. vec_len images ≡ vec_len line.now.images) }
+    ensures held { IfOk result (λ images.
+        AreHeldFor line.now R.File.remaining images.items) }
+    ensures err { IfErr result (AreUnread (vec_len line.now.images)) }
+{
+    let loading = loading_of(rt, line, Loading::Gather(trailers_of(line)));
+    Ok(load(rt, alloc, line.images.as_slice(), loading)?)
+}
+
+// How the images of a line are loaded: all bytes where they are read in full, else so.
+fn loading_of<R: Files>(rt: &R, line: &Line<'_>, otherwise: Loading) -> Loading
+    ensures { IsLoadingOf line.now otherwise result }
+{
+    if are_read_whole(rt, line) {
+        return Loading::Whole;
+    }
+    otherwise
+}
+
+// Whether the images of a line are read in full: with `--whole`; or if they are small together, and
+// need not stay in their files.
+fn are_read_whole<R: Files>(rt: &R, line: &Line<'_>) -> bool
+    ensures { (told : List (Option ℕ)) × (length told ≡ vec_len line.now.images)
+        × (IsTrue result ↔ AreReadWhole line.now told) }
+{
+    if line.whole {
+        return true;
+    }
+    if line.in_files || line.device {
+        return false;
+    }
+    are_small(rt, line.images.as_slice())
+}
+
+// Whether these are regular files of at most [`SMALL_STACK`] bytes together. Those behind the first
+// that is none, or too large, are not asked.
+fn are_small<R: Files>(rt: &R, paths: &[&str]) -> bool
+    ensures { (told : List (Option ℕ)) × (length told ≡ length paths.now)
+        × (IsTrue result ↔ AreSmall told) }
+{
+    let mut rest = SMALL_STACK;
+    for path in paths {
+        let Some(len) = regular_len(rt, path) else {
+            return false;
+        };
+        if rest < len {
+            return false;
+        }
+        rest -= len;
+    }
+    true
+}
+
+// How many bytes a regular file has.
+fn regular_len<R: Files>(rt: &R, path: &str) -> Option<u64> {
+    let metadata = fs::metadata(rt, path).ok()?;
+    if metadata.is_file() {
+        Some(metadata.len())
+    } else {
+        None
+    }
+}
+
+// Whether the trailers of a line's images are read: if it has `--attributes`.
+fn trailers_of(line: &Line<'_>) -> Trailers
+    ensures { result ≡ trailers_of line.now }
+{
+    if line.attributes {
+        Trailers::Read
+    } else {
+        Trailers::Left
+    }
+}

@@ -1,0 +1,74 @@
+//! What is held of the images of a line, by what loading and preparing promise.
+
+ghost use Rattle.std.specs.Prelude.{◌≡◌, ◌⊎◌, ◌↔◌, ℕ, List, [], true, false, length, Some};
+ghost use Rattle.romfs_format.specs.Profiles.{asks_sums, reads_attributes};
+ghost use Rattle.romfs_format.specs.Rules.{IsSound};
+ghost use Rattle.romfs_image.specs.declared.refusal.CheckFault.{CheckFault};
+ghost use Rattle.romfs_image.specs.Refusals.{IsRefusal};
+ghost use Rattle.devices.specs.Sources.{Source, Shows};
+ghost use Rattle.romfs_files.specs.Loaded.{WasGathered};
+ghost use Rattle.romfs_files.specs.Opening.{IsHeldWhole, loaded_bytes};
+ghost use Rattle.romfs_files.specs.declared.loaded.LoadedImage.{LoadedImage};
+ghost use Rattle.reply_model.specs.Readings.{Sourced, in_memory};
+ghost use Rattle.strata_words.specs.declared.options.Line.{Line};
+ghost use Rattle.strata_images.specs.Images.{ArePrepared, AreReadWhole, profile_of, trailers_of};
+
+use std::alloc::Allocator;
+use std::os::unix::fs::FileExt;
+
+/// The data of images that are read in full are read from nothing, as with `--whole`: what is
+/// promised over their stack is what is promised over a held stack, and a READ is answered with
+/// their bytes. And only the data of a stack whose bytes are all held are read from nothing.
+#[tactic(auto, using(crate::proofs::Opened::read_held, crate::proofs::Opened::whole_held, crate::proofs::Opened::held_whole))]
+pub fn whole_images_are_held()
+    ensures read { (line : Line) (images : List (List ℕ)) (by : Sourced)
+        (p : ArePrepared line images by) → AreReadWhole line p.sources.told →
+        by ≡ in_memory by.stack }
+    ensures asked { (line : Line) (images : List (List ℕ)) (by : Sourced) → line.whole ≡ true →
+        ArePrepared line images by → by ≡ in_memory by.stack }
+    ensures held { (line : Line) (images : List (List ℕ)) (by : Sourced) → by.sources ≡ [] →
+        ArePrepared line images by → by.stack.whole ≡ true }
+{}
+
+/// The data of images that are not read in full are read from a source for each, as over a device,
+/// and with `--in-files`, if the line does not have `--whole`.
+#[tactic(auto, using(crate::proofs::Opened::left_in_files, crate::proofs::Opened::in_their_files))]
+pub fn images_stay_in_their_files()
+    ensures left { (line : Line) (images : List (List ℕ)) (by : Sourced)
+        (p : ArePrepared line images by) → (AreReadWhole line p.sources.told → ⊥) →
+        length by.sources ≡ length images }
+    ensures said { (line : Line) (images : List (List ℕ)) (by : Sourced) → line.whole ≡ false →
+        (line.in_files ≡ true) ⊎ (line.device ≡ true) → ArePrepared line images by →
+        length by.sources ≡ length images }
+{}
+
+/// What is kept of an image besides its data is judged by the rules of a line as whatever bytes
+/// these show, with attributes and without.
+#[tactic(auto, using(crate::proofs::Rules::judged))]
+pub fn opened_images_are_judged_as_their_data()
+    ensures { (line : Line) (source : Source) (bytes image : List ℕ) →
+        Shows source bytes → WasGathered (trailers_of line) source image →
+        (IsSound (profile_of line) image ↔ IsSound (profile_of line) bytes)
+        × ((fault : CheckFault) → IsRefusal (profile_of line) image fault
+        ↔ IsRefusal (profile_of line) bytes fault) }
+{}
+
+/// An image held in full, such as one from a pipe, is judged as all bytes of its file are, if these
+/// are known.
+#[tactic(auto, using(crate::proofs::Rules::judged_whole))]
+pub fn whole_images_are_judged_as_their_files<F: FileExt, A: Allocator>()
+    ensures { (line : Line) (bytes : List ℕ) (image : LoadedImage F A) →
+        IsHeldWhole (Some bytes) image →
+        (IsSound (profile_of line) (loaded_bytes image) ↔ IsSound (profile_of line) bytes)
+        × ((fault : CheckFault) → IsRefusal (profile_of line) (loaded_bytes image) fault
+        ↔ IsRefusal (profile_of line) bytes fault) }
+{}
+
+/// A line has an option each for sums and for attributes, and its stack has its owner.
+#[tactic(auto, using(crate::proofs::Rules::asks, crate::proofs::Rules::reads))]
+pub fn lines_say_their_rules()
+    ensures sums { (line : Line) → asks_sums (profile_of line) ≡ line.strict }
+    ensures attributes { (line : Line) → reads_attributes (profile_of line) ≡ line.attributes }
+    ensures owner { (line : Line) (images : List (List ℕ)) (by : Sourced) →
+        ArePrepared line images by → by.stack.owner ≡ line.owner }
+{}

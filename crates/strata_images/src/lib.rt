@@ -1,0 +1,31 @@
+//! The images of a line: read, checked, stacked, and what the program prints of them.
+//!
+//! [`open_all`] reads the images of a line that serves or lists, [`gather_all`] those of one that
+//! checks. Images stay in their files: what the rules check is read at once, all else on demand.
+//! With `--whole`, and for a small stack that no mount shows, all their bytes are read at first,
+//! and held. [`prepare`] makes one table of them, with the files that it reads from; `specs/Images`
+//! says what that is. [`check`] and [`list`] are the two commands that serve nothing.
+//! [`ImagesFault`] has a line and an exit status for each thing that can go wrong with images.
+//!
+//! It stands on `strata_words` for the line, `romfs_files` for the files of images,
+//! `stack_prepare`, which checks images and stacks them, and `node_list`, which writes the paths
+//! that a stack shows. Nothing here serves: `strata` does, and is proved beside this for the most
+//! part.
+#![tactic(auto)]
+
+mod checking;
+mod faults;
+mod images;
+pub mod laws;
+mod lines;
+mod listing;
+mod preparing;
+mod profile;
+
+pub use checking::check;
+pub use faults::ImagesFault;
+pub use images::{LineImages, gather_all, open_all};
+pub use lines::{put_lines, write_bytes};
+pub use listing::list;
+pub use preparing::prepare;
+pub use profile::profile_of;
