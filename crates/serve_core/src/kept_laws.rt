@@ -130,10 +130,12 @@ pub fn shown_images_are_served()
         WereGatheredFrom profile sources kept → AreShown sources images → (r : Refusal) →
         (AreRefused profile kept r ↔ AreRefused profile images r) }
     ensures served { (profile : Profile) (owner : Owner) (by : Sourced)
-        (images kept : List (List ℕ)) → WereGatheredFrom profile by.sources kept → AreStacked profile owner kept by.stack →
+        (images kept : List (List ℕ)) → WereGatheredFrom profile by.sources kept →
+        AreStacked profile owner kept by.stack →
         AreShown by.sources images → AreServedAs profile owner by images }
     ensures stacks { (profile : Profile) (owner : Owner) (by : Sourced)
-        (images kept : List (List ℕ)) → WereGatheredFrom profile by.sources kept → AreStacked profile owner kept by.stack →
+        (images kept : List (List ℕ)) → WereGatheredFrom profile by.sources kept →
+        AreStacked profile owner kept by.stack →
         AreShown by.sources images → AreStacksOf images by.stack (over images by.stack) }
     ensures held { (profile : Profile) (images kept : List (List ℕ)) →
         WereGatheredFor profile images kept → WereGatheredFrom profile (map held images) kept }
