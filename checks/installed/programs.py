@@ -70,7 +70,7 @@ def alone(root):
     server, = servers()
     with open("/proc/%d/environ" % server, "rb") as it:
         names = [part.partition(b"=")[0] for part in it.read().split(b"\0")]
-        hold("the server's environment", [b"MALLOC_MMAP_THRESHOLD_", b"PATH", b""], names)
+        hold("the server's environment", [b"MALLOC_MMAP_THRESHOLD_", b"GLIBC_TUNABLES", b"PATH", b""], names)
     root.good("umount", "/mnt/alone")
     return "modules and programs of strangers in the working folder, PYTHONPATH and PATH are not met" + other_alone(root, words, env)
 
