@@ -1,20 +1,15 @@
 -- What was gathered from sources was gathered from the images that they show (gathered_of), so it is refused for what these are refused for
--- (shown_refused), and served as they are (shown_stacks, shown_good, shown_told, shown_moved). Memory shows what it has (from_held,
--- held_shown).
-use Rattle.std.proofs.Common.{◌≡◌, subst, List, [], ◌∷◌, ℕ, ◌↔◌, map}
+-- (shown_refused), and served as they are (shown_stacks, shown_served). Memory shows what it has (from_held, held_shown).
+use Rattle.std.proofs.Common.{subst, List, [], ◌∷◌, ℕ, ◌↔◌, map}
 use Rattle.devices.specs.Sources.{Source, held}
-use Rattle.fuse_wire.specs.Requests.{Asked}
 use Rattle.romfs_format.specs.declared.rule.Profile.{Profile}
 use Rattle.stack_model.specs.declared.owner.Owner.{Owner}
 use Rattle.stack_prepare.specs.declared.refusal.Refusal.{Refusal}
 use Rattle.stack_prepare.specs.Layers.{AreRefused}
 use Rattle.stack_prepare.specs.Preparing.{AreStacked}
-use Rattle.reply_model.specs.declared.session.Session.{Session}
 use Rattle.reply_model.specs.Holding.{AreHeldBy}
-use Rattle.reply_model.specs.Moves.{moves}
-use Rattle.reply_model.specs.Readings.{Sourced, AreShown, IsReplyOver, IsRightOver}
-use Rattle.reply_model.specs.Replies.{reply}
-use Rattle.serve_core.specs.Kept.{WasGatheredFor, WereGatheredFor, WereGatheredFrom, AreStacksOf, over}
+use Rattle.reply_model.specs.Readings.{Sourced, AreShown}
+use Rattle.serve_core.specs.Kept.{WasGatheredFor, WereGatheredFor, WereGatheredFrom, AreStacksOf, AreServedAs, over}
 use Rattle.serve_core.proofs.Answered.{told_right, moved_alike}
 use Rattle.serve_core.proofs.Refused.{refused_alike}
 use Rattle.serve_core.proofs.Stacking.{stacked_back}
@@ -44,15 +39,12 @@ module _ (profile : Profile) (owner : Owner) (by : Sourced) (images kept : List 
     of_images = stacked_back profile images kept (gathered_of profile by.sources images kept g s) owner by.stack stacked;
   }
 
-  pub shown_good : AreStacked profile owner images (over images by.stack)
-  shown_good = stacked_back profile images kept (gathered_of profile by.sources images kept g s) owner by.stack stacked
-
-  pub shown_told : (t : Session) (q : Asked) (bytes : List ℕ) → IsReplyOver by t q bytes
-      → IsRightOver by (reply (over images by.stack) t q) q bytes
-  shown_told = told_right images by.stack (over images by.stack) shown_stacks by.sources s
-
-  pub shown_moved : (t : Session) (q : Asked) → moves by.stack t q ≡ moves (over images by.stack) t q
-  shown_moved = moved_alike images by.stack (over images by.stack) shown_stacks
+  pub shown_served : AreServedAs profile owner by images
+  shown_served = record {
+    good = stacked_back profile images kept (gathered_of profile by.sources images kept g s) owner by.stack stacked;
+    told = told_right images by.stack (over images by.stack) shown_stacks by.sources s;
+    moved = moved_alike images by.stack (over images by.stack) shown_stacks;
+  }
 
 -- what was gathered from images was gathered so from memory that has them
 pub from_held : (profile : Profile) (images kept : List (List ℕ)) → WereGatheredFor profile images kept

@@ -27,7 +27,7 @@ ghost use Rattle.serve_loop.specs.declared.done.Done.{Done};
 ghost use Rattle.serve_loop.specs.Serving.{AreRepliesTo, Trace};
 ghost use Rattle.serve_loop.specs.Laws.{HasServed};
 ghost use Rattle.serve_core.specs.Headline.{AreRightReplies, HasServedOver, HasServedRight};
-ghost use Rattle.serve_core.specs.Kept.{WereGatheredFor, WereGatheredFrom, AreStacksOf, over};
+ghost use Rattle.serve_core.specs.Kept.{WereGatheredFor, WereGatheredFrom, AreStacksOf, AreServedAs, over};
 
 use std::alloc::Allocator;
 
@@ -122,31 +122,21 @@ pub fn streams_are_served_as_over_them<A: Allocator>()
 
 /// What was gathered from sources is served as any images are that the sources show: it is refused
 /// for what they are refused for; and once it is stacked they are good, each reply is the one that
-/// is defined over them, or EIO where the source may lack its data, and the same lookups are moved.
-/// So is a stream, since both stacks are those of these images. A sealed source shows any bytes
-/// with its digest, unless a read gives, in the place of a block of theirs or of their tree,
-/// another block with that block's digest. Bytes in memory show themselves.
+/// is defined over them, or EIO in place of data, and the same lookups are moved. A sealed source
+/// shows any bytes with its digest, unless a read gives, in the place of a block of theirs or of
+/// their tree, another block with that block's digest. Bytes in memory show themselves.
 pub fn shown_images_are_served()
     ensures refused { (profile : Profile) (sources : List Source) (images kept : List (List ℕ)) →
         WereGatheredFrom profile sources kept → AreShown sources images → (r : Refusal) →
         (AreRefused profile kept r ↔ AreRefused profile images r) }
-    ensures good { (profile : Profile) (owner : Owner) (by : Sourced)
+    ensures served { (profile : Profile) (owner : Owner) (by : Sourced)
         (images kept : List (List ℕ)) → WereGatheredFrom profile by.sources kept →
-        AreStacked profile owner kept by.stack → AreShown by.sources images →
-        AreStacked profile owner images (over images by.stack) }
-    ensures told { (profile : Profile) (owner : Owner) (by : Sourced)
-        (images kept : List (List ℕ)) → WereGatheredFrom profile by.sources kept →
-        AreStacked profile owner kept by.stack → AreShown by.sources images →
-        (s : Session) (q : Asked) (bytes : List ℕ) → IsReplyOver by s q bytes →
-        IsRightOver by (reply (over images by.stack) s q) q bytes }
-    ensures moved { (profile : Profile) (owner : Owner) (by : Sourced)
-        (images kept : List (List ℕ)) → WereGatheredFrom profile by.sources kept →
-        AreStacked profile owner kept by.stack → AreShown by.sources images →
-        (s : Session) (q : Asked) → moves by.stack s q ≡ moves (over images by.stack) s q }
+        AreStacked profile owner kept by.stack →
+        AreShown by.sources images → AreServedAs profile owner by images }
     ensures stacks { (profile : Profile) (owner : Owner) (by : Sourced)
         (images kept : List (List ℕ)) → WereGatheredFrom profile by.sources kept →
-        AreStacked profile owner kept by.stack → AreShown by.sources images →
-        AreStacksOf images by.stack (over images by.stack) }
+        AreStacked profile owner kept by.stack →
+        AreShown by.sources images → AreStacksOf images by.stack (over images by.stack) }
     ensures held { (profile : Profile) (images kept : List (List ℕ)) →
         WereGatheredFor profile images kept → WereGatheredFrom profile (map held images) kept }
     ensures shown { (sources : List Source) (images : List (List ℕ)) →
