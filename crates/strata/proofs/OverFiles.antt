@@ -1,7 +1,7 @@
 -- What was gathered from images for a line. It was, where the line's sources hold images (of_files). The images can be stacked
 -- (good_of_files), and requests get what is defined over them, if reads give their bytes (told_of_files); whatever reads give, all but
 -- READs do (told_others).
-use Rattle.std.proofs.Common.{◌≡◌, ◌≢◌, ◌∙◌, ◌≤◌, ◌⊎◌, ◌↔◌, sym, ap, subst, ℕ, inl, inr, List, [], ◌∷◌, Bool, true, false, length, map, Some, None, arith, refl, if◌then◌else◌}
+use Rattle.std.proofs.Common.{◌≡◌, ◌≢◌, ◌∙◌, ◌≤◌, ◌⊎◌, ◌↔◌, ◌||◌, sym, ap, subst, ℕ, inl, inr, List, [], ◌∷◌, Bool, true, false, length, map, Some, None, arith, refl, if◌then◌else◌}
 use Rattle.std.specs.Prelude.{slice_index_or}
 use Rattle.devices.specs.Sources.{Source, held, unknown}
 use Rattle.romfs_files.specs.declared.loaded.Trailers.{Trailers}
@@ -19,7 +19,7 @@ use Rattle.serve_core.specs.Kept.{WereGatheredFor, AreStacksOf, over}
 use Rattle.serve_core.proofs.Answered as answered
 use Rattle.serve_core.proofs.Stacking.{stacked_back}
 use Rattle.strata_words.specs.declared.options.Line.{Line}
-use Rattle.strata_images.specs.Images.{profile_of, trailers_of, IsDataOf, AreDataOf, AreHeldWhole, ArePrepared}
+use Rattle.strata_images.specs.Images.{asks_attributes, profile_of, reports_trailers, trailers_of, IsDataOf, AreDataOf, AreHeldWhole, ArePrepared}
 use Rattle.strata_images.proofs.Rules.{reads}
 
 -- sources that hold different bytes differ
@@ -40,18 +40,21 @@ one_gathered : (t : Trailers) (a b : List ℕ) → IsDataOf t a (held b) → Was
 one_gathered t a b (inl e) = absurd (not_unknown b e)
 one_gathered t a b (inr (bytes, e, g)) = subst (λ c. WasGathered t (Some c) a) (sym (held_one b bytes e)) g
 
--- with the trailer, where attributes are asked for
-by_trailers : (attributes reads : Bool) (b a : List ℕ) → reads ≡ attributes → WasGathered (if attributes then Read else Left) (Some b) a
+-- with the trailer, if attributes are asked for or trailers reported
+by_trailers : (attributes reports reads : Bool) (b a : List ℕ) → reads ≡ attributes
+    → WasGathered (if attributes || reports then Read else Left) (Some b) a
     → IsGatheredWithTrailerOf b a ⊎ ((reads ≡ false) × IsGatheredOf b a)
-by_trailers true reads b a e g = inl g
-by_trailers false reads b a e g = inr (e, g)
+by_trailers true reports reads b a e g = inl g
+by_trailers false true reads b a e g = inl g
+by_trailers false false reads b a e g = inr (e, g)
 
 module _ (line : Line) where
   all_gathered : (kept images : List (List ℕ)) → AreDataOf (trailers_of line) kept (map held images)
       → WereGatheredFor (profile_of line) images kept
   all_gathered [] [] d = tt
   all_gathered (a ∷ kept) (b ∷ images) d = (
-    by_trailers line.attributes (reads_attributes (profile_of line)) b a (reads line) (one_gathered (trailers_of line) a b d.0),
+    by_trailers (asks_attributes line) (reports_trailers line.verb) (reads_attributes (profile_of line)) b a (reads line)
+        (one_gathered (trailers_of line) a b d.0),
     all_gathered kept images d.1,
   )
   all_gathered [] (b ∷ images) d = absurd d
