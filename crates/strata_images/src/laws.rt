@@ -48,7 +48,6 @@ pub fn images_stay_in_their_files()
 
 /// What is kept of an image besides its data is judged by the rules of a line as whatever bytes
 /// these show, with attributes and without.
-#[tactic(auto, using(crate::proofs::Rules::judged))]
 pub fn opened_images_are_judged_as_their_data()
     ensures { (line : Line) (source : Source) (bytes image : List ℕ) →
         Shows source bytes → WasGathered (trailers_of line) source image →
