@@ -327,7 +327,7 @@ def ahead(room):
     names = [b"%02d" % number for number in range(FILES)]
     data = laid_out(b"v", [file(name.decode(), bytes(MIB)) for name in names])
     places = [data.index(name + b"\0") - 16 for name in names]
-    rows = trailer_of({at: said(0o644, 0, 0, 0, 0) for at in places})
+    rows = trailer_of({at: said(0o644, 0, 0, 0, 0) for at in places}, {})
     image = room.write(data + bytes(-len(data) % 16) + rows)
     number = uncached(image)
     fifo = os.path.join(room.folder, "fifo")

@@ -109,6 +109,12 @@ const ATTRIBUTES: Argument = Argument {
     help: "Read and show owners, modes and times from attribute trailers",
 };
 
+const AS_MOUNTED: Argument = Argument {
+    name: "as-mounted",
+    form: Form::Flag,
+    help: "Check as a mount does: with --attributes, and at most 128 images",
+};
+
 const WHOLE: Argument = Argument {
     name: "whole",
     form: Form::Flag,
@@ -203,7 +209,12 @@ fn socket<'a>(alloc: Global) -> Result<Command<'a>, AllocError>
 fn over_images<'a>(alloc: Global, name: &'a str, about: &'a str) -> Result<Command<'a>, AllocError>
     ensures { IsApp result (images_command name.entry.now) }
 {
-    command_with(alloc, name, about, &[STRICT, ATTRIBUTES, WHOLE, IMAGE])
+    command_with(
+        alloc,
+        name,
+        about,
+        &[AS_MOUNTED, STRICT, ATTRIBUTES, WHOLE, IMAGE],
+    )
 }
 
 // The command with this name and these arguments.
