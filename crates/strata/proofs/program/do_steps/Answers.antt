@@ -53,6 +53,9 @@ returns-in_ok-images-in-Serve g c =
     c.serve.ensures.done c.serve.ensures.stopped (λ d. d) (λ fault s. s) in
     record { over = λ words read. (both words read).0; stopped = λ words read. (both words read).1 }
 
+pub listen-requires-clause-socket : goal.listen-requires-clause-socket
+listen-requires-clause-socket g c κs within = c.requires.socket c.in-Socket.is
+
 pub returns-in_ok-images-in-Socket-clause-over : goal.returns-in_ok-images-in-Socket-clause-over
 returns-in_ok-images-in-Socket-clause-over g c = λ words is.
     let line = c.args.line.now in
