@@ -9,7 +9,9 @@
 //! hard links that were found are kept while the tree is made.
 
 ghost use Rattle.std.specs.Prelude.{◌≡◌, ◌≢◌, [], ◌∷◌, ◌++◌, ◌↔◌, length, All, IfOk, OnOk, IsTrue, MatchOption, is_some};
+ghost use Rattle.romfs_format.specs.Heads.{head_of, name_of};
 ghost use Rattle.romfs_reader.specs.Images.{IsImage};
+ghost use Rattle.romfs_reader.specs.Readers.{IsGiven};
 ghost use Rattle.layer_paths.specs.Trees.{IsTreeOf, entry_of};
 ghost use Rattle.layer_paths.specs.Rows.{NamesRise, named};
 ghost use Rattle.layer_tree.specs.Members.{members_in, IsRead};
@@ -19,6 +21,7 @@ use crate::ahead::NamesAhead;
 use crate::members::{KeyedMember, sorted_members, whiteout_of};
 use layer_paths::{Branch, Child, Entry, Mark, Name, Place, Tree, child, is_marker, merge};
 use romfs_format::limits::MAX_NAMES;
+use romfs_held::NamedHead;
 use romfs_reader::{Ends, Head, Image, ImageView, Kind};
 use std::alloc::{AllocError, Allocator};
 
@@ -127,6 +130,19 @@ fn directory<A: Allocator + Copy>(
     folder(layer, name, head, &members, below)
 }
 
+/// A header at which the image gave one before, and its name of a known length: apart from the
+/// level that goes deeper, whose stack stays small.
+#[inline(never)]
+fn given_named<'a>(image: &ImageView<'a>, offset: u32, name_len: u32) -> NamedHead<'a>
+    requires head { IsGiven image.now (head_of image.now offset) }
+    requires name { name_len ≡ length (name_of image.now offset) }
+    ensures value { result.head ≡ head_of image.now offset }
+    ensures given { IsGiven image.now result.head }
+    ensures name { result.name.now ≡ name_of image.now offset }
+{
+    image.given_named(offset, name_len)
+}
+
 /// The branches of members that are no markers, in the same order.
 #[cycle(reading)]
 fn branches_below<A: Allocator + Copy>(
@@ -151,7 +167,7 @@ fn branches_below<A: Allocator + Copy>(
     let mut ahead = NamesAhead::new();
     for member in members {
         ahead.pass(layer.image, members);
-        let it = layer.image.given_named(member.offset, member.name_len);
+        let it = given_named(layer.image, member.offset, member.name_len);
         if is_marker(it.name) {
             continue;
         }
