@@ -75,6 +75,13 @@ def shown(attributes):
 
 # --- what is shown ---
 
+def is_closed(of):
+    """Whether a directory of an owner or a group that the kernel does not know is closed to root, too."""
+    mode, user, group, *_ = of
+    bits = mode >> 3 if group in {os.getegid(), *os.getgroups()} else mode
+    return NO_OWNER in (user, group) and not bits & 1
+
+
 def attributes(room):
     """Random stacks, some of whose layers have trailers, against the plain reading."""
     need_root(room)
@@ -87,6 +94,8 @@ def attributes(room):
             continue
         mount = room.mount([room.write(data) for data in images], "-o", "uid=7,gid=8")
         for path, number in stack.paths.items():
+            if any(is_closed(stack.attributes(stack.paths[path[:n]])) for n in range(len(path))):
+                continue
             wanted, it = shown(stack.attributes(number)), os.lstat(mount.path(*path))
             hold("stack %d: %r" % (stacks, path), wanted, facts(mount.path(*path)))
             hold("times of %r" % (path,), {it.st_mtime_ns}, {it.st_atime_ns, it.st_ctime_ns})
