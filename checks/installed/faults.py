@@ -89,21 +89,34 @@ def not_permitted(root):
 
 
 def device(root):
-    """A device that the user may not open, without fusermount3: a device file of mode 600 over it."""
-    root.needs("setpriv")
+    """A device that the user may not open: a device file of mode 600 over it; and another device over it."""
+    root.needs("fusermount3", "setpriv", "unshare")
     root.install()
     other = user(root)
     os.mkdir("/mnt/other")
     os.chown("/mnt/other", OTHER, OTHER)
     os.mknod("/tmp/closed", 0o600 | stat.S_IFCHR, os.stat("/dev/fuse").st_rdev)
     mount("/tmp/closed", "/dev/fuse", None, BIND)
+    words = (*other, "strata-mount", "/srv/lower.romfs", "/mnt/other")
+    hold_closed(root.run(*words))
+    hold_closed(root.run(*other, "unshare", "-rm", *words[len(other):]))
     while helper := shutil.which("fusermount3"):
         os.unlink(helper)
-    done = root.run(*other, "strata-mount", "/srv/lower.romfs", "/mnt/other")
-    hold("the device", (1, "strata-mount: /dev/fuse: Permission denied"), (done.status, done.err.splitlines()[0]))
-    hold_in("the device", "this user may not open it, and there is no fusermount3", done.err)
-    hold("lines", 2, len(done.err.splitlines()))
-    return "said to a user who may not open /dev/fuse"
+    hold_closed(root.run(*words))
+    mount("/dev/null", "/dev/fuse", None, BIND)
+    line = "strata-mount: /dev/fuse: not FUSE's device, which root makes by `mknod -m 666 /dev/fuse c 10 229`\n"
+    for who in ((), other):
+        done = root.run(*who, "strata-mount", "/srv/lower.romfs", "/mnt/other")
+        hold("another device", (1, line), (done.status, done.err))
+    return "said to a user who may not open /dev/fuse, with and without fusermount3, and where it is another device"
+
+
+def hold_closed(done):
+    """Holds what is said to a user who may not open the device."""
+    hint = ("this user may not open it, nor may fusermount3 for this user: `chmod 666 /dev/fuse` as root lets all users "
+            "mount, as udev does")
+    lines = "strata-mount: /dev/fuse: Permission denied\nstrata-mount: %s\n" % hint
+    hold("the device", (1, lines), (done.status, done.err))
 
 
 def archive(names):

@@ -9,6 +9,9 @@ from strata_mount.options import CLEARS, SETS
 from strata_mount.processes import found_program, start
 
 DEVICE = "/dev/fuse"
+# the numbers of this device, which never change
+NUMBERS = os.makedev(10, 229)
+NOT_FUSE = "not FUSE's device, which root makes by `mknod -m 666 %s c 10 229`" % DEVICE
 MNT_DETACH, UMOUNT_NOFOLLOW = 2, 8
 # of a descriptor that comes through a socket
 INT_SIZE = 4
@@ -21,12 +24,18 @@ def mounted(plan):
     return mounted_by_helper(plan) if device is None else device
 
 
+def opened_device():
+    """The open device. fusermount3, too, opens it with the rights of who calls it alone."""
+    device = os.open(DEVICE, os.O_RDWR)
+    if os.fstat(device).st_rdev != NUMBERS:
+        os.close(device)
+        raise OSError(0, NOT_FUSE, DEVICE)
+    return device
+
+
 def mounted_by_kernel(plan):
     """The same by mount(2); None where that may not be."""
-    try:
-        device = os.open(DEVICE, os.O_RDWR)
-    except PermissionError:
-        return None
+    device = opened_device()
     try:
         mount(plan, device)
         return device
@@ -55,17 +64,11 @@ def flags_of(words):
     return flags
 
 
-def hold_device():
-    """Looks that this user may open the device."""
-    os.close(os.open(DEVICE, os.O_RDWR))
-
-
 def mounted_by_helper(plan):
     """The same by fusermount3, which sends the open device through a socket."""
     import _socket as socket  # all of socket that is needed, without enum and selectors
     helper = found_program("fusermount3")
     if not helper:
-        hold_device()
         why = "only root may mount, and there is no fusermount3: install fuse3"
         raise OSError(0, why, plan.folder)
     source = plan.source.replace("\\", "\\\\").replace(",", "\\,")

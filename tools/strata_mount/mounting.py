@@ -251,8 +251,8 @@ def hints(fault, plan):
         yield ("FUSE is not available here: `modprobe fuse`, or start the container with "
                "`--device /dev/fuse`")
     if fault.filename == DEVICE and fault.errno == errno.EACCES:
-        yield ("this user may not open it, and there is no fusermount3, which may: install fuse3, or, "
-               "for mounts in a user namespace, `chmod 666 /dev/fuse` as root")
+        yield ("this user may not open it, nor may fusermount3 for this user: `chmod 666 /dev/fuse` as "
+               "root lets all users mount, as udev does")
     unknown = Options(",".join(plan.words)).unknown
     if fault.errno == errno.EINVAL and unknown:
         yield "-o: unknown: %s" % one_line(", ".join(unknown))
