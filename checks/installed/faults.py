@@ -52,11 +52,12 @@ def images(root):
         done = root.run("mount", "-t", "strata", "/srv/lower.romfs:/srv/" + name, "/mnt")
         hold("by mount, of " + name, (32, lines.replace("strata-mount", "mount.strata")), (done.status, done.err))
     brought = "`strata-layers pull SOURCE %s` brings it there"
-    far = "no such file; `strata-layers pull %s NAME` brings it into the store as NAME"
+    far = "no such file; `strata-layers pull %s NAME` brings it into the store as image:NAME"
     for name, why in (("none:1", "no such file, and no such image in /var/lib/strata; " + brought % "none:1"),
                       ("docker://host/app:1", far % "docker://host/app:1"), ("oci:none:1", far % "oci:none:1")):
         hold("no file and no image", (1, "image 1: cannot be read\nstrata-mount: image 1 is %s: %s\n" % (name, why)),
              refused(root, name))
+    hold_meant(root, far)
     hold("no image of a name", (1, "strata-mount: none: no such image in /var/lib/strata; %s\n" % brought % "none"),
          refused(root, "image:none"))
     done = root.run("prlimit", "--nofile=20", "strata-mount", *["/srv/lower.romfs"] * 30, "/mnt")
@@ -71,6 +72,19 @@ def images(root):
                                           "on\n"), (done.status, done.err))
     return ("missing, no image of the store, a folder, cut off, empty, too many open, 129 images, one below the folder; by "
             "strata-mount and by mount")
+
+
+def hold_meant(root, far):
+    """Holds what is said of a word of mount(8) that was split at its colons, and of `image:` before what is pulled."""
+    split = "no such files (colons separate images); for an image of the store say image:%s"
+    for word, why in (("docker://host/app:1", far % "docker://host/app:1"), ("oci:none:1", far % "oci:none:1"),
+                      ("none:1", split % "none:1")):
+        done = root.run("mount", "-t", "strata", word, "/mnt")
+        hold("mount " + word, (32, "mount.strata: %s: %s\n" % (word, why)), (done.status, done.err))
+    named = far.replace("no such file", "no name of an image") % "docker://host/app:1"
+    hold("image:docker://", (1, "strata-mount: docker://host/app:1: %s\n" % named), refused(root, "image:docker://host/app:1"))
+    done = root.run("mount", "-t", "strata", "/srv/none.romfs:none:1", "/mnt")
+    hold("files that are missing", (32, "image 0: cannot be read"), (done.status, done.err.splitlines()[0]))
 
 
 def not_permitted(root):

@@ -10,19 +10,18 @@ import struct
 import zlib
 
 from strata_format import image_files, romfs
-from strata_format.refused import Refused, one_line, shown
+from strata_format.refused import Refused, shown
 from strata_layers import tars
 from strata_layers.store import default_place
-from strata_layers.store_images import brought, split_image
+from strata_layers.store_images import brought
 from strata_mount import dead_mounts
+from strata_mount.meant import SOURCES, may_be_stored, pulled
 
 UNREADABLE = re.compile(r"image (\d+): cannot be read")
 BROKEN = re.compile(r"layer (\d+) at [0-9a-f]{8,}: (.*)")
 TOO_MANY = re.compile(r"layers: (\d+), allowed 1 to 128")
 FRONT = 36 << 10
 TAR_MOST = 10000
-# what images are pulled from
-SOURCES = ("docker://", "oci:")
 # so many files strata may have open besides its images
 FILES_BESIDE = 16
 MAKE = "`strata-layers image FOLDER IMAGE` makes an image from a directory"
@@ -119,8 +118,7 @@ def not_there(path, store):
     """What is said of a word that names no file: it may mean an image of the store, or one to
     bring there."""
     if path.startswith(SOURCES):
-        return "no such file; `strata-layers pull %s NAME` brings it into the store as NAME" % (
-            one_line(shlex.quote(path)))
+        return "no such file; " + pulled(path)
     if may_be_stored(path):
         return "no such file, and no such image in %s; %s" % (shown(store or default_place()), brought(path))
     return "no such file or directory"
@@ -133,15 +131,6 @@ def not_open(count):
         return "too many open files: strata keeps one open for each of %d images, and a few more; `ulimit -n` allows %d" % (
             count, most)
     return "it can be read now"
-
-
-def may_be_stored(path):
-    """Whether a word can be the name of an image of a store."""
-    try:
-        split_image(path)
-        return True
-    except Refused:
-        return False
 
 
 def front_of(path, size):

@@ -16,6 +16,8 @@ class Plan:
     name, source = "strata-mount", "strata"
     # strata's own program, unless another is named
     program, images, folder = None, (), None
+    # what mount(8) was given, where the images are between its colons
+    word = None
     words, owner, workers, readers = (), None, None, None
     background = strict = whole = modeless = replace = debug = verify = False
     may_replace, store = True, None

@@ -69,8 +69,12 @@ def find_images(plan):
     parents = {}
     if plan.store is not None or plan.verify or not all(map(os.path.lexists, plan.images)):
         from strata_layers import store_images
+        from strata_mount import meant
+        meant.hold_names(plan.images)
         found = store_images.mounted_words(plan.images, plan.store, plan.verify)
         plan.images, plan.marks, parents = found
+        if plan.word is not None:
+            meant.hold_split(plan.word, plan.images)
     if layer_order.is_known(plan.images):
         line = layer_order.wrong_order(plan.images, parents)
         if line is not None:

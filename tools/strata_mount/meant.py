@@ -1,0 +1,44 @@
+"""What was meant by a word that names no image: what an image is pulled from, or, for mount(8), an
+image of the store."""
+import os
+
+from strata_format.refused import Refused, one_line
+from strata_layers.store_images import split_image
+
+# what images are pulled from
+SOURCES = ("docker://", "oci:")
+
+
+def pulled(source):
+    """How what an image is pulled from comes into the store."""
+    import shlex
+    told = "`strata-layers pull %s NAME` brings it into the store as image:NAME"
+    return told % one_line(shlex.quote(source))
+
+
+def may_be_stored(word):
+    """Whether a word can be the name of an image of a store."""
+    try:
+        split_image(word)
+        return True
+    except Refused:
+        return False
+
+
+def hold_names(words):
+    """Looks that no word says `image:` of what an image is pulled from."""
+    for word in words:
+        front, _, name = word.partition("image:")
+        if not front and name.startswith(SOURCES) and not may_be_stored(name):
+            raise OSError(0, "no name of an image; " + pulled(name), name)
+
+
+def hold_split(word, images):
+    """Looks whether a word that was split at colons was meant as a whole, where images are
+    missing."""
+    there = [os.path.lexists(image) for image in images]
+    if word.startswith(SOURCES) and not all(there):
+        raise OSError(0, "no such file; " + pulled(word), word)
+    if len(images) > 1 and not any(there) and may_be_stored(word):
+        why = "no such files (colons separate images); for an image of the store say image:%s"
+        raise OSError(0, why % word, word)
