@@ -28,7 +28,7 @@ COMPLETED = {"bash": SHARE + "bash-completion/completions/%s", "zsh": SHARE + "z
 
 
 def shown(root):
-    """Each page is shown without a warning, also by its name, and begins with examples."""
+    """Each page is shown without a warning, also by its name, and begins with examples, of which none leaves a namespace."""
     root.needs("man")
     root.install()
     env = dict(os.environ, MANWIDTH="80", MANPAGER="cat")
@@ -39,6 +39,8 @@ def shown(root):
         for part in ("NAME", *parts, "DESCRIPTION", "SEE ALSO", "%s(%s)" % (name.upper(), section)):
             hold_in(page, part, text)
         hold("examples of %s come first" % page, True, 0 < text.find("\nEXAMPLES") < text.find("\nDESCRIPTION"))
+        for line in text.splitlines():
+            hold("what ends %s" % line, "unshare" in line and "--background" in line, "unshare" in line and "umount" in line)
         hold("man %s" % name, text, root.good("man", "--warnings", "-E", "UTF-8", section, name, env=env))
     return "%d pages, without a warning" % len(PAGES + FORMATS)
 
