@@ -36,8 +36,9 @@ def shown(root):
         text = root.good("man", "--warnings", "-E", "UTF-8", "-l", MAN + page, env=env)
         name, section = os.path.basename(page).rsplit(".", 1)
         parts = ["SYNOPSIS", "EXIT STATUS"] * (page in PAGES)
-        for part in ("NAME", *parts, "DESCRIPTION", "SEE ALSO", "%s(%s)" % (name.upper(), section)):
+        for part in ("NAME", *parts, "DESCRIPTION", "COPYRIGHT", "SEE ALSO", "%s(%s)" % (name.upper(), section)):
             hold_in(page, part, text)
+        hold_in(page, "MIT or Apache-2.0.", text)
         hold("examples of %s come first" % page, True, 0 < text.find("\nEXAMPLES") < text.find("\nDESCRIPTION"))
         for line in text.splitlines():
             hold("what ends %s" % line, "unshare" in line and "--background" in line, "unshare" in line and "umount" in line)
