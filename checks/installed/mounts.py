@@ -226,13 +226,16 @@ def user(root):
 
 
 def for_others(root):
-    """allow_other by an unprivileged user, as fuse.conf(5) has it: only with user_allow_other."""
-    root.needs("fusermount3", "setpriv")
+    """allow_other by an unprivileged user, as fuse.conf(5) has it: only with user_allow_other, or in a user namespace."""
+    root.needs("fusermount3", "setpriv", "unshare")
     root.install()
     other, third = user(root), ("setpriv", "--reuid=%d" % (OTHER + 1), "--regid=%d" % (OTHER + 1), "--clear-groups")
     os.mkdir("/mnt/other")
     os.chown("/mnt/other", OTHER, OTHER)
     words = (*other, "strata-mount", "--background", "-o", "allow_other,modeless", "/srv/lower.romfs", "/mnt/other")
+    open("/etc/fuse.conf", "w").close()
+    script = "strata-mount --background -o allow_other,modeless,suid,dev /srv/lower.romfs /mnt/other && cat /mnt/other/etc/hostname"
+    hold("in a user namespace", "lantern\n", root.good(*other, "unshare", "-rm", "sh", "-c", script + "; umount /mnt/other"))
     for line in ("", "user_allow_other\n"):
         with open("/etc/fuse.conf", "w", encoding="ascii") as out:
             out.write(line)
@@ -243,7 +246,7 @@ def for_others(root):
         hold("a file", "lantern\n", root.good(*who, "cat", "/mnt/other/etc/hostname"))
     root.good(*other, "fusermount3", "-u", "/mnt/other")
     hold("mounts", [], places())
-    return "allow_other by a user, with user_allow_other in fuse.conf alone"
+    return "allow_other by a user, with user_allow_other in fuse.conf alone, or in a user namespace"
 
 
 def by_user(root):
