@@ -28,7 +28,7 @@ ALONE, WITH_PACKAGES = "IBS", "IB"
 MODULES = "lib/strata"
 # what says how it is used, and its limits
 DOCUMENTS = (("README.md",), ("LICENSE-MIT",), ("LICENSE-APACHE",), ("docs", "USE.md"), ("docs", "MOUNTING.md"),
-             ("docs", "LIMITS.md"))
+             ("docs", "LIMITS.md"), ("docs", "ENGINES.md"), ("docs", "PROMISES.md"), ("docs", "SPEED.md"))
 COMPLETIONS = {
     "bash": "share/bash-completion/completions", "zsh": "share/zsh/site-functions", "fish": "share/fish/vendor_completions.d"}
 
