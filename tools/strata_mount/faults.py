@@ -13,7 +13,7 @@ from strata_format import image_files, romfs
 from strata_format.refused import Refused, one_line, shown
 from strata_layers import tars
 from strata_layers.store import default_place
-from strata_layers.store_images import brought, split_image
+from strata_layers.store_images import brought, may_be_stored
 from strata_mount import dead_mounts
 
 UNREADABLE = re.compile(r"image (\d+): cannot be read")
@@ -133,15 +133,6 @@ def not_open(count):
         return "too many open files: strata keeps one open for each of %d images, and a few more; `ulimit -n` allows %d" % (
             count, most)
     return "it can be read now"
-
-
-def may_be_stored(path):
-    """Whether a word can be the name of an image of a store."""
-    try:
-        split_image(path)
-        return True
-    except Refused:
-        return False
 
 
 def front_of(path, size):
