@@ -62,7 +62,7 @@ def check_verify(room):
     done = room.tried("verify")
     lines = done.stdout.splitlines()
     hold("lines", (1, 2), (done.returncode, len(lines)))
-    aside = "; it is set aside as %s.damaged; pull again; needed by a:1" % os.path.basename(first)
+    aside = "; it is set aside as %s.damaged; pull again, and mount again what is mounted of it; needed by a:1" % os.path.basename(first)
     hold("wrong", True, lines[0].startswith(first + ": its digest is sha256:") and lines[0].endswith(aside))
     hold("missing", "sha256:%s: missing; needed by a:1" % os.path.basename(second), lines[1])
     hold("out of use", (False, True), (os.path.exists(first), os.path.exists(first + ".damaged")))

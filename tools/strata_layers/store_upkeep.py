@@ -71,7 +71,8 @@ def wrong_layer(store, digits, heard):
         try:
             with store.locked():
                 store.set_aside(number, digits)
-            yield "%s: its digest is sha256:%s; it is set aside as %s%s; pull again" % (where, got, digits, DAMAGED)
+            yield ("%s: its digest is sha256:%s; it is set aside as %s%s; pull again, and mount again what is mounted"
+                   " of it" % (where, got, digits, DAMAGED))
         except OSError as fault:
             if fault.errno not in (errno.EACCES, errno.EPERM, errno.EROFS):
                 raise

@@ -21,8 +21,8 @@ HELP = {
             " without the host.",
     "images": "Prints a line for each image: its name, number of layers, their bytes, and the digest"
               " of its manifest.",
-    "verify": "Reads all layers and prints a line for each that is missing or has a wrong digest;"
-              " the status is then 1.",
+    "verify": "Reads all layers and prints a line for each that is missing or has a wrong digest,"
+              " which is set aside as DIGEST.damaged; the status is then 1.",
     "remove": "Removes the name of an image; prune removes its layers.",
     "prune": "Removes the layers that no image names and no mount uses.",
     "config": "Prints entry point, command, environment, working directory and user of an image,"
