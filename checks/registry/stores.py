@@ -256,7 +256,9 @@ def check_names(room):
     os.mkdir(os.path.join(other, "work"))
     room.refused("%s: no store of layers" % other, "pull", "oci:" + source.path, "a", store=other)
     hold("what is no store", ["new", "work"], sorted(os.listdir(other)))
-    room.refused("%s: no store of layers" % room.name(), "images", store=os.path.join(room.path, str(room.count)))
+    for place in (room.name(), os.path.join(room.path, "other", "new")):
+        for words in (("images",), ("config", "a:1")):
+            room.refused("%s: no store of layers; `strata-layers pull SOURCE NAME` makes one" % place, *words, store=place)
 
 
 def check_config(room):

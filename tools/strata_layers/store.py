@@ -23,6 +23,7 @@ from strata_format.refused import Refused, faults_below, shown
 
 MARK, MARK_TEXT = "strata-store", b"1\n"
 DIGEST, DIGITS, DIGITS_COUNT = "sha256:", frozenset("0123456789abcdef"), 64
+NO_STORE = "%s: no store of layers"
 # the folders of a store, each behind the one that it is in
 FOLDERS = "blobs", "blobs/sha256", "images", "made", "new"
 # the end of the name of a layer that is set aside
@@ -133,8 +134,10 @@ class Store:
             os.makedirs(self.place, 0o700, exist_ok=True)
         try:
             self.root = open_folder(self.place)
-        except (FileNotFoundError, NotADirectoryError):
-            raise Refused("%s: no store of layers" % self.name) from None
+        except FileNotFoundError:
+            raise self.none_yet() from None
+        except NotADirectoryError:
+            raise Refused(NO_STORE % self.name) from None
         # its open folders, by their names within the store
         self.folders = {"": self.root}
         self.hold_own()
@@ -151,8 +154,12 @@ class Store:
                 self.folders[name] = opened(last, self.folders[above])
         except FileNotFoundError:
             # the run that made it was killed before it brought anything
-            raise Refused("%s: no store of layers" % self.name) from None
+            raise self.none_yet() from None
         self.blobs, self.images, self.records, self.new = map(self.folders.get, FOLDERS[1:])
+
+    def none_yet(self):
+        """Why there is no store where one could be made."""
+        return Refused(NO_STORE % self.name + "; `strata-layers pull SOURCE NAME` makes one")
 
     def hold_own(self):
         """Sees that nobody else may write in the store's folders: who may could lead what is
@@ -180,7 +187,7 @@ class Store:
             fcntl.flock(self.root, fcntl.LOCK_UN)
         # a run that was killed may have left an empty mark
         if found not in (MARK_TEXT, b""):
-            raise Refused("%s: no store of layers" % self.name)
+            raise Refused(NO_STORE % self.name) if os.listdir(self.root) else self.none_yet()
 
     def locked(self):
         """Waits until no other run writes; then removes what an interrupted one has left."""

@@ -109,6 +109,10 @@ def count_of(layers):
     return sum(it.part == 0 for it in layers)
 
 
+def layers_text(count):
+    return "1 layer" if count == 1 else "%d layers" % count
+
+
 def put_image(store, word, image):
     """Gives an image its name in the store; one of this name that was there is replaced."""
     name, tag = split_image(word)
