@@ -69,4 +69,16 @@ def parsed(verb, words):
         if name == "--store":
             more["default"] = default_place()
         (chosen if how.get("action") == CHOSEN else it).add_argument(name, **{**how, **more})
-    return it.parse_args(words)
+    asked = it.parse_args(words)
+    hold_options(it, asked)
+    return asked
+
+
+def hold_options(parser, asked):
+    """Looks that options of bwrap, and what says how it runs, stand where bwrap is asked for."""
+    if getattr(asked, "form", "bwrap") == "bwrap":
+        return
+    if asked.options:
+        parser.error("%s: after NAME[:TAG] only options of bwrap are allowed, with --bwrap before it" % asked.options[0])
+    if asked.as_caller:
+        parser.error("argument --as-caller: only with --bwrap")
