@@ -1,10 +1,12 @@
 """Tests of `tools/layers.py image`: images of folders and of archives on standard input. What they
 show is held against what the system says of the folder. A test is a function of a room."""
+import bz2
 import contextlib
 import errno
 import functools
 import gzip
 import io
+import lzma
 import os
 import resource
 import shlex
@@ -280,7 +282,8 @@ def refuse_image(room, words, *lines):
 def test_refused_images(room):
     folder, image, none = made_folder(room), room.name(), room.path + "/none"
     refuse_image(room, (none, image), none + ": no such file or directory")
-    refuse_image(room, (folder + "/su", image), "%s/su: not a directory" % folder)
+    refuse_image(room, (folder + "/su", image), "%s/su: not a directory; a tar archive goes to standard input: "
+                 "`strata-layers image - IMAGE < ARCHIVE`" % folder)
     refuse_image(room, (folder, folder), "%s: exists and is not a file" % folder)
     refuse_image(room, (folder, "/dev/null"), "/dev/null: exists and is not a file")
     refuse_image(room, (folder, none + "/x"), none + ": no such file or directory")
@@ -345,8 +348,11 @@ def test_image_of_an_archive(room):
     words, image = [TOOLS + "/layers.py", "image", "-"], room.name()
     cut_off = b"tools/layers.py: the archive is truncated\n"
     empty = b"tools/layers.py: standard input is empty\n"
+    other = "tools/layers.py: standard input is compressed with %s: pass it through `%s -dc` first\n"
+    others = {name: (1, (other % (name, name)).encode()) for name in ("xz", "bzip2")}
     for given, wanted in ((made, (0, b"")), (made[:2000], (1, cut_off)), (b"", (1, empty)),
-                          (gzip.compress(made), (0, b""))):
+                          (lzma.compress(made), others["xz"]), (bz2.compress(made), others["bzip2"]),
+                          (bz2.compress(b"", 1), others["bzip2"]), (gzip.compress(made), (0, b""))):
         done = subprocess.run([*words, image], input=given, capture_output=True, check=False)
         expect((done.returncode, done.stderr) == wanted, "ended with %r" % (done,))
         room.hold([image], [made])

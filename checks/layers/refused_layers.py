@@ -63,8 +63,12 @@ def test_many_faults(room):
     made = archive([*bad, *(file("d/../%d" % number) for number in range(10))])
     more = ["layer 0: d/../%d: no path within a layer" % number for number in range(6)]
     room.refused(layout_of(room.name(), [made]).path, *lines, *more, "layer 0: .. and 4 more")
-    cut = archive([file("../x"), file("y", b"1" * 600)])
-    room.refused(layout_of(room.name(), [cut[:1600]]).path, lines[0], "layer 0: the archive is truncated")
+    # hard links that lead nowhere are among them, but not those to an entry that is refused itself
+    links = [hard("a", "b"), hard("b", "none"), hard("d", "dir"), directory("dir"), hard("h", "good"), hard("r", "c"), hard("s", "r")]
+    room.refused(layout_of(room.name(), [archive([*links, *bad])]).path, *lines, nothing % ("a", "none"), nothing % ("b", "none"),
+                 "layer 0: d: a hard link to the directory dir")
+    cut = archive([hard("h", "z"), file("../x"), file("y", b"1" * 600)])
+    room.refused(layout_of(room.name(), [cut[:2112]]).path, lines[0], "layer 0: the archive is truncated")
 
 
 def test_broken_archives(room):

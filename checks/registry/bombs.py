@@ -3,12 +3,15 @@ import gzip
 import io
 import os
 import resource
+import stat
 import struct
+import sys
 import tarfile
 import zlib
 
+from checks import TOOLS
 from checks.registry import made
-from checks.registry.rooms import Failed, hold
+from checks.registry.rooms import MOUNT, Failed, hold
 from strata_format import romfs
 from strata_layers import packing
 
@@ -16,6 +19,7 @@ from strata_layers import packing
 ROOM = 96 << 20
 FOLDERS, NAMES = 400, 3000
 MIB = bytes(1 << 20)
+SHARED = "%s: a store must be its user's own, and others may write in this folder"
 
 
 def header(kind, name, size=0, link=""):
@@ -192,17 +196,42 @@ def check_odd_target(room):
 
 
 def check_stores_of_others(room):
-    """A store that others may write to is not written to."""
+    """A store that others may write to is not written to, nor read."""
     source = made.layout(room.name())
     for mode in (0o777, 0o1777, 0o702):
         os.mkdir(place := room.name())
         os.chmod(place, mode)
-        room.refused("%s: a store must be its user's own, and others may write in this folder" % place, "pull", "oci:" + source.path,
-                     "a:1", store=place)
+        room.refused(SHARED % place, "pull", "oci:" + source.path, "a:1", store=place)
         hold("what is in it", [], os.listdir(place))
     os.mkdir(place := room.name())
     os.chmod(place, 0o755)
     room.layers("pull", "oci:" + source.path, "a:1", store=place)
+    for name in ("", "/blobs", "/blobs/sha256", "/images", "/made", "/new"):
+        mode = stat.S_IMODE(os.stat(place + name).st_mode)
+        os.chmod(place + name, 0o777)
+        hold_closed(room, place, SHARED % (place + name), source)
+        os.chmod(place + name, mode)
+    room.layers("config", "a:1", store=place)
+    if os.geteuid() == 0:
+        os.chown(place, 65532, 65532)
+        hold_closed(room, place, SHARED % place, source)
+
+
+def hold_closed(room, place, line, source):
+    """Each verb of a store, and each mount from it, must refuse it with one line."""
+    for verb, *words in (("images",), ("verify",), ("prune",), ("config", "a:1"), ("remove", "a:1"),
+                         ("podman", "a:1", room.name()), ("pull", "oci:" + source.path, "b:1"),
+                         ("convert", source.path, room.name())):
+        room.refused(line, verb, *words, store=place)
+    for words in (("image:a:1",), ("a:1",), ("--verify", "image:a")):
+        done = room.run(sys.executable, "-B", MOUNT, "--strata", room.strata, "--store", place, "--background", *words, room.home)
+        hold("mount %r" % (words,), (1, line + "\n"), (done.returncode, done.stderr.partition(": ")[2]))
+    made_here = "import sys; from strata_layers import store; store.default_place = lambda: sys.argv[1]"
+    code = made_here + "; from strata_mount.helper import main; sys.exit(main(sys.argv[2:]))"
+    for more in ((), ("-f",)):
+        done = room.run(sys.executable, "-B", "-c", code, place, "image:a:1", room.home, *more,
+                        env={**room.environment, "PYTHONPATH": TOOLS})
+        hold("mount.strata", (32, "mount.strata: %s\n" % line), (done.returncode, done.stderr))
 
 
 CHECKS = [check_much_of_little, check_most_unpacked, check_shared_names, check_odd_words, check_odd_target, check_stores_of_others]

@@ -55,6 +55,7 @@ def check_verify(room):
     first, second = mounted_layers(room, "a:1")[:2]
     flip(first)
     os.unlink(second)
+    hold("counted", True, room.layers("images").endswith(" (1 layer missing)\n"))
     other = room.name()
     shutil.copytree(room.store, other)
     room.refused("%s: the layer sha256:%s has the digest sha256:.." % (other, os.path.basename(first)),
@@ -62,7 +63,7 @@ def check_verify(room):
     done = room.tried("verify")
     lines = done.stdout.splitlines()
     hold("lines", (1, 2), (done.returncode, len(lines)))
-    aside = "; it is set aside as %s.damaged; pull again; needed by a:1" % os.path.basename(first)
+    aside = "; it is set aside as %s.damaged; pull again, and mount again what is mounted of it; needed by a:1" % os.path.basename(first)
     hold("wrong", True, lines[0].startswith(first + ": its digest is sha256:") and lines[0].endswith(aside))
     hold("missing", "sha256:%s: missing; needed by a:1" % os.path.basename(second), lines[1])
     hold("out of use", (False, True), (os.path.exists(first), os.path.exists(first + ".damaged")))
@@ -70,7 +71,7 @@ def check_verify(room):
     hold("verified", "", room.layers("verify"))
     hold("read only", {0o444}, {os.stat(it).st_mode & 0o777 for it in mounted_layers(room, "a:1")})
     size = os.path.getsize(first + ".damaged")
-    hold("pruned", "1 layers removed, %d bytes; 0 are in use by a mount\n" % size, room.layers("prune"))
+    hold("pruned", "1 layer removed, %d bytes; 0 are in use by a mount\n" % size, room.layers("prune"))
     hold("gone", False, os.path.exists(first + ".damaged"))
 
 

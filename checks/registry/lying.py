@@ -140,7 +140,7 @@ def check_lying_registry(room):
         hold("left of %s" % lie.__name__, ([], []), (os.listdir(os.path.join(room.store, "new")), room.blobs()))
         hold("outside the store", outside, snapshot(room.path, room.store))
     registry.lie = plain
-    hold("the truth", "app:1: 1 layers, 1 of them new\n", room.layers("pull", source))
+    hold("the truth", "app:1: 1 layer, 1 of them new\n", room.layers("pull", source))
 
 
 def made_store(room):

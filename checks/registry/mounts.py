@@ -98,6 +98,10 @@ def check_used_layers(room):
             break
         time.sleep(0.1)  # until the server has ended
     hold("layers at the end", [], room.blobs())
+    room.layers("pull", "oci:" + made.layout(room.name(), made.LAYERS[:1]).path, "b:1")
+    mounted(room, "b:1")
+    room.layers("remove", "b:1")
+    hold("one layer", "0 layers removed, 0 bytes; 1 is in use by a mount\n", room.layers("prune"))
 
 
 def check_verified_mounts(room):

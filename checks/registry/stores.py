@@ -256,7 +256,9 @@ def check_names(room):
     os.mkdir(os.path.join(other, "work"))
     room.refused("%s: no store of layers" % other, "pull", "oci:" + source.path, "a", store=other)
     hold("what is no store", ["new", "work"], sorted(os.listdir(other)))
-    room.refused("%s: no store of layers" % room.name(), "images", store=os.path.join(room.path, str(room.count)))
+    for place in (room.name(), os.path.join(room.path, "other", "new")):
+        for words in (("images",), ("config", "a:1")):
+            room.refused("%s: no store of layers; `strata-layers pull SOURCE NAME` makes one" % place, *words, store=place)
 
 
 def check_config(room):
@@ -273,6 +275,12 @@ def check_config(room):
     words = shlex.split(room.layers("config", "--podman", "a"))
     hold("podman", ["--entrypoint", '["/bin/say", "it\'s", "a b"]', "--workdir", "/var", "--env", "PATH=/bin",
                     "--env", "WORD=x y", "--env", "HOME=", "--user", "7:8"], words)
+    line = "tools/layers.py config: %s: after NAME[:TAG] only options of bwrap are allowed, with --bwrap before it; see --help\n"
+    for before in ((), ("--podman",)):
+        for after in (("--ro-bind", "/", "/"), ("--bwrap",), ("x",)):
+            hold("without --bwrap", (2, "", line % after[0]), room.tried("config", *before, "a", *after))
+        hold("without --bwrap", (2, "", "tools/layers.py config: argument --as-caller: only with --bwrap; see --help\n"),
+             room.tried("config", *before, "--as-caller", "a"))
     hold_user_by_name(room)
 
 

@@ -25,9 +25,9 @@ def open_folder(name, above=None):
 
 
 def make_folder(name, above=None):
-    """The same, which is made where it isn't there."""
+    """The same, which is made where it isn't there, for its user alone to write to."""
     try:
-        os.mkdir(name, dir_fd=above)
+        os.mkdir(name, 0o755, dir_fd=above)
     except FileExistsError:
         pass
     return open_folder(name, above)

@@ -133,9 +133,9 @@ class Tree:
             raise BadEntry(directory_there(path, target))
         return target if found is None else found
 
-    def node_of(self, link, path):
-        """The node that a hard link at a path leads to. Each link on the way is then led there at
-        once."""
+    def end_of(self, link):
+        """Where a hard link leads to in the end: what stands there, the last path that was said on the
+        way, and the links on it."""
         way, seen, target, wanted = [], set(), link, ()
         while isinstance(target, (Link, tuple)) and target not in seen:
             seen.add(target)
@@ -144,6 +144,12 @@ class Tree:
             else:
                 way.append(target)
                 target = target.target
+        return target, wanted, way
+
+    def node_of(self, link, path):
+        """The node that a hard link at a path leads to. Each link on the way is then led there at
+        once."""
+        target, wanted, way = self.end_of(link)
         if isinstance(target, Directory):
             raise BadEntry(directory_there(path, wanted))
         if not isinstance(target, Node):
@@ -162,6 +168,11 @@ class Tree:
             yield path, directory
             todo += [((*path, name), it) for name, it in reversed(directory.members.items())
                      if isinstance(it, Directory)]
+
+    def links(self):
+        """All hard links, each with its path."""
+        return (((*path, name), it) for path, directory in self.directories()
+                for name, it in directory.members.items() if isinstance(it, Link))
 
     def members(self):
         """All but the root, each directory before what is in it, and with that before the next: the

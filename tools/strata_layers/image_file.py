@@ -9,8 +9,11 @@ from strata_layers.image_maker import image_of_archive, image_of_folder
 
 PASSING = ".strata-"
 STANDARD_INPUT = "-"
+ARCHIVE_HINT = "a tar archive goes to standard input: `strata-layers image - IMAGE < ARCHIVE`"
 # the letters that packed data begin with, and how many bytes are read to see them
 LETTERS, FRONT = {"gzip": b"\x1f\x8b", "zstd": b"\x28\xb5\x2f\xfd"}, 512
+# the same of what is not unpacked here; in bzip2 a digit follows, and a block or the end
+XZ, BZIP2, BZIP2_NEXT = b"\xfd7zXZ\0", b"BZh", (b"1AY&SY", b"\x17rE8P\x90")
 
 
 class Heard:
@@ -23,6 +26,13 @@ class Heard:
 
     def packing(self):
         return next((it for it, letters in LETTERS.items() if self.front.startswith(letters)), "")
+
+    def other_packing(self):
+        """The name of a packing that is not unpacked here, or None."""
+        if self.front.startswith(XZ):
+            return "xz"
+        is_bzip2 = self.front.startswith(BZIP2) and self.front[4:10] in BZIP2_NEXT
+        return "bzip2" if is_bzip2 else None
 
     def read(self, size):
         data, self.front = self.front[:size], self.front[size:]
@@ -38,6 +48,9 @@ def archive_read(file, progress):
     heard = Heard(file, progress)
     if not heard.front:
         raise Refused("standard input is empty")
+    other = heard.other_packing()
+    if other is not None:
+        raise Refused("standard input is compressed with %s: pass it through `%s -dc` first" % (other, other))
     return Unpacked(heard, heard.packing())
 
 
@@ -79,6 +92,8 @@ def write_image_file(source, path, lost, is_upper=False):
     if source == STANDARD_INPUT:
         keep_image(path, lost, lambda out, progress: write_archive_image(out, lost, progress))
         return
+    if os.path.isfile(source):
+        raise Refused("%s: not a directory; %s" % (shown(os.fsencode(source)), ARCHIVE_HINT))
     with opened_folder(source) as number:
         # a fault that names no whole path would be one of the new file's folder
         name = os.path.abspath(source)

@@ -71,25 +71,38 @@ class Maker:
 
     def __init__(self, image, lost, where=""):
         self.image, self.lost, self.where = image, lost, where
-        self.faults, self.left_out = Faults(), set()
+        self.faults, self.left_out, self.refused = Faults(), set(), set()
 
     def put_archive(self, entries):
         """All entries of an archive of tar."""
         try:
             for entry in entries:
                 self.put_named(entry)
+            if self.faults.found:
+                self.note_links()
         except Refused as refused:
             self.faults.note(refused)
         self.faults.settle()
+
+    def note_links(self):
+        """Notes the hard links that lead to nothing, but those to an entry that is refused itself:
+        an image that isn't finished finds none."""
+        for path, link in self.image.links():
+            if self.image.end_of(link)[1] not in self.refused:
+                try:
+                    self.image.node_of(link, path)
+                except BadEntry as bad:
+                    self.faults.note(bad)
 
     def put_named(self, entry):
         """An entry of an archive, whose path its name says."""
         try:
             path = path_of(entry.name)
-            if entry.wrong is not None:
-                raise entry.wrong
         except BadEntry as bad:
             self.faults.note(bad)
+            return
+        if entry.wrong is not None:
+            self.refuse(path, entry.wrong)
             return
         # where a file replaces a directory, umoci also says that what was in the directory is gone
         if not is_marker(path) or not self.image.is_barred(path):
@@ -110,14 +123,19 @@ class Maker:
             put(self.image, path, entry)
         except NotHeld as refused:
             if not self.lost.leaves_out:
-                self.faults.note(refused)
+                self.refuse(path, refused)
             else:
                 self.leave_out(path)
         except BadEntry as bad:
-            self.faults.note(bad)
+            self.refuse(path, bad)
         else:
             if not is_marker(path):
                 self.lost.note_entry(self.where, path, entry)
+
+    def refuse(self, path, bad):
+        """Notes what is wrong with the entry at a path."""
+        self.refused.add(path)
+        self.faults.note(bad)
 
     def is_left_out(self, entry):
         """Whether an entry is a hard link to what was left out."""

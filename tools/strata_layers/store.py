@@ -23,6 +23,9 @@ from strata_format.refused import Refused, faults_below, shown
 
 MARK, MARK_TEXT = "strata-store", b"1\n"
 DIGEST, DIGITS, DIGITS_COUNT = "sha256:", frozenset("0123456789abcdef"), 64
+NO_STORE = "%s: no store of layers"
+# the folders of a store, each behind the one that it is in
+FOLDERS = "blobs", "blobs/sha256", "images", "made", "new"
 # the end of the name of a layer that is set aside
 DAMAGED = ".damaged"
 PIECE = 1 << 18
@@ -116,9 +119,14 @@ class Locked:
         os.close(self.number)
 
 
+class Shared(Refused):
+    """A store that others may write to, or that is another user's."""
+
+
 class Store:
     """The store in a folder, which is made where `make` says so; none but its owner may look into
-    it. Refused where there is none, or where the folder holds something else."""
+    it. Refused where there is none, where the folder holds something else, and where others may
+    write."""
 
     def __init__(self, place, make=False):
         self.place, self.name = os.path.abspath(place), shown(os.fsencode(place))
@@ -126,32 +134,42 @@ class Store:
             os.makedirs(self.place, 0o700, exist_ok=True)
         try:
             self.root = open_folder(self.place)
-        except (FileNotFoundError, NotADirectoryError):
-            raise Refused("%s: no store of layers" % self.name) from None
-        if make:
-            self.hold_own()
+        except FileNotFoundError:
+            raise self.none_yet() from None
+        except NotADirectoryError:
+            raise Refused(NO_STORE % self.name) from None
+        # its open folders, by their names within the store
+        self.folders = {"": self.root}
+        self.hold_own()
         with faults_below(self.place):
             self.mark(make)
-            self.open_folders(make)
+            self.open_folders(make_folder if make else open_folder)
+        self.hold_own()
 
-    def open_folders(self, make):
+    def open_folders(self, opened):
         """Opens the store's own folders; without the right to write, it can be read."""
-        opened = make_folder if make else open_folder
         try:
-            self.blobs = opened("sha256", opened("blobs", self.root))
-            self.images, self.records = opened("images", self.root), opened("made", self.root)
-            self.new = opened("new", self.root)
+            for name in FOLDERS:
+                above, _, last = name.rpartition("/")
+                self.folders[name] = opened(last, self.folders[above])
         except FileNotFoundError:
             # the run that made it was killed before it brought anything
-            raise Refused("%s: no store of layers" % self.name) from None
+            raise self.none_yet() from None
+        self.blobs, self.images, self.records, self.new = map(self.folders.get, FOLDERS[1:])
+
+    def none_yet(self):
+        """Why there is no store where one could be made."""
+        return Refused(NO_STORE % self.name + "; `strata-layers pull SOURCE NAME` makes one")
 
     def hold_own(self):
-        """Sees that nobody else may write in the folder: who may could lead what is written, and
-        what is removed, elsewhere."""
-        found = os.fstat(self.root)
-        is_shared = found.st_mode & 0o002 or found.st_mode & 0o020 and found.st_gid != os.getegid()
-        if is_shared or found.st_uid not in (0, os.geteuid()):
-            raise Refused("%s: a store must be its user's own, and others may write in this folder" % self.name)
+        """Sees that nobody else may write in the store's folders: who may could lead what is
+        written, and what is removed, elsewhere, and gives mounts other bytes."""
+        for name, number in self.folders.items():
+            found = os.fstat(number)
+            is_shared = found.st_mode & 0o002 or found.st_mode & 0o020 and found.st_gid != os.getegid()
+            if is_shared or found.st_uid not in (0, os.geteuid()):
+                raise Shared("%s: a store must be its user's own, and others may write in this folder"
+                             % (self.name + "/" * (name != "") + name))
 
     def mark(self, make):
         """Sees that the folder is a store, or, where it is empty, makes it one: the mark comes
@@ -169,7 +187,7 @@ class Store:
             fcntl.flock(self.root, fcntl.LOCK_UN)
         # a run that was killed may have left an empty mark
         if found not in (MARK_TEXT, b""):
-            raise Refused("%s: no store of layers" % self.name)
+            raise Refused(NO_STORE % self.name) if os.listdir(self.root) else self.none_yet()
 
     def locked(self):
         """Waits until no other run writes; then removes what an interrupted one has left."""

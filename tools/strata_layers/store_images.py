@@ -5,7 +5,7 @@ import os
 
 from strata_format.progress import Progress
 from strata_format.refused import Refused, shown
-from strata_layers.store import Store, default_place, digits_of, file_digits
+from strata_layers.store import Shared, Store, default_place, digits_of, file_digits
 
 # the letters of names and tags, and which of them don't begin one
 ALPHABET = frozenset("ABCDEFGHIJKLMNOPQRSTUVWXYZabcdefghijklmnopqrstuvwxyz0123456789._-")
@@ -109,6 +109,10 @@ def count_of(layers):
     return sum(it.part == 0 for it in layers)
 
 
+def layers_text(count):
+    return "1 layer" if count == 1 else "%d layers" % count
+
+
 def put_image(store, word, image):
     """Gives an image its name in the store; one of this name that was there is replaced."""
     name, tag = split_image(word)
@@ -176,8 +180,18 @@ def image_meant(word, store):
         return None
 
 
+def may_be_stored(word):
+    """Whether a word can be the name of an image of a store."""
+    try:
+        split_image(word)
+        return True
+    except Refused:
+        return False
+
+
 def store_for(words, place):
-    """The store at a place, where words of a mount may mean one of its images; else None."""
+    """The store at a place, where words of a mount may mean one of its images; else None. One that
+    others may write to is refused as soon as it might be meant."""
     asked = [word.partition(":")[2] for word in words if word.startswith("image:")]
     if not asked and (all(map(is_file, words)) or not os.path.isdir(place)):
         return None
@@ -185,8 +199,9 @@ def store_for(words, place):
         raise NoImage("%s: no such image in %s" % (asked[0], shown(place)))
     try:
         return Store(place)
-    except (Refused, OSError):
-        if asked:
+    except (Refused, OSError) as fault:
+        is_named = any(may_be_stored(it) for it in words if not is_file(it))
+        if asked or is_named and isinstance(fault, Shared):
             raise
         return None
 

@@ -6,7 +6,7 @@ import os
 from strata_format.progress import Progress
 from strata_format.refused import Refused, shown
 from strata_layers.store import DAMAGED, file_digits
-from strata_layers.store_images import count_of, image_in, names
+from strata_layers.store_images import count_of, image_in, layers_text, names
 
 
 def found_images(store):
@@ -26,7 +26,7 @@ def image_lines(store):
         missing = sum(store.size_of(it.digits) != it.size for it in image.layers)
         size = sum(it.size for it in image.layers)
         yield "%s %d %d %s%s" % (name, count_of(image.layers), size, image.manifest,
-                                 " (%d layers missing)" % missing if missing else "")
+                                 " (%s missing)" % layers_text(missing) if missing else "")
     yield from faults
 
 
@@ -71,7 +71,8 @@ def wrong_layer(store, digits, heard):
         try:
             with store.locked():
                 store.set_aside(number, digits)
-            yield "%s: its digest is sha256:%s; it is set aside as %s%s; pull again" % (where, got, digits, DAMAGED)
+            yield ("%s: its digest is sha256:%s; it is set aside as %s%s; pull again, and mount again what is mounted"
+                   " of it" % (where, got, digits, DAMAGED))
         except OSError as fault:
             if fault.errno not in (errno.EACCES, errno.EPERM, errno.EROFS):
                 raise

@@ -21,8 +21,8 @@ HELP = {
             " without the host.",
     "images": "Prints a line for each image: its name, number of layers, their bytes, and the digest"
               " of its manifest.",
-    "verify": "Reads all layers and prints a line for each that is missing or has a wrong digest;"
-              " the status is then 1.",
+    "verify": "Reads all layers and prints a line for each that is missing or has a wrong digest,"
+              " which is set aside as DIGEST.damaged; the status is then 1.",
     "remove": "Removes the name of an image; prune removes its layers.",
     "prune": "Removes the layers that no image names and no mount uses.",
     "config": "Prints entry point, command, environment, working directory and user of an image,"
@@ -69,4 +69,16 @@ def parsed(verb, words):
         if name == "--store":
             more["default"] = default_place()
         (chosen if how.get("action") == CHOSEN else it).add_argument(name, **{**how, **more})
-    return it.parse_args(words)
+    asked = it.parse_args(words)
+    hold_options(it, asked)
+    return asked
+
+
+def hold_options(parser, asked):
+    """Looks that options of bwrap, and what says how it runs, stand where bwrap is asked for."""
+    if getattr(asked, "form", "bwrap") == "bwrap":
+        return
+    if asked.options:
+        parser.error("%s: after NAME[:TAG] only options of bwrap are allowed, with --bwrap before it" % asked.options[0])
+    if asked.as_caller:
+        parser.error("argument --as-caller: only with --bwrap")

@@ -49,10 +49,11 @@ def run_convert(asked):
 
 def run_pull(asked):
     from strata_layers.pull import pull
+    from strata_layers.store_images import layers_text
     lost, store = Lost(asked.leave_out, asked.fail_on_lost), store_of(asked, make=True)
     name, count, new = pull(store, asked.source, asked.name, asked.platform, lost)
     told(lost)
-    print_line("%s: %d layers, %d of them new" % (name, count, new))
+    print_line("%s: %s, %d of them new" % (name, layers_text(count), new))
     return 0
 
 
@@ -81,10 +82,13 @@ def run_remove(asked):
 
 
 def run_prune(asked):
+    from strata_layers.store_images import layers_text
     from strata_layers.store_upkeep import prune
     store = store_of(asked)
     with store.locked():
-        print_line("%d layers removed, %d bytes; %d are in use by a mount" % prune(store))
+        count, size, used = prune(store)
+    print_line("%s removed, %d bytes; %d %s in use by a mount"
+               % (layers_text(count), size, used, "is" if used == 1 else "are"))
     return 0
 
 

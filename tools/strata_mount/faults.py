@@ -13,9 +13,9 @@ from strata_format import image_files, romfs
 from strata_format.refused import Refused, shown
 from strata_layers import tars
 from strata_layers.store import default_place
-from strata_layers.store_images import brought
+from strata_layers.store_images import brought, may_be_stored
 from strata_mount import dead_mounts
-from strata_mount.meant import SOURCES, may_be_stored, pulled
+from strata_mount.meant import SOURCES, pulled
 
 UNREADABLE = re.compile(r"image (\d+): cannot be read")
 BROKEN = re.compile(r"layer (\d+) at [0-9a-f]{8,}: (.*)")

@@ -2,8 +2,8 @@
 image of the store."""
 import os
 
-from strata_format.refused import Refused, one_line
-from strata_layers.store_images import split_image
+from strata_format.refused import one_line
+from strata_layers.store_images import may_be_stored
 
 # what images are pulled from
 SOURCES = ("docker://", "oci:")
@@ -14,15 +14,6 @@ def pulled(source):
     import shlex
     told = "`strata-layers pull %s NAME` brings it into the store as image:NAME"
     return told % one_line(shlex.quote(source))
-
-
-def may_be_stored(word):
-    """Whether a word can be the name of an image of a store."""
-    try:
-        split_image(word)
-        return True
-    except Refused:
-        return False
 
 
 def hold_names(words):
