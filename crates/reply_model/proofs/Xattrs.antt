@@ -1,0 +1,146 @@
+-- Extended attributes that a client gets: they are short if their list is one that a file may have (short_value, short_names); an answer
+-- fits in the size (value_fits, names_fit); and a name is listed exactly if its value is answered (listed).
+use Rattle.std.proofs.Common.{◌≡◌, ◌≢◌, ◌∙◌, sym, ap, ℕ, zero, suc, ◌+◌, ◌<◌, ◌≤◌, List, [], ◌∷◌, ◌++◌, length, filter, Bool, true, false, Option, Some, None, cond, refl, arith, length-append}
+use Rattle.std.specs.Prelude.{◌↔◌, IsTrue, nat_lt, nat_le, nat_eq, not, ◌&&◌, ◌||◌, ◌==◌, bytes_eq, is_some}
+use Rattle.std.specs.List.{list_all, list_any}
+use Rattle.std.specs.Option.{option_map_or}
+use Rattle.std.proofs.lemmas.Bool.{and_parts, ltb-false, leb-true, eq-eqb, eqb-true, false≢true}
+use Rattle.std.proofs.lemmas.Slice.Eq.{bytes_eq-Decides}
+use Rattle.romfs_format.specs.declared.limits.TheConstants.{MAX_XATTR_SIZE, MAX_XATTR_LIST_SIZE}
+use Rattle.romfs_format.specs.Extended.{Extended, is_acl_name, is_xattr_name, is_capability, capability_name, is_extended, is_list, names_of, names_rise, value_of}
+use Rattle.romfs_format.specs.Acls.{is_acl}
+use Rattle.fuse_wire.specs.declared.errno.Errno.{Errno}
+use Rattle.fuse_wire.specs.declared.errno.Errno.TheVariants.{ERANGE, ENODATA, EOPNOTSUPP}
+use Rattle.fuse_wire.specs.declared.limits.TheConstants.{MAX_DATA_SIZE}
+use Rattle.fuse_wire.specs.Structures.{getxattr_out}
+use Rattle.fuse_wire.proofs.Sizes.{length-getxattr_out}
+use Rattle.reply_model.specs.Xattrs.{xattrs_told, refused_size, sized_answer, refused_xattr, xattr_answer}
+use Rattle.reply_model.specs.Laws.{is_listed}
+
+-- a value of an attribute that a file may have is short
+extended_short : (x : Extended) → is_extended x ≡ true → length x.value ≤ MAX_XATTR_SIZE
+extended_short x e = leb-true _ _ (and_parts (is_xattr_name x.name) _ (and_parts _ _ e).0).1
+
+-- so are all values of a list
+values_short : (name : List ℕ) (xs : List Extended) → list_all is_extended xs ≡ true → (v : List ℕ) → value_of name xs ≡ Some v
+    → length v ≤ MAX_XATTR_SIZE
+values_short name [] e v is = absurd (cc)
+values_short name (x ∷ xs) e v is = go (bytes_eq x.name name) is
+  where
+    go : (b : Bool) → cond b (Some x.value) (value_of name xs) ≡ Some v → length v ≤ MAX_XATTR_SIZE
+    go true f = let s = extended_short x (and_parts _ _ e).0 in let same : x.value ≡ v = cc in rw (← same) s
+    go false f = values_short name xs (and_parts _ _ e).1 v f
+
+-- a size as an answer has 8 bytes
+sized_short : (n : ℕ) (bytes : List ℕ) → length bytes ≤ MAX_XATTR_SIZE → length (sized_answer n bytes) ≤ MAX_DATA_SIZE
+sized_short n bytes l = go (n == 0)
+  where
+    go : (b : Bool) → length (cond b (getxattr_out (length bytes)) bytes) ≤ MAX_DATA_SIZE
+    go true = let s = length-getxattr_out (length bytes) in omega arith
+    go false = omega arith
+
+-- the answer to a GETXATTR is short
+pub short_value : (n : ℕ) (name : List ℕ) (xs : List Extended) → IsTrue (is_list xs) → length (xattr_answer n name xs) ≤ MAX_DATA_SIZE
+short_value n name xs e = go (value_of name xs) refl
+  where
+    go : (o : Option (List ℕ)) → value_of name xs ≡ o → length (option_map_or (sized_answer n) o []) ≤ MAX_DATA_SIZE
+    go None is = omega arith
+    go (Some v) is = sized_short n v (values_short name xs (and_parts (list_all is_extended xs) _ (and_parts _ _ e).0).0 v is)
+
+-- fewer names are no longer
+told_no_longer : (acls : Bool) (xs : List Extended) → length (names_of (xattrs_told acls xs)) ≤ length (names_of xs)
+told_no_longer true xs = omega arith
+told_no_longer false [] = omega arith
+told_no_longer false (x ∷ xs) = go (is_acl_name x.name)
+  where
+    rest : length (names_of (xattrs_told false xs)) ≤ length (names_of xs)
+    rest = told_no_longer false xs
+
+    go : (b : Bool) → length (names_of (cond (not b) (x ∷ xattrs_told false xs) (xattrs_told false xs)))
+        ≤ length (x.name ++ 0 ∷ names_of xs)
+    go true = let l = length-append x.name (0 ∷ names_of xs) in let r = rest in omega arith
+    go false =
+        let l = length-append x.name (0 ∷ names_of xs) in
+        let m = length-append x.name (0 ∷ names_of (xattrs_told false xs)) in
+        let r = rest in omega arith
+
+-- the answer to a LISTXATTR is short
+pub short_names : (n : ℕ) (acls : Bool) (xs : List Extended) → IsTrue (is_list xs)
+    → length (sized_answer n (names_of (xattrs_told acls xs))) ≤ MAX_DATA_SIZE
+short_names n acls xs e =
+    let l = leb-true _ _ (and_parts (list_all is_extended xs && names_rise xs) _ e).1 in
+    let t = told_no_longer acls xs in
+    sized_short n (names_of (xattrs_told acls xs)) (omega arith)
+
+-- an answer that is not refused for its size fits in it
+pub sized_fits : (size : ℕ) (bytes : List ℕ) → size ≢ 0 → refused_size size bytes ≡ None → length (sized_answer size bytes) ≤ size
+sized_fits zero bytes n r = absurd (n refl)
+sized_fits (suc k) bytes n r = go (nat_lt (suc k) (length bytes)) refl r
+  where
+    go : (b : Bool) → nat_lt (suc k) (length bytes) ≡ b → cond b (Some ERANGE) None ≡ None → length bytes ≤ suc k
+    go true is f = absurd (cc)
+    go false is f = ltb-false _ _ is
+
+-- so does a value
+pub value_fits : (acls : Bool) (size : ℕ) (name : List ℕ) (xs : List Extended) → size ≢ 0 → refused_xattr acls size name xs ≡ None
+    → length (xattr_answer size name xs) ≤ size
+value_fits acls size name xs n r = go (is_acl_name name && not acls) (value_of name xs) r
+  where
+    go : (b : Bool) (o : Option (List ℕ)) → cond b (Some EOPNOTSUPP) (option_map_or (refused_size size) o (Some ENODATA)) ≡ None
+        → length (option_map_or (sized_answer size) o []) ≤ size
+    go true o f = absurd (cc)
+    go false None f = absurd (cc)
+    go false (Some v) f = sized_fits size v n f
+
+-- a name is listed exactly if it has a value
+listed_some : (name : List ℕ) (xs : List Extended) → is_listed name xs ≡ is_some (value_of name xs)
+listed_some name [] = refl
+listed_some name (x ∷ xs) = go (bytes_eq x.name name)
+  where
+    go : (b : Bool) → (b || is_listed name xs) ≡ is_some (cond b (Some x.value) (value_of name xs))
+    go true = refl
+    go false = listed_some name xs
+
+-- of the names that a client gets those of access control lists are not, unless it enforces them
+told_listed : (name : List ℕ) (xs : List Extended)
+    → is_listed name (xattrs_told false xs) ≡ (not (is_acl_name name) && is_listed name xs)
+told_listed name [] = go (is_acl_name name)
+  where
+    go : (a : Bool) → false ≡ (not a && false)
+    go true = refl
+    go false = refl
+told_listed name (x ∷ xs) = go (bytes_eq x.name name) (is_acl_name x.name) refl refl
+  where
+    go : (b a : Bool) → bytes_eq x.name name ≡ b → is_acl_name x.name ≡ a
+        → is_listed name (cond (not a) (x ∷ xattrs_told false xs) (xattrs_told false xs))
+        ≡ (not (is_acl_name name) && (b || is_listed name xs))
+    go true true e f =
+        let same = (bytes_eq-Decides x.name name).0 e in
+        let t : is_acl_name name ≡ true = ap is_acl_name (sym same) ∙ f in
+        told_listed name xs ∙ rw t refl
+    go true false e f =
+        let same = (bytes_eq-Decides x.name name).0 e in
+        let t : is_acl_name name ≡ false = ap is_acl_name (sym same) ∙ f in
+        rw (e, t) refl
+    go false true e f = told_listed name xs
+    go false false e f = rw e (told_listed name xs)
+
+-- a name is listed exactly if GETXATTR is answered how long its value is
+pub listed : (acls : Bool) (name : List ℕ) (xs : List Extended)
+    → IsTrue (is_listed name (xattrs_told acls xs)) ↔ (refused_xattr acls 0 name xs ≡ None)
+listed true name xs = either (is_acl_name name) (value_of name xs) (listed_some name xs)
+  where
+    either : (a : Bool) (o : Option (List ℕ)) → is_listed name xs ≡ is_some o → IsTrue (is_listed name xs)
+        ↔ (cond (a && false) (Some EOPNOTSUPP) (option_map_or (refused_size 0) o (Some ENODATA)) ≡ None)
+    either true None e = (λ t. absurd (false≢true (sym e ∙ t)), λ f. absurd (cc))
+    either true (Some v) e = (λ t. refl, λ f. e)
+    either false None e = (λ t. absurd (false≢true (sym e ∙ t)), λ f. absurd (cc))
+    either false (Some v) e = (λ t. refl, λ f. e)
+listed false name xs = either (is_acl_name name) (value_of name xs) (told_listed name xs) (listed_some name xs)
+  where
+    either : (a : Bool) (o : Option (List ℕ)) → is_listed name (xattrs_told false xs) ≡ (not a && is_listed name xs)
+        → is_listed name xs ≡ is_some o → IsTrue (is_listed name (xattrs_told false xs))
+        ↔ (cond (a && true) (Some EOPNOTSUPP) (option_map_or (refused_size 0) o (Some ENODATA)) ≡ None)
+    either true o told e = (λ t. absurd (false≢true (sym told ∙ t)), λ f. absurd (cc))
+    either false None told e = (λ t. absurd (false≢true (sym (told ∙ e) ∙ t)), λ f. absurd (cc))
+    either false (Some v) told e = (λ t. refl, λ f. told ∙ e)
