@@ -79,7 +79,7 @@ pub record XattrExamples : Type 0 where
   pub short : op_of 22 (zeros 7) ≡ malformed 22
   pub nameless : op_of 22 (zeros 8) ≡ malformed 22
   pub empty : op_of 22 (zeros 9) ≡ malformed 22
-  pub open : op_of 22 (zeros 8 ++ codes "user.a") ≡ malformed 22
+  pub unended : op_of 22 (zeros 8 ++ codes "user.a") ≡ malformed 22
   pub two_zeros : op_of 22 (zeros 8 ++ codes "a" ++ zeros 2) ≡ malformed 22
   pub zero_within : op_of 22 (zeros 8 ++ codes "a" ++ zeros 1 ++ codes "b" ++ zeros 1) ≡ malformed 22
   pub short_list : op_of 23 (zeros 7) ≡ malformed 23
