@@ -6,3 +6,4 @@ pub mod Slices
 pub mod Tables
 pub mod Runs
 pub mod Halves
+pub mod Listed
