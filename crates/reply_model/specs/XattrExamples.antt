@@ -77,10 +77,10 @@ pub record GetxattrExamples : Type 0 where
 
 -- names in order, each with its zero byte
 pub record ListxattrExamples : Type 0 where
-  pub size : over_user (list 2 0) ≡ headed 2 24 ++ u32 16 ++ zeros 4
-  pub names : over_user (list 2 16)
-      ≡ headed 2 32 ++ codes "user.a" ++ zeros 1 ++ codes "user.ab" ++ zeros 1
-  pub too_small : over_user (list 2 15) ≡ refused 2 0xffffffde
+  pub size : over_user (list 2 0) ≡ headed 2 24 ++ u32 15 ++ zeros 4
+  pub names : over_user (list 2 15)
+      ≡ headed 2 31 ++ codes "user.a" ++ zeros 1 ++ codes "user.ab" ++ zeros 1
+  pub too_small : over_user (list 2 14) ≡ refused 2 0xffffffde
   pub none : over_user (list 4 1) ≡ headed 2 16
   pub none_size : over_user (list 4 0) ≡ headed 2 24 ++ zeros 8
   pub of_no_node : over_user (list 7 0) ≡ refused 2 0xffffff8c
