@@ -7,8 +7,8 @@ use Rattle.std.specs.Option.{option_map_or}
 use Rattle.std.proofs.lemmas.Bool.{and_parts, ltb-false, leb-true, eq-eqb, eqb-true, false≢true}
 use Rattle.std.proofs.lemmas.Slice.Eq.{bytes_eq-Decides}
 use Rattle.romfs_format.specs.declared.limits.TheConstants.{MAX_XATTR_SIZE, MAX_XATTR_LIST_SIZE}
-use Rattle.romfs_format.specs.Extended.{Extended, is_acl_name, is_xattr_name, is_capability, capability_name, is_extended, is_list, names_of, names_rise, value_of}
-use Rattle.romfs_format.specs.Acls.{is_acl}
+use Rattle.romfs_format.specs.Extended.{Extended, is_acl_name, is_extended, is_list, names_of, names_rise, value_of}
+use Rattle.romfs_format.proofs.Values.{values_short}
 use Rattle.fuse_wire.specs.declared.errno.Errno.{Errno}
 use Rattle.fuse_wire.specs.declared.errno.Errno.TheVariants.{ERANGE, ENODATA, EOPNOTSUPP}
 use Rattle.fuse_wire.specs.declared.limits.TheConstants.{MAX_DATA_SIZE}
@@ -16,20 +16,6 @@ use Rattle.fuse_wire.specs.Structures.{getxattr_out}
 use Rattle.fuse_wire.proofs.Sizes.{length-getxattr_out}
 use Rattle.reply_model.specs.Xattrs.{xattrs_told, refused_size, sized_answer, refused_xattr, xattr_answer}
 use Rattle.reply_model.specs.Laws.{is_listed}
-
--- a value of an attribute that a file may have is short
-extended_short : (x : Extended) → is_extended x ≡ true → length x.value ≤ MAX_XATTR_SIZE
-extended_short x e = leb-true _ _ (and_parts (is_xattr_name x.name) _ (and_parts _ _ e).0).1
-
--- so are all values of a list
-values_short : (name : List ℕ) (xs : List Extended) → list_all is_extended xs ≡ true → (v : List ℕ) → value_of name xs ≡ Some v
-    → length v ≤ MAX_XATTR_SIZE
-values_short name [] e v is = absurd (cc)
-values_short name (x ∷ xs) e v is = go (bytes_eq x.name name) is
-  where
-    go : (b : Bool) → cond b (Some x.value) (value_of name xs) ≡ Some v → length v ≤ MAX_XATTR_SIZE
-    go true f = let s = extended_short x (and_parts _ _ e).0 in let same : x.value ≡ v = cc in rw (← same) s
-    go false f = values_short name xs (and_parts _ _ e).1 v f
 
 -- a size as an answer has 8 bytes
 sized_short : (n : ℕ) (bytes : List ℕ) → length bytes ≤ MAX_XATTR_SIZE → length (sized_answer n bytes) ≤ MAX_DATA_SIZE
@@ -45,7 +31,7 @@ short_value n name xs e = go (value_of name xs) refl
   where
     go : (o : Option (List ℕ)) → value_of name xs ≡ o → length (option_map_or (sized_answer n) o []) ≤ MAX_DATA_SIZE
     go None is = omega arith
-    go (Some v) is = sized_short n v (values_short name xs (and_parts (list_all is_extended xs) _ (and_parts _ _ e).0).0 v is)
+    go (Some v) is = sized_short n v (values_short name xs e v is)
 
 -- fewer names are no longer
 told_no_longer : (acls : Bool) (xs : List Extended) → length (names_of (xattrs_told acls xs)) ≤ length (names_of xs)

@@ -7,3 +7,4 @@ pub mod Tables
 pub mod Runs
 pub mod Halves
 pub mod Listed
+pub mod OneList
