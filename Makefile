@@ -1,17 +1,17 @@
 # make test: the merge gate. It holds the public calls against their table, proves every crate from nothing, tries the wrong bodies, and runs all tests and cases.
 # make build: the proved program, as build/strata. make demo: shows it at work.
 # make kept: the same, proved so that `rt check` in a crate's folder and make trials then prove what has changed alone.
-# make doors: the public calls against their table. make links: all that README.md and docs/ name is there, and no paragraph is too long.
-# make crate_order: crates.txt stands in the order of layers. make logic: the program names the logic of this prover. make pictures:
-# draws docs/crates.svg and docs/mounts.svg anew. None of these wants a proof.
+# make doors: the public calls against their table. make links: all that README.md and docs/ name exists, and no page or paragraph is too
+# long. make crate_order: crates.txt and the pages that list crates are in the order of layers. make logic: the program names the logic of
+# this prover. make pictures: draws docs/crates.svg and docs/mounts.svg anew. None of these needs a proof.
 # make cases: the cases alone, on build/strata. make plant: sees that the cases notice wrong lines.
 # make mounted [STRATA=PROGRAM]: real mounts, looked at through the kernel; with STRATA_READERS=N in the environment, each by N readers.
-# make layers: tools/layers.py on layouts made on the spot, and, where umoci stands, on images that umoci makes.
-# make registry: layers on many machines: a store, and, where the programs are, a registry on the loopback and sandboxes.
-# make snapshots: the snapshotter of containerd by a client, where python3-grpcio is. make engines: with containerd, runc and a
+# make layers: tools/layers.py on layouts made on the spot, and, if umoci is installed, on images that umoci makes.
+# make registry: layers on many machines: a store, and, if the programs are installed, a registry on the loopback and sandboxes.
+# make snapshots: the snapshotter of containerd by a client, if python3-grpcio is installed. make engines: with containerd, runc and a
 # registry, as root, in namespaces of its own; it says what is missing.
 # make wrong_bodies: tries the wrong bodies of trials/gate, over what is proved. The gate tries them, too.
-# make trials [CRATES=..] [ONLY=EDIT]: tries the wrong bodies of trials/CRATE.edits, over what make kept has kept; trials/outcomes.txt tells
+# make trials [CRATES=..] [ONLY=EDIT]: tries the wrong bodies of trials/CRATE.edits, over what make kept has kept; trials/outcomes.txt has
 # the last runs.
 # make bench: bounds of time. make growth: how time and memory grow with nodes and layers, drawn in docs/growth.svg.
 # make speed: measures the tables of docs/SPEED.md and writes them, with README's table and the pictures; as root, on a quiet machine.

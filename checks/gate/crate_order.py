@@ -1,11 +1,13 @@
 """Sees that crates.txt stands in the order of layers: python3 checks crate_order
 
 A crate stands below all crates of the repository that it uses, in a group with a line of comment over it that says what the
-group is; an empty line parts groups. What is not so is a line each, and then the status is 1.
+group is; an empty line parts groups. Pages that list crates have them in this order (crate_pages.py). What is not so is a line
+each, and then the status is 1.
 """
 import sys
 
 from checks import ROOT
+from checks.gate.crate_pages import wrong_pages
 from checks.gate.crates import crates_used
 
 
@@ -27,9 +29,9 @@ def wrong():
 
 
 def main():
-    lines = [*wrong()]
+    lines = [*("crates.txt: %s" % line for line in wrong()), *wrong_pages()]
     for line in lines:
-        print("crates.txt: %s" % line)
+        print(line)
     print("%d crates in %d groups, %d wrong" % (len(crates_used()), len(groups()), len(lines)))
     return 1 if lines else 0
 

@@ -113,12 +113,14 @@ def box_lines(name, middle, top):
 
 
 def part_line(low, high, places, tops):
-    """A part of a line, from a box or a bend to one of the next row."""
-    y, to_y = tops[low] + TALL * isinstance(low, str), tops[high]
+    """A part of a line, from a box or a bend to one of the next row. A bend is as tall as the boxes
+    beside it, so the line passes between these."""
+    begin = tops[low] + TALL * isinstance(low, str)
+    y, to_y = tops[low] + TALL, tops[high]
     middle = (y + to_y) / 2
     end = ' marker-end="url(#end)"' if isinstance(high, str) else ""
-    return '<path d="M%.0f %d C%.0f %.0f %.0f %.0f %.0f %d" fill="none" stroke="%s"%s/>' % (
-        places[low], y, places[low], middle, places[high], middle, places[high],
+    return '<path d="M%.0f %d V%d C%.0f %.0f %.0f %.0f %.0f %d" fill="none" stroke="%s"%s/>' % (
+        places[low], begin, y, places[low], middle, places[high], middle, places[high],
         to_y - 3 * bool(end), LINE, end)
 
 

@@ -2,9 +2,10 @@
 
 Looked at are links and the headings that they lead to; paths from the root of the repository, and from the folder of a
 crate; file names alone, which some folder must have; `make TARGET`; and `python3 checks NAME`. In a path `*` stands for
-anything, and so does a word like NAME. Names of code in the pages about it (CODE) must occur in some source. How long a paragraph may be says paragraphs.py, and a page page_words.py; no line
-of README.md is too long for a terminal. Which turns are not plain English, here and in comments, says phrases.py. It reads files alone. What is
-not there, too long or odd is a line each, and then the status is 1.
+anything, and so does a word like NAME. Names of code in the pages about it (CODE) must occur in some source. How long a paragraph
+may be says paragraphs.py, and a page page_words.py; README.md fits a few screens, and none of its lines is too long for a terminal.
+Which turns are not plain English, here, in messages and in comments, says phrases.py. It reads files alone. What is not there, too
+long or odd is a line each, and then the status is 1.
 """
 import fnmatch
 import os
@@ -14,11 +15,11 @@ import sys
 from checks import ROOT, STARTED
 from checks.gate.page_words import long_pages, pages
 from checks.gate.paragraphs import long_paragraphs
-from checks.gate.phrases import odd_comments, odd_phrases
+from checks.gate.phrases import odd_comments, odd_phrases, odd_texts
 
 BUILT = (".git", "build", "out", "__pycache__")
 PAGES = ("README.md", *sorted("docs/" + name for name in os.listdir(ROOT + "/docs") if name.endswith(".md")))
-LINE_MOST = 300  # characters of a line of README.md
+LINES_MOST, LINE_MOST = 110, 300  # of README.md, and characters of one
 PLACEHOLDER = re.compile(r"\b(?:NAME|CRATE|METHOD|EDIT)\b")
 LINK = re.compile(r"\]\(([^)\s]+)\)")
 AT_ROOT = re.compile(r"(?<![\w/.-])(?:crates|tools|checks|cases|docs|trials|demo)/[\w./*-]*")
@@ -108,15 +109,18 @@ def wrong_code(text, there):
 
 
 def long_lines(page):
-    """A line for each line of a page that is too long."""
-    for number, line in enumerate(read(page).splitlines(), 1):
+    """A line for each line of a page that is too long, and one if it has too many."""
+    lines = read(page).splitlines()
+    if len(lines) > LINES_MOST:
+        yield "%s: %d lines, allowed %d" % (page, len(lines), LINES_MOST)
+    for number, line in enumerate(lines, 1):
         if len(line) > LINE_MOST:
             yield "%s:%d: a line of %d characters, allowed %d" % (page, number, len(line), LINE_MOST)
 
 
 def main():
     there, wrong, long = There(), [], [*long_pages(), *long_lines("README.md")]
-    odd = [line for page in pages() for line in odd_phrases(page)] + [*odd_comments()]
+    odd = [line for page in pages() for line in odd_phrases(page)] + [*odd_texts(), *odd_comments()]
     for page in PAGES:
         text = read(page)
         long += long_paragraphs(page, text)

@@ -14,7 +14,7 @@ MOST = {
     "docs/DECISIONS.md": 5000,
     "docs/DEFINITIONS.md": 6000,
     "docs/ENGINES.md": 700,
-    "docs/GATE.md": 1050,
+    "docs/GATE.md": 1000,
     "docs/LIMITS.md": 1200,
     "docs/MOUNTING.md": 2300,
     "docs/NOTEBOOK.md": 4000,

@@ -1,7 +1,8 @@
 """Sees that pages and comments speak plain English; part of `python3 checks links`.
 
-PHRASES are turns that readers stumbled over, each with what to say instead. README.md, docs/ and the
-man pages are held to all of them, comments and docstrings of sources to those of SOURCES.
+PHRASES are turns that readers stumbled over, each with what to say instead. README.md, docs/, the man
+pages and what programs print are held to all of them, comments and docstrings of sources to those of
+SOURCES alone.
 """
 import ast
 import re
@@ -10,7 +11,7 @@ import tokenize
 
 from checks import ROOT
 
-PHRASES = {
+SOURCES = {
     r"who (is|are) not root": "users who are not root, unprivileged users",
     r"go(es)? by": "depends on",
     r"(is|are) told": "is reported, prints",
@@ -18,22 +19,35 @@ PHRASES = {
     r"(takes?|taken) (it |them |that )?away": "unmount, remove, hide",
     r"that (is|are) there": "existing, or nothing at all",
     r"what a mount asks": "requests of a mount",
-    r"of which no": "without",
     r"of whom": "whose",
-    r"(is|are) to be had": "is available",
     r"ask(s|ed)? a right": "verify",
     r"comes only where": "only if",
     r"want of memory": "lack of memory",
     r"in whichever": "in any",
     r"gathered of": "gathered from",
+}
+OF_PAGES = {
+    r"of which no": "without",
     r"in (the )?place of": "instead of",
     r"stands? on": "is on, uses",
+    r"(is|are|be) had": "is available, can be read",
+    r"(is|are) of (19|20)\d\d": "is dated",
+    r"says? (nothing|something) else": "says otherwise",
+    r"when it begins": "at startup",
+    r"out of the way of": "does not use, does not get",
+    r"gives? (its|their) bytes": "pipes, streams",
+    r"whatever is said": "always",
+    r"in whatever": "however, in any",
+    r"only where": "only if",
+    r"is checked by": "keeps, verifies",
+    r"told only": "reported only",
+    r"of (these|those|them) (it|they) (is|are)": "they are",
 }
-OF_PAGES = r"of which no", r"in (the )?place of", r"stands? on"
-SOURCES = {phrase: better for phrase, better in PHRASES.items() if phrase not in OF_PAGES}
+PHRASES = {**SOURCES, **OF_PAGES}
 # what tools print is quoted as it is
 QUOTED = re.compile(r"^\.EX\n.*?^\.EE$|^```.*?^```$|`[^`]*`", re.M | re.S)
 NOT_ROOT = re.compile("users who are not root", re.I)
+TEXT = re.compile(r'"((?:[^"\\]|\\.)*)"', re.S)
 LINE = re.compile(r"^[ \t]*(?://[/!]?|--)(?![-|])(.*)$", re.M)
 
 
@@ -65,6 +79,27 @@ def comments_of(path):
     documented = (ast.Module, ast.ClassDef, ast.FunctionDef)
     found += [ast.get_docstring(it) or "" for it in ast.walk(ast.parse(text)) if isinstance(it, documented)]
     return "\n".join(found)
+
+
+def texts_of(path):
+    """The texts of a source that have several words: what it prints."""
+    if path.endswith(".py"):
+        tree = ast.parse(read(path))
+        documented = {id(it.body[0].value) for it in ast.walk(tree) if isinstance(getattr(it, "body", None), list)
+                      and it.body and isinstance(it.body[0], ast.Expr)}
+        found = [it.value for it in ast.walk(tree)
+                 if isinstance(it, ast.Constant) and isinstance(it.value, str) and id(it) not in documented]
+    else:
+        found = TEXT.findall(re.sub(r"^ *//.*$", "", read(path), flags=re.M))
+    return "\n".join(text for text in found if " " in text)
+
+
+def odd_texts():
+    """A line for each odd turn of what programs print."""
+    listed = subprocess.run(["git", "ls-files", "tools/*.py", "crates/strata*/src/*.rt"], cwd=ROOT, stdout=subprocess.PIPE,
+                            text=True, check=True)
+    for path in listed.stdout.split():
+        yield from ("%s: %s" % (path, it) for it in odd_in(texts_of(path), PHRASES))
 
 
 def odd_comments():

@@ -28,7 +28,7 @@ COMPLETED = {"bash": SHARE + "bash-completion/completions/%s", "zsh": SHARE + "z
 
 
 def shown(root):
-    """Each page is shown without a warning, also by its name."""
+    """Each page is shown without a warning, also by its name, and begins with examples."""
     root.needs("man")
     root.install()
     env = dict(os.environ, MANWIDTH="80", MANPAGER="cat")
@@ -38,6 +38,7 @@ def shown(root):
         parts = ["SYNOPSIS", "EXIT STATUS"] * (page in PAGES)
         for part in ("NAME", *parts, "DESCRIPTION", "SEE ALSO", "%s(%s)" % (name.upper(), section)):
             hold_in(page, part, text)
+        hold("examples of %s come first" % page, True, 0 < text.find("\nEXAMPLES") < text.find("\nDESCRIPTION"))
         hold("man %s" % name, text, root.good("man", "--warnings", "-E", "UTF-8", section, name, env=env))
     return "%d pages, without a warning" % len(PAGES + FORMATS)
 

@@ -2,7 +2,7 @@
 them."""
 import os
 
-from strata_format.romfs_files import opened
+from strata_format.image_files import opened
 from strata_format.refused import Refused, shown
 from strata_layers.layouts import Layout, split_name
 

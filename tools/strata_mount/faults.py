@@ -9,7 +9,7 @@ import shlex
 import struct
 import zlib
 
-from strata_format import romfs_files, romfs
+from strata_format import image_files, romfs
 from strata_format.refused import Refused, one_line, shown
 from strata_layers import tars
 from strata_layers.store import default_place
@@ -87,7 +87,7 @@ def explained_line(said, images, store):
             len(images), MAKE)]
     if said == "out of memory":
         return ["the images have %d MiB together: check `ulimit -v` and the free memory" % (
-            sum(map(romfs_files.size_of, images)) >> 20)]
+            sum(map(image_files.size_of, images)) >> 20)]
     return []
 
 
@@ -95,7 +95,7 @@ def unreadable(path, count, store):
     """Why a file can't be read, which is one of so many images."""
     fault = None
     try:
-        kind = romfs_files.read_once(path)
+        kind = image_files.read_once(path)
         if kind is not None:
             return "it is %s, not a file" % kind
         front_of(path, 1)
@@ -147,7 +147,7 @@ def may_be_stored(path):
 def front_of(path, size):
     """The first bytes of a file, and its size; none of what is not opened only to look at it. Of a file of /proc, which
     says that it is empty, all that is read counts."""
-    file = romfs_files.opened(path)
+    file = image_files.opened(path)
     if file is None:
         return b"", 0
     with file:
@@ -180,7 +180,7 @@ def kind_of(path, front, size):
     """What a file is that is not a romfs image, and what to do; nothing where that isn't known."""
     name = shlex.quote(path if not path.startswith("-") else "./" + path) if path.isprintable() else "FILE"
     if size == 0:
-        return None if romfs_files.read_once(path) else "the file is empty"
+        return None if image_files.read_once(path) else "the file is empty"
     if front.startswith(b"\x1f\x8b"):
         return "compressed with gzip: " + gzipped(front, name)
     if front[257:262] == b"ustar":
@@ -216,7 +216,7 @@ def archive(path, name):
 def names_in(path):
     """The first names in an archive, as far as it can be read. Headers alone are, whatever lies between them."""
     try:
-        file = romfs_files.opened(path)
+        file = image_files.opened(path)
         if file is None:
             return
         with file:

@@ -100,14 +100,14 @@ def plan_of(read, name):
 
 def looked_at(plan):
     """Looks at all that a mount needs, and mounts nothing."""
-    from strata_format import romfs_files
+    from strata_format import image_files
     try:
         hold_folder(plan)
         find_images(plan)
         hold_names(plan)
         hold_images(plan)
         for image in plan.images:
-            file = romfs_files.opened(image)
+            file = image_files.opened(image)
             if file is not None:
                 file.close()
         return 0

@@ -1,5 +1,5 @@
 """How far strata is with the images of a mount, as one line on a terminal, from a second on."""
-from strata_format.romfs_files import size_of
+from strata_format.image_files import size_of
 from strata_format.progress import Progress
 
 STEP = 0.2

@@ -1,7 +1,7 @@
 """Whether images keep modes and owners, which matters to users of allow_other."""
 import os
 
-from strata_format import romfs_files, romfs, trailer
+from strata_format import image_files, romfs, trailer
 from strata_format.refused import shown
 
 
@@ -9,7 +9,7 @@ def keeps_modes(path):
     """Whether the image in a file has an attribute trailer. What can't be told does no harm here:
     strata refuses what is no image."""
     try:
-        file = romfs_files.opened(path)
+        file = image_files.opened(path)
         if file is None:
             return True
         with file:

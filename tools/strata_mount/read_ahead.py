@@ -10,7 +10,7 @@ import os
 import stat
 import struct
 
-from strata_format.romfs_files import LOOKING, read_once
+from strata_format.image_files import LOOKING, read_once
 
 MAGIC, HEAD_SIZE = b"-attr01-", 16
 SIZE, ROW = struct.Struct(">8xI"), struct.Struct(">I28x")

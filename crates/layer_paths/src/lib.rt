@@ -1,20 +1,24 @@
-//! Trees by path: what a run of layers shows at each path, and what it removes below.
+//! Trees by path: what a run of layers shows at each path, and what it removes from the layers
+//! below.
 //!
-//! A [`Branch`] is a name with a value and branches below it, in the order of their names. A clause
-//! sees it as rows: the value at each path, in the order of paths (`specs/Rows`). A [`Name`] of at
-//! most 22 bytes stands in its branch, and a longer one beside it. A name is found by halves; no
-//! recursion goes deeper than the tree.
+//! A [`Branch`] is a name with a value and branches below it, in the order of their names.
+//! Contracts see it as rows: the value at each path, in the order of paths (`specs/Rows`). A
+//! [`Name`] of at most 22 bytes is kept inline, a longer one beside its branch. A name is found by
+//! binary search; no recursion goes deeper than the tree.
 //!
 //! [`cover`] lays a tree on another one, [`merge`] the branches of a directory on those of another.
 //! Each path then has the values of both, one laid on the other ([`Lay`]), or that of the one tree
-//! that has it (`specs/Laying`). What one tree alone has is moved and not looked into.
+//! that has it (`specs/Laying`). What only one tree has is moved unseen.
 //!
-//! A [`Tree`] has two parts: entries and marks, each at a path. An entry has the place of what the
-//! path shows, and what the header there says of its file. An entry that is no directory cuts its
-//! path from the layers below, and so do marks: of whiteouts, and of files on which a directory was
-//! laid. One relation says what a tree is, for any run of adjacent layers (`IsTreeOf` in
-//! `specs/Trees`). `layer_tree` makes trees, and what reads them is proved beside it. An entry
-//! takes 72 bytes with its name, and a mark no more; a longer name is kept beside that.
+//! A [`Tree`] has two parts: entries and marks, each at a path. An [`Entry`] has the place of what
+//! the path shows, and what the header there says of its file. An entry that is no directory cuts
+//! its path from the layers below, and so do marks: of whiteouts, and of files on which a directory
+//! was laid. One relation says what a tree is, for any run of adjacent layers (`IsTreeOf` in
+//! `specs/Trees`). An entry takes 72 bytes with its name, and a mark no more; a longer name is kept
+//! beside that.
+//!
+//! Trees are made by `layer_tree`. What reads them does not use that crate, so it is proved beside
+//! it.
 #![tactic(auto)]
 
 mod branch;

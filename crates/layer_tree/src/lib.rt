@@ -2,12 +2,13 @@
 //!
 //! [`Tree::of`](OfLayer::of) gives the tree of one layer, [`tree_of`] that of one whose image is
 //! lent, and [`lay`] that of two runs of layers from theirs. `layer_paths` defines what a tree
-//! shows and cuts, and how it is read. `reading` makes the tree of one layer, from the members of
-//! directories in the order of their names (`members`), whose headers and names it reads ahead
-//! (`ahead`); `laying` lays one tree on another, `clashes` finds where one has a file and the other
-//! more than a leaf, and `apart` finds that there is no such path. The crate uses `layer_paths`,
-//! `layer_paths` and `layer_paths` for trees, `romfs_reader` for images and `stack_model` for what
-//! stacks show.
+//! shows and cuts, and how it is read.
+//!
+//! `reading` makes the tree of one layer, from the members of directories in the order of their
+//! names (`members`), whose headers and names it reads ahead (`ahead`). `laying` lays one tree on
+//! another; `clashes` finds where one has a file and the other more than a leaf, and `apart` finds
+//! that there is no such path. The crate uses `layer_paths` for trees, `romfs_reader` for images
+//! and `stack_model` for what stacks show.
 #![tactic(auto)]
 
 mod ahead;

@@ -9,13 +9,13 @@ ghost use Rattle.fuse_answer.specs.Puts.{sourced_by};
 ghost use Rattle.reply_pool.specs.Pools.{SpreadsRounds};
 
 use devices::Contents;
+use draw_board::Gate;
 use fuse_answer::{Served, after, answer_and_move};
 use fuse_wire::{Replies, Request};
 use reply_model::Session;
 use reply_rounds::{Gathered, LookupsAhead, Plan, pass_batch, worth_workers};
 use serve_loop::{AnswersOne, AnswersRounds, RoundEnd, walk};
 use std::alloc::{AllocError, Allocator};
-use work_gate::Gate;
 
 /// What answers requests over a table by a plan, and the files of its layers. A gate is passed
 /// before the first request of each batch.

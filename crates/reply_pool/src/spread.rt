@@ -5,13 +5,14 @@
 
 ghost use Rattle.std.specs.Prelude.{◌<◌, ◌≤◌, ◌^◌, ◌⊎◌, drop, length, IfOk};
 ghost use Rattle.serve_loop.specs.declared.limits.TheConstants.{MAX_ROUND_MESSAGES};
-ghost use Rattle.work_gate.specs.declared.limits.TheConstants.{MAX_BATCH};
+ghost use Rattle.draw_board.specs.declared.limits.TheConstants.{MAX_BATCH};
 ghost use Rattle.fuse_wire.specs.Stream.{IsRest};
 ghost use Rattle.fuse_answer.specs.Puts.{sourced_by};
 ghost use Rattle.reply_rounds.specs.Spread.{AreFirstJobs, SpreadsFrom};
 
 use crate::workers::answer_batches;
 use devices::Contents;
+use draw_board::Gate;
 use fuse_answer::{Served, after};
 use fuse_wire::{Framed, Request, frame};
 use reply_model::Session;
@@ -19,7 +20,6 @@ use reply_rounds::{Plan, RoundPieces};
 use serve_loop::RoundEnd;
 use std::alloc::{AllocError, Allocator};
 use std::thread::Threads;
-use work_gate::Gate;
 
 // The first messages of a stream as jobs, and how far they go.
 #[derive(Drop)]

@@ -2,7 +2,7 @@
 
 ghost use Rattle.std.specs.Prelude.{◌≡◌, ◌≤◌, length, IfOk};
 ghost use Rattle.serve_loop.specs.declared.limits.TheConstants.{MAX_ROUND_MESSAGES};
-ghost use Rattle.work_gate.specs.declared.limits.TheConstants.{MAX_BATCH};
+ghost use Rattle.draw_board.specs.declared.limits.TheConstants.{MAX_BATCH};
 ghost use Rattle.draw_board.specs.Hands.{IsHandOf, total_of};
 ghost use Rattle.fuse_answer.specs.Puts.{sourced_by};
 ghost use Rattle.reply_rounds.specs.Batches.{AreLight, batches};
@@ -10,14 +10,13 @@ ghost use Rattle.reply_rounds.specs.Workers.{HasWorked, KeepsHand};
 
 use crate::jobs::answer_jobs;
 use devices::Contents;
-use draw_board::{Board, Hand};
+use draw_board::{Board, Gate, Hand, Work};
 use fuse_answer::Served;
 use fuse_wire::Request;
 use reply_model::Session;
 use reply_rounds::{Piece, Rounded, batch};
 use std::alloc::{AllocError, Allocator};
 use std::thread::Threads;
-use work_gate::{Gate, Work};
 
 /// Draws batches from a board until none is left, and answers those drawn, in that order. The gate
 /// is passed before the first answer of each.

@@ -11,7 +11,7 @@ ghost use Rattle.std.specs.Prelude.{◌≡◌, ◌≤◌, length, IfOk};
 ghost use Rattle.std.specs.Thread.{IsSync};
 ghost use denote.Param.Send.{IsSend, Frees};
 ghost use Rattle.serve_loop.specs.declared.limits.TheConstants.{MAX_ROUND_MESSAGES};
-ghost use Rattle.work_gate.specs.declared.limits.TheConstants.{MAX_BATCH};
+ghost use Rattle.draw_board.specs.declared.limits.TheConstants.{MAX_BATCH};
 ghost use Rattle.draw_board.specs.Hands.{KeepsShare};
 ghost use Rattle.fuse_answer.specs.Puts.{sourced_by};
 ghost use Rattle.reply_rounds.specs.Batches.{AreLight};
@@ -21,14 +21,13 @@ ghost use Rattle.reply_rounds.specs.Workers.{AreBoth, CanDraw, HasAll};
 
 use crate::worker::work;
 use devices::Contents;
-use draw_board::{Board, Hand};
+use draw_board::{Board, Gate, Hand};
 use fuse_answer::Served;
 use fuse_wire::Request;
 use reply_model::Session;
 use reply_rounds::{Piece, Plan, Rounded, count_batches, in_order};
 use std::alloc::{AllocError, Allocator};
 use std::thread::{Threads, join};
-use work_gate::Gate;
 
 /// Answers jobs, which are requests, each with the session before it: at most 256 of them.
 ///

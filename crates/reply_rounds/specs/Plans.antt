@@ -1,6 +1,6 @@
 -- What a plan is.
 use Rattle.std.specs.Prelude.{◌≡◌, ℕ, ◌≤◌, Option, MatchOption}
-use Rattle.work_gate.specs.declared.limits.TheConstants.{MAX_BATCH, MAX_WORKERS}
+use Rattle.draw_board.specs.declared.limits.TheConstants.{MAX_BATCH, MAX_WORKERS}
 use Rattle.reply_rounds.specs.declared.plan.Plan.{Plan}
 
 -- there are 1 to 64 workers, and 1 to 256 requests in a batch

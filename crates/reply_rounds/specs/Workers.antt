@@ -3,7 +3,7 @@ use Rattle.std.specs.Prelude.{◌≡◌, ℕ, ◌+◌, ◌≤◌, List, [], ◌+
 use Rattle.std.specs.declared.vec.Vec.{Vec}
 use Rattle.std.specs.List.{All, flat_map, range_with_len}
 use Rattle.serve_loop.specs.declared.limits.TheConstants.{MAX_ROUND_MESSAGES}
-use Rattle.work_gate.specs.declared.limits.TheConstants.{MAX_BATCH}
+use Rattle.draw_board.specs.declared.limits.TheConstants.{MAX_BATCH}
 use Rattle.draw_board.specs.declared.board.Board.{Board}
 use Rattle.draw_board.specs.declared.hand.Hand.{Hand}
 use Rattle.draw_board.specs.Hands.{IsHandOf, KeepsShare, MovesMisses, TakesIn, left, positions, seen_below, total_of}

@@ -1,10 +1,10 @@
 //! How requests are shared out.
 
 ghost use Rattle.std.specs.Prelude.{◌≡◌, ◌≤◌};
-ghost use Rattle.work_gate.specs.declared.limits.TheConstants.{MAX_BATCH, MAX_WORKERS};
+ghost use Rattle.draw_board.specs.declared.limits.TheConstants.{MAX_BATCH, MAX_WORKERS};
 
-use work_gate::limits::{MAX_BATCH, MAX_WORKERS};
-use work_gate::{Gate, Work};
+use draw_board::limits::{MAX_BATCH, MAX_WORKERS};
+use draw_board::{Gate, Work};
 
 /// How many workers answer, and how many requests a batch has.
 #[derive(Clone, Copy)]

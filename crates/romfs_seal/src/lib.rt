@@ -1,21 +1,23 @@
-//! fs-verity's tree of digests, its descriptor and the digest of a file
-//! (Documentation/filesystems/fsverity.rst): SHA-256 or SHA-512, blocks of 4,096 bytes, no salt.
-//!
-//! - `specs/Tree` says what the tree over whole blocks is, `specs/File` what the descriptor and the
-//!   digest of a file are. [`examples`] computes digests that `fsverity digest` printed.
-//! - `specs/Vouched` says what a digest says of blocks that were read, by the blocks of digests on
-//!   the way to it; no premise on the hash is in it. [`laws`] says what follows.
-//! - [`BlockHash`] is a hash of blocks, [`Algorithm`] fs-verity's two. [`Digest`] is what they give.
-//! A sealed image: each block of its file is hashed when it is read, and its digest is looked up in
-//! the tree over which the file's fs-verity digest stands.
+//! Images that are read under an fs-verity digest (Documentation/filesystems/fsverity.rst in
+//! Linux): each block that is read is hashed, and its digest looked up in the tree of digests of
+//! its file. SHA-256 or SHA-512, blocks of 4,096 bytes, no salt.
 //!
 //! - [`Files`] are a file, the file of its tree, and the digest that they should have.
-//!   [`NamedFiles`] is what is asked of such files.
-//! - [`Sealed`] reads them, once [`Sealed::open`] has held the upper levels against the digest.
+//!   [`NamedFiles`] is what is asked of such files. [`Sealed`] reads them, once [`Sealed::open`]
+//!   has checked the upper levels of the tree against the digest; [`SealFault`] says why it did
+//!   not.
+//! - [`BlockHash`] is a hash of blocks, [`Algorithm`] fs-verity's two, and [`Digest`] what they
+//!   give. [`descriptor_of`] makes the descriptor of a file, whose digest is the file's.
+//! - `specs/Tree` defines the tree over whole blocks, `specs/File` the descriptor and the digest of
+//!   a file; [`examples`] computes digests that `fsverity digest` printed.
+//! - `specs/Vouched` says what a digest says of blocks that were read, by the blocks of digests on
+//!   the way to it; [`tree_laws`] says what follows.
 //!
-//! What is read is right, unless a read gives, in the place of a block of the file or of its tree,
-//! another block with that block's digest (`specs/Read`). No premise is on the hash alone. [`laws`]
-//! says that the premise is met by bytes that are held.
+//! What is read is right, unless a read gives, in place of a block of the file or of its tree,
+//! another block with that block's digest (`specs/Read`). Nothing is assumed of the hash alone.
+//! [`laws`] says that this holds of bytes in memory.
+//!
+//! The program does not use this crate yet.
 #![tactic(auto)]
 
 mod algorithm;

@@ -1,3 +1,17 @@
 pub mod Stops
 pub mod Headline
 pub mod Openings
+pub mod Looks
+pub mod Layers
+pub mod Places
+pub mod Nodes
+pub mod Rows
+pub mod Replied
+pub mod Moving
+pub mod Telling
+pub mod Refused
+pub mod Stacking
+pub mod Answered
+pub mod Streams
+pub mod Themselves
+pub mod WorkedTrailer

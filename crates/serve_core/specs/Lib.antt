@@ -5,3 +5,4 @@ pub use Rattle.devices.specs.States
 pub use Rattle.stack_prepare.specs.Layers
 pub use Rattle.stack_prepare.specs.Preparing
 pub use Rattle.serve_loop.specs.Serving
+pub mod Kept

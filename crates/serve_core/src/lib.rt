@@ -12,8 +12,15 @@
 //! also for the program's calls: images that are prepared and a stream that is then run over them.
 //! [`Stop`] joins the faults of the two halves: why images were refused, and why a stream was not
 //! served to its end.
+//!
+//! Of an image that stays in its file only what the rules check is held, and data are read from the
+//! file. [`kept_laws`] say that what was gathered from images is refused, stacked and answered as
+//! the images are: in each byte if the files hold them, and in all but the data of a READ whatever
+//! the files give.
 #![tactic(auto)]
 
+pub mod kept_examples;
+pub mod kept_laws;
 pub mod laws;
 mod preparing;
 mod running;
@@ -23,6 +30,7 @@ mod terms;
 
 pub use devices::limits::MAX_TURNS;
 pub use devices::{Failed, Sink, Source, Spout, Tap};
+pub use draw_board::{FreePass, Gate, Work};
 pub use preparing::{prepare, prepare_as};
 pub use reply_model::Session;
 pub use reply_pool::{Plan, Served};
@@ -33,4 +41,3 @@ pub use serving::{serve, serve_as};
 pub use stack_prepare::SharedAllocator;
 pub use stop::Stop;
 pub use terms::{Counted, Terms};
-pub use work_gate::{FreePass, Gate, Work};

@@ -7,10 +7,10 @@ ghost use Rattle.stack_prepare.specs.Preparing.{AreStacked};
 ghost use Rattle.serve_core.specs.Stops.{IsRefusal};
 
 use crate::stop::Stop;
+use draw_board::Gate;
 use romfs_format::Profile;
 use stack_prepare::{Owner, SharedAllocator, Table, whole_images};
 use std::thread::Threads;
-use work_gate::Gate;
 
 /// Checks images by the usual profile's rules and stacks them, the lowest layer first, into one
 /// table, as [`stack_prepare::prepare`] does.

@@ -13,13 +13,13 @@ ghost use Rattle.serve_core.specs.Openings.{RunsUntil};
 use crate::stop::Stop;
 use crate::terms::{Counted, Terms, nodes_counted};
 use devices::{Contents, Sink, Source};
+use draw_board::Gate;
 use reply_model::Session;
 use reply_pool::{Pool, RoundPieces, Served, spread_out};
 use serve_loop::{Done, Opening, Until};
 use stack_prepare::{SharedAllocator, Table};
 use std::alloc::AllocError;
 use std::thread::Threads;
-use work_gate::Gate;
 
 /// Serves the source's stream of requests over a table of images held in full into the sink, in at
 /// most as many pulls as its terms allow, of at most 65,536 bytes each. The bytes put are the

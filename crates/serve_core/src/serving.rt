@@ -11,11 +11,11 @@ use crate::running::run;
 use crate::stop::Stop;
 use crate::terms::{Counted, Terms};
 use devices::{Sink, Source};
+use draw_board::Gate;
 use romfs_format::Profile;
 use serve_loop::Done;
 use stack_prepare::SharedAllocator;
 use std::thread::Threads;
-use work_gate::Gate;
 
 /// Checks images by the usual profile's rules, stacks them, the lowest layer first, and serves the
 /// source's stream over them, as [`run`](crate::run) does.

@@ -5,18 +5,19 @@
 //! source and a sink promise, over any reader and writer of std, whatever sizes the reads and the
 //! pulls have and however often a read is interrupted. Both know when the kernel has ended the
 //! connection, as after an unmount: the call fails, and the device then says that it is gone, which
-//! it is only after a failure. A reply for which nobody waits any more is let go. [`NotedReader`]
-//! and [`NotedWriter`] count calls and keep the last one's answer, so contracts say that a push
-//! writes once, that a pull reads, and that only ENODEV ends a mount. That these two make the calls
-//! that they note no contract can say: it is tested.
+//! it is only after a failure. A reply for which nobody waits any more is let go.
+//!
+//! [`NotedReader`] and [`NotedWriter`] count calls and keep the last one's answer, so contracts say
+//! that a push writes once, that a pull reads, and that only ENODEV ends a mount. No contract can
+//! say that these two make the calls that they note: tests do.
 //!
 //! Each reader has a [`Seat`]: a tap and a spout over the one descriptor. [`serve_by_readers`]
 //! begins with the reader of the first seat, which serves until INIT is answered. The others begin
 //! in the session that it leaves: each in a thread of its own, by a `run_from` of its own over the
 //! same table and files. The kernel gives each message to one read; no contract says so. Readers
-//! share nothing but what they borrow, and wait for nothing but, at last, for one another. Each
-//! seat then holds what its reader came to, and [`end_of_all`] is the [`End`] that is reported for
-//! all of them. [`laws`] say what that means.
+//! share nothing but what they borrow, and wait only for one another at the end. Each seat then
+//! holds the result of its reader, and [`end_of_all`] is the [`End`] that is reported for all of
+//! them. [`laws`] says what that means.
 #![tactic(auto)]
 
 mod answer;

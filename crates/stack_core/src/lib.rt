@@ -5,11 +5,11 @@
 //! to single layers, but after four cuts one call does the rest of its part alone: a thread for
 //! each of many layers would cost more time and memory than it gains. If a worker cannot be
 //! started, the caller does its work. The [`Gate`] is passed before each layer's tree is made.
-//! [`shown`] finds the entry that a path shows. The crate uses `layer_tree` for trees, `work_gate`
+//! [`shown`] finds the entry that a path shows. The crate uses `layer_tree` for trees, `draw_board`
 //! and `std::thread::join` for workers.
 #![tactic(auto)]
 
 mod stacking;
 
+pub use draw_board::{FreePass, Gate, Work};
 pub use stacking::{shown, stack, stack_views};
-pub use work_gate::{FreePass, Gate, Work};

@@ -8,11 +8,11 @@ ghost use Rattle.stack_model.specs.declared.limits.TheConstants.{MAX_LAYERS};
 ghost use Rattle.romfs_reader.specs.Images.{bytes_of};
 ghost use Rattle.layer_paths.specs.Trees.{IsTreeOf, entry_at};
 
+use draw_board::{Gate, Work, forks_of};
 use layer_tree::{Place, Tree, lay, tree_of};
 use romfs_reader::{Image, ImageView, views_of};
 use std::alloc::{AllocError, Allocator};
 use std::thread::{Threads, join};
-use work_gate::{Gate, Work, forks_of};
 
 /// The tree of a list of layers, the lowest first, as [`stack_views`] makes it of the images that
 /// are lent.

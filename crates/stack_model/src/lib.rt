@@ -4,8 +4,10 @@
 //! `specs/` restates the OCI image specification's layer chapter (whiteouts, opaque whiteouts,
 //! which layer's entry is seen) over lists of accepted images, and numbers what is seen: paths,
 //! nodes, attributes, rows. A layer is the list of an image's accessible bytes; layers are numbered
-//! from 0, the lowest. [`Attr`] is what stat(2) tells of a node, one type for the table that tells
-//! it and the reply that holds it; [`Owner`] is whom a node belongs to.
+//! from 0, the lowest.
+//!
+//! [`Attr`] is what stat(2) tells of a node, one type for the table that tells it and the reply
+//! that holds it; [`Owner`] is whom a node belongs to.
 #![tactic(auto)]
 
 mod attr;

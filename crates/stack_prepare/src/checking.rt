@@ -10,13 +10,13 @@ ghost use denote.Param.Send.{IsSync, IsSend, Frees};
 ghost use Rattle.stack_model.specs.declared.limits.TheConstants.{MAX_LAYERS};
 
 use crate::refusal::Refusal;
+use draw_board::{Gate, Work, forks_of};
 use romfs_format::Profile;
 use romfs_held::HeldImage;
 use romfs_image::{CheckFault, Image, check_held};
 use romfs_rows::Rows;
 use std::alloc::Allocator;
 use std::thread::{Threads, join};
-use work_gate::{Gate, Work, forks_of};
 
 /// Images that were checked, and the rows of attributes of each, where the profile reads them.
 #[derive(Drop)]

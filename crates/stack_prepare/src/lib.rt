@@ -23,9 +23,9 @@ mod preparing;
 pub mod refusal;
 
 pub use bounds::SharedAllocator;
+pub use draw_board::{FreePass, Gate, Work};
 pub use node_table::{Owner, Table};
 pub use preparing::{prepare, whole_images};
 pub use refusal::Refusal;
 pub use romfs_format::Profile;
 pub use romfs_held::{HeldImage, Kept};
-pub use work_gate::{FreePass, Gate, Work};

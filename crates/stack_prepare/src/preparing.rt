@@ -9,6 +9,7 @@ ghost use Rattle.stack_prepare.specs.Preparing.{AreStacked};
 use crate::bounds::SharedAllocator;
 use crate::checking::{Checked, check_all};
 use crate::refusal::Refusal;
+use draw_board::Gate;
 use node_table::{Attributes, Table, table_of_layers};
 use romfs_format::Profile;
 use romfs_held::HeldImage;
@@ -17,7 +18,6 @@ use stack_model::Owner;
 use stack_model::limits::MAX_LAYERS;
 use std::alloc::{AllocError, Allocator};
 use std::thread::Threads;
-use work_gate::Gate;
 
 /// Checks images by the rules of a profile and stacks them, the lowest layer first, into one table,
 /// with the rows of attributes that the profile reads; all that has no row belongs to an owner. Of

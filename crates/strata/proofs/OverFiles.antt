@@ -15,9 +15,9 @@ use Rattle.fuse_wire.specs.Requests.{Asked, at_node, read}
 use Rattle.reply_model.specs.declared.session.Session.{Session}
 use Rattle.reply_model.specs.Replies.{reply}
 use Rattle.reply_model.specs.Readings.{Sourced, sourced, IsReplyOver}
-use Rattle.serve_model.specs.Kept.{WereGatheredFor, AreStacksOf, over}
-use Rattle.serve_model.proofs.Answered as answered
-use Rattle.serve_model.proofs.Stacking.{stacked_back}
+use Rattle.serve_core.specs.Kept.{WereGatheredFor, AreStacksOf, over}
+use Rattle.serve_core.proofs.Answered as answered
+use Rattle.serve_core.proofs.Stacking.{stacked_back}
 use Rattle.strata_words.specs.declared.options.Line.{Line}
 use Rattle.strata.specs.Images.{profile_of, trailers_of, IsDataOf, AreDataOf, AreHeldWhole, ArePrepared}
 use Rattle.strata.proofs.Rules.{reads}

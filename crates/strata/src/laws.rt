@@ -12,7 +12,7 @@ ghost use Rattle.reply_model.specs.declared.session.Session.{Session};
 ghost use Rattle.reply_model.specs.declared.session.Session.TheVariants.{Fresh, LastingFresh};
 ghost use Rattle.reply_model.specs.Readings.{Sourced, in_memory, sourced, IsReplyOver};
 ghost use Rattle.reply_model.specs.Replies.{reply};
-ghost use Rattle.serve_model.specs.Kept.{WereGatheredFor, over};
+ghost use Rattle.serve_core.specs.Kept.{WereGatheredFor, over};
 ghost use Rattle.devices.specs.Sources.{held};
 ghost use Rattle.fuse_wire.specs.Requests.{Asked, at_node, read};
 ghost use Rattle.stack_model.specs.Listing.{Stacked};

@@ -20,12 +20,12 @@ use crate::numbers::{number_to, owner_in};
 use crate::options::{Line, LineFault, MAX_READERS, MAX_SESSIONS, NoLine, Verb};
 use clap::error::ErrorKind;
 use clap::{ArgMatches, Error};
+use draw_board::limits::{MAX_BATCH, MAX_WORKERS};
 use stack_model::Owner;
 use std::alloc::{AllocError, Global};
 use std::convert::AsStr;
 use std::env::Env;
 use std::{env, io};
-use work_gate::limits::{MAX_BATCH, MAX_WORKERS};
 
 const DEFAULT_WORKERS: u32 = 4;
 

@@ -4,10 +4,10 @@
 //! tests look at them when all threads have ended.
 
 use crate::refusing::Refusing;
+use draw_board::{Gate, Work, forks};
 use std::alloc::Global;
 use std::sync::atomic::{AtomicU64, Ordering};
 use std::thread::Threads;
-use work_gate::{Gate, Work, forks};
 
 /// Turns of a gate: more than any schedule takes, if there is another worker.
 pub const MANY: u32 = 1 << 30;

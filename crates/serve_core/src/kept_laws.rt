@@ -1,0 +1,96 @@
+//! What was gathered from images is refused for what they are refused for, shows what they show,
+//! and is answered as they are.
+
+ghost use Rattle.std.specs.Prelude.{◌≡◌, ◌≢◌, ◌⊎◌, ◌↔◌, ℕ, List, map, length, take, false};
+ghost use Rattle.devices.specs.Sources.{Source, held};
+ghost use Rattle.stack_model.specs.declared.owner.Owner.{Owner};
+ghost use Rattle.romfs_format.specs.declared.rule.Profile.{Profile};
+ghost use Rattle.romfs_format.specs.Profiles.{reads_attributes};
+ghost use Rattle.romfs_kept.specs.Footprint.{reach};
+ghost use Rattle.fuse_wire.specs.declared.errno.Errno.TheVariants.{EIO};
+ghost use Rattle.fuse_wire.specs.declared.limits.TheConstants.{OUT_HEADER_SIZE};
+ghost use Rattle.fuse_wire.specs.Replies.{error_reply};
+ghost use Rattle.fuse_wire.specs.Requests.{Asked, at_node, read};
+ghost use Rattle.stack_model.specs.Listing.{Stacked};
+ghost use Rattle.stack_model.specs.Numbers.{nodes};
+ghost use Rattle.stack_prepare.specs.declared.refusal.Refusal.{Refusal};
+ghost use Rattle.stack_prepare.specs.Layers.{AreRefused};
+ghost use Rattle.stack_prepare.specs.Preparing.{AreStacked};
+ghost use Rattle.reply_model.specs.declared.session.Session.{Session};
+ghost use Rattle.reply_model.specs.Replies.{reply};
+ghost use Rattle.reply_model.specs.Moves.{moves};
+ghost use Rattle.reply_model.specs.Readings.{sourced, IsReplyOver};
+ghost use Rattle.reply_model.specs.Streams.{replies};
+ghost use Rattle.reply_rounds.specs.Answers.{answering_from};
+ghost use Rattle.serve_loop.specs.declared.done.Done.{Done};
+ghost use Rattle.serve_loop.specs.Serving.{AreRepliesTo, Trace};
+ghost use Rattle.serve_loop.specs.Laws.{HasServed};
+ghost use Rattle.serve_core.specs.Headline.{HasServedOver};
+ghost use Rattle.serve_core.specs.Kept.{WereGatheredFor, AreStacksOf, over};
+
+use std::alloc::Allocator;
+
+/// The first bytes of images, as many as are read, were gathered from them, for a profile that
+/// reads no attributes.
+#[tactic(auto, using(crate::proofs::Themselves::all_themselves))]
+pub fn images_are_gathered_of_themselves()
+    ensures { (profile : Profile) → reads_attributes profile ≡ false → (images : List (List ℕ)) →
+        WereGatheredFor profile images (map (λ b. take (reach b) b) images) }
+{}
+
+/// What was gathered from images is refused for what they are refused for.
+#[tactic(auto, using(crate::proofs::Refused::refused_alike))]
+pub fn refused_as_they_are()
+    ensures { (profile : Profile) (images kept : List (List ℕ)) →
+        WereGatheredFor profile images kept → (r : Refusal) →
+        (AreRefused profile kept r ↔ AreRefused profile images r) }
+{}
+
+/// It can be stacked if they can, and then shows what they show: the same entries, rows and owner.
+pub fn stacked_as_they_are()
+    ensures forth { (profile : Profile) (images kept : List (List ℕ)) →
+        WereGatheredFor profile images kept → (owner : Owner) (stack : Stacked) →
+        AreStacked profile owner images stack → AreStacked profile owner kept (over kept stack) }
+    ensures back { (profile : Profile) (images kept : List (List ℕ)) →
+        WereGatheredFor profile images kept → (owner : Owner) (stack : Stacked) →
+        AreStacked profile owner kept stack → AreStacked profile owner images (over images stack) }
+{}
+
+/// Over what was gathered, with data read from sources that hold the images, a request may only get
+/// the reply that is defined over the images; and it moves the same lookups.
+pub fn answered_as_they_are()
+    ensures told { (images : List (List ℕ)) (gathered whole : Stacked) →
+        AreStacksOf images gathered whole → (s : Session) (q : Asked) (bytes : List ℕ) →
+        (IsReplyOver (sourced gathered (map held images)) s q bytes ↔ (bytes ≡ reply whole s q)) }
+    ensures moved { (images : List (List ℕ)) (gathered whole : Stacked) →
+        AreStacksOf images gathered whole → (s : Session) (q : Asked) →
+        moves gathered s q ≡ moves whole s q }
+{}
+
+/// Whatever the sources give, for instance files that were changed or fail: each request but a READ
+/// gets the reply that is defined over the images, and a READ one with as much data, or EIO.
+pub fn only_data_are_read()
+    ensures others { (images : List (List ℕ)) (gathered whole : Stacked) →
+        AreStacksOf images gathered whole → (sources : List Source) (s : Session) (q : Asked)
+        (bytes : List ℕ) → IsReplyOver (sourced gathered sources) s q bytes →
+        ((offset size : ℕ) → q.op ≢ at_node (read offset size)) → bytes ≡ reply whole s q }
+    ensures reads { (images : List (List ℕ)) (gathered whole : Stacked) →
+        AreStacksOf images gathered whole → (sources : List Source) (s : Session) (q : Asked)
+        (bytes : List ℕ) → IsReplyOver (sourced gathered sources) s q bytes →
+        ((length bytes ≡ length (reply whole s q))
+        × (take OUT_HEADER_SIZE bytes ≡ take OUT_HEADER_SIZE (reply whole s q)))
+        ⊎ (bytes ≡ error_reply q.unique EIO) }
+{}
+
+/// A stream is served as over the images, to its end.
+pub fn streams_are_served_as_over_them<A: Allocator>()
+    ensures told { (images : List (List ℕ)) (gathered whole : Stacked) →
+        AreStacksOf images gathered whole →
+        (first : Session) (messages : List (List ℕ)) (bytes : List ℕ) →
+        AreRepliesTo (answering_from first (sourced gathered (map held images))) messages bytes →
+        bytes ≡ replies whole first messages }
+    ensures served { (images : List (List ℕ)) (gathered whole : Stacked) →
+        AreStacksOf images gathered whole → (first : Session) (t : Trace) (done : Done A) →
+        HasServed (answering_from first (sourced gathered (map held images)))
+        (length (nodes gathered.entries)) t done → HasServedOver first whole done t }
+{}

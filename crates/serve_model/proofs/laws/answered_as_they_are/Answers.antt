@@ -1,9 +1,0 @@
-use Rattle.serve_model.proofs.Answered.{told_alike, told_too, moved_alike}
-use Rattle.serve_model.proofs.laws.answered_as_they_are.Goals as goal
-
-pub returns-clause-told : goal.returns-clause-told
-returns-clause-told c = λ images gathered whole k s q bytes.
-    (told_alike images gathered whole k s q bytes, told_too images gathered whole k s q bytes)
-
-pub returns-clause-moved : goal.returns-clause-moved
-returns-clause-moved c = moved_alike

@@ -1,8 +1,0 @@
-use Rattle.serve_model.proofs.Answered.{told_others, told_front}
-use Rattle.serve_model.proofs.laws.only_data_are_read.Goals as goal
-
-pub returns-clause-others : goal.returns-clause-others
-returns-clause-others c = told_others
-
-pub returns-clause-reads : goal.returns-clause-reads
-returns-clause-reads c = told_front

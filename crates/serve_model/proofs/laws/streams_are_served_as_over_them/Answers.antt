@@ -1,8 +1,0 @@
-use Rattle.serve_model.proofs.Streams.{replied_alike, served_over}
-use Rattle.serve_model.proofs.laws.streams_are_served_as_over_them.Goals as goal
-
-pub returns-clause-told : goal.returns-clause-told
-returns-clause-told g c = replied_alike
-
-pub returns-clause-served : goal.returns-clause-served
-returns-clause-served g c = λ images gathered whole k first t done. served_over images gathered whole k first t done
