@@ -200,7 +200,10 @@ module _ (stack : Stacked) where
         LastsAs (has_acls stack) lastingly unique op (reply stack (Ready export acls) (asking unique node op))
         (reply stack (LastingReady export acls no_open no_opendir) (asking unique node op))
     ready_lasts unique node (init major minor readahead flags) = stays _ _ _ (error_no_data unique EIO _)
-    ready_lasts unique node (at_node op) = node_lasts unique op (node_of stack.entries node)
+    ready_lasts unique node (at_node (lookup name)) = node_lasts unique (lookup name) (node_of stack.entries node)
+    ready_lasts unique node (at_node (open_file flags)) = node_lasts unique (open_file flags) (node_of stack.entries node)
+    ready_lasts unique node (at_node opendir) = node_lasts unique opendir (node_of stack.entries node)
+    ready_lasts unique node (at_node _) = refl
     ready_lasts unique node (done flush) = turns _ _
     ready_lasts unique node (done _) = refl
     ready_lasts unique node _ = refl

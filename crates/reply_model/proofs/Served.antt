@@ -101,7 +101,8 @@ module _ (stack : Stacked) where
           let is : answer stack (agreement_of s) node (at_node op) ≡ answer_at stack (agreement_of s) op found.0 =
           ap (λ o. option_map_or (answer_at stack (agreement_of s) op) o []) found.1 in
           let l = length-reply_with unique (answer stack (agreement_of s) node (at_node op)) in
-          rw is at l (omega arith)
+          let same = ap length is in
+          omega arith
 
   -- a value
   pub value_within : (s : Session) (unique node size : ℕ) (name : List ℕ) → size ≢ 0

@@ -37,18 +37,16 @@ short_value n name xs e = go (value_of name xs) refl
 told_no_longer : (acls : Bool) (xs : List Extended) → length (names_of (xattrs_told acls xs)) ≤ length (names_of xs)
 told_no_longer true xs = omega arith
 told_no_longer false [] = omega arith
-told_no_longer false (x ∷ xs) = go (is_acl_name x.name)
+told_no_longer false (x ∷ xs) = go (is_acl_name x.name) (told_no_longer false xs)
   where
-    rest : length (names_of (xattrs_told false xs)) ≤ length (names_of xs)
-    rest = told_no_longer false xs
-
-    go : (b : Bool) → length (names_of (cond (not b) (x ∷ xattrs_told false xs) (xattrs_told false xs)))
+    go : (b : Bool) → length (names_of (xattrs_told false xs)) ≤ length (names_of xs)
+        → length (names_of (cond (not b) (x ∷ xattrs_told false xs) (xattrs_told false xs)))
         ≤ length (x.name ++ 0 ∷ names_of xs)
-    go true = let l = length-append x.name (0 ∷ names_of xs) in let r = rest in omega arith
-    go false =
+    go true r = let l = length-append x.name (0 ∷ names_of xs) in omega arith
+    go false r =
         let l = length-append x.name (0 ∷ names_of xs) in
         let m = length-append x.name (0 ∷ names_of (xattrs_told false xs)) in
-        let r = rest in omega arith
+        omega arith
 
 -- the answer to a LISTXATTR is short
 pub short_names : (n : ℕ) (acls : Bool) (xs : List Extended) → IsTrue (is_list xs)
@@ -60,12 +58,13 @@ short_names n acls xs e =
 
 -- an answer that is not refused for its size fits in it
 pub sized_fits : (size : ℕ) (bytes : List ℕ) → size ≢ 0 → refused_size size bytes ≡ None → length (sized_answer size bytes) ≤ size
-sized_fits zero bytes n r = absurd (n refl)
-sized_fits (suc k) bytes n r = go (nat_lt (suc k) (length bytes)) refl r
+sized_fits size bytes n r = go (size == 0) (nat_lt size (length bytes)) refl refl r
   where
-    go : (b : Bool) → nat_lt (suc k) (length bytes) ≡ b → cond b (Some ERANGE) None ≡ None → length bytes ≤ suc k
-    go true is f = absurd (cc)
-    go false is f = ltb-false _ _ is
+    go : (z l : Bool) → (size == 0) ≡ z → nat_lt size (length bytes) ≡ l → cond (not z && l) (Some ERANGE) None ≡ None
+        → length (cond z (getxattr_out (length bytes)) bytes) ≤ size
+    go true l e f g = absurd (n (eqb-true _ _ e))
+    go false true e f g = absurd (cc)
+    go false false e f g = ltb-false _ _ f
 
 -- so does a value
 pub value_fits : (acls : Bool) (size : ℕ) (name : List ℕ) (xs : List Extended) → size ≢ 0 → refused_xattr acls size name xs ≡ None
@@ -81,11 +80,12 @@ value_fits acls size name xs n r = go (is_acl_name name && not acls) (value_of n
 -- a name is listed exactly if it has a value
 listed_some : (name : List ℕ) (xs : List Extended) → is_listed name xs ≡ is_some (value_of name xs)
 listed_some name [] = refl
-listed_some name (x ∷ xs) = go (bytes_eq x.name name)
+listed_some name (x ∷ xs) = go (bytes_eq x.name name) (listed_some name xs)
   where
-    go : (b : Bool) → (b || is_listed name xs) ≡ is_some (cond b (Some x.value) (value_of name xs))
-    go true = refl
-    go false = listed_some name xs
+    go : (b : Bool) → is_listed name xs ≡ is_some (value_of name xs)
+        → (b || is_listed name xs) ≡ is_some (cond b (Some x.value) (value_of name xs))
+    go true rest = refl
+    go false rest = rest
 
 -- of the names that a client gets those of access control lists are not, unless it enforces them
 told_listed : (name : List ℕ) (xs : List Extended)
@@ -95,21 +95,22 @@ told_listed name [] = go (is_acl_name name)
     go : (a : Bool) → false ≡ (not a && false)
     go true = refl
     go false = refl
-told_listed name (x ∷ xs) = go (bytes_eq x.name name) (is_acl_name x.name) refl refl
+told_listed name (x ∷ xs) = go (bytes_eq x.name name) (is_acl_name x.name) refl refl (told_listed name xs)
   where
     go : (b a : Bool) → bytes_eq x.name name ≡ b → is_acl_name x.name ≡ a
+        → is_listed name (xattrs_told false xs) ≡ (not (is_acl_name name) && is_listed name xs)
         → is_listed name (cond (not a) (x ∷ xattrs_told false xs) (xattrs_told false xs))
         ≡ (not (is_acl_name name) && (b || is_listed name xs))
-    go true true e f =
+    go true true e f rest =
         let same = (bytes_eq-Decides x.name name).0 e in
         let t : is_acl_name name ≡ true = ap is_acl_name (sym same) ∙ f in
-        told_listed name xs ∙ rw t refl
-    go true false e f =
+        rest ∙ rw t refl
+    go true false e f rest =
         let same = (bytes_eq-Decides x.name name).0 e in
         let t : is_acl_name name ≡ false = ap is_acl_name (sym same) ∙ f in
         rw (e, t) refl
-    go false true e f = told_listed name xs
-    go false false e f = rw e (told_listed name xs)
+    go false true e f rest = rest
+    go false false e f rest = rw e rest
 
 -- a name is listed exactly if GETXATTR is answered how long its value is
 pub listed : (acls : Bool) (name : List ℕ) (xs : List Extended)
