@@ -58,7 +58,7 @@ at_index all i = get_or all i nothing
 
 -- the place of a member past the end of members
 abbrev pub nowhere_kept : KeyedMember
-nowhere_kept = record { key = 0; offset = 0; name_len = 0 }
+nowhere_kept = record { key = 0; offset = 0; head = nothing.head; name = record { ref_ptr = (0, 0); now = [] } }
 
 -- the member at a place is the one whose header stands at that place of the list
 pub at_place : (a : List ℕ) (ms : List KeyedMember) (i : ℕ) → i < length ms

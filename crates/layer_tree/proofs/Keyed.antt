@@ -48,14 +48,16 @@ module _ (a : List ℕ) where
       pick Greater e = refl
 
   -- members that are sorted by keys, and then by their names, are sorted by names
-  pub by_name : (ms : List KeyedMember) → AreKeyedBehind a ms
-      → IsSorted (λ x y. name_cmp (key_and_name a x) (key_and_name a y)) ms → IsByName (members_in a ms)
-  by_name ms keyed up k d l m =
-      let x : KeyedMember = record { key = 0; offset = 0; name_len = 0 } in
+  pub by_name : (ms : List KeyedMember) → All (IsRead a) ms → AreKeyedBehind a ms
+      → IsSorted (λ x y. name_cmp (key_and_name x) (key_and_name y)) ms → IsByName (members_in a ms)
+  by_name ms read keyed up k d l m =
+      let x : KeyedMember = record { key = 0; offset = 0; head = head_of a 0; name = record { ref_ptr = (0, 0); now = [] } } in
       let n : k + 1 < length ms = rw (length-map ms (member_in a)) at m in
+      let p : (slice_index_or ms (k + 1) x).name.now ≡ name_of a (slice_index_or ms (k + 1) x).offset = (read (k + 1) x n).name in
+      let q : (slice_index_or ms k x).name.now ≡ name_of a (slice_index_or ms k x).offset = (read k x (omega arith)).name in
       rw (get_or-map (member_in a) ms (k + 1) x d n, get_or-map (member_in a) ms k x d (omega arith))
       (not_less keyed.front (slice_index_or ms (k + 1) x) (slice_index_or ms k x) (keyed.each (k + 1) x n) (keyed.each k x (omega arith))
-      (up k x l n))
+      (rw (p, q) at (up k x l n)))
 
 -- lists whose first bytes are the same both begin with these
 pub begins_both : (n : ℕ) (x y : List ℕ) → take n x ≡ take n y → HasFront (take n x) y
@@ -112,16 +114,17 @@ keyed_behind a front m p b =
 -- one key more, as the code goes
 pub one_keyed : (a : List ℕ) (n : ℕ) (old now : List KeyedMember) (i k : ℕ) (d : KeyedMember) → i < length old → i < length now
     → now ≡ map (keyed_past a n) (take i old) ++ drop i old → k ≡ key 8 (drop n (name_of a (slice_index_or now i d).offset))
-    → slice_set now i (record { key = k; offset = (slice_index_or now i d).offset; name_len = (slice_index_or now i d).name_len })
+    → slice_set now i (record {
+      key = k;
+      offset = (slice_index_or now i d).offset;
+      head = (slice_index_or now i d).head;
+      name = (slice_index_or now i d).name;
+    })
     ≡ map (keyed_past a n) (take (i + 1) old) ++ drop (i + 1) old
 one_keyed a n old now i k d l m e v =
     let x = slice_index_or now i d in
-    let with_key : ℕ → KeyedMember = λ key. record { key = key; offset = x.offset; name_len = x.name_len } in
+    let with_key : ℕ → KeyedMember = λ key. record { key = key; offset = x.offset; head = x.head; name = x.name } in
     ap (λ key. slice_set now i (with_key key)) v ∙ map_over_more (keyed_past a n) old now i x l e (get_or_default now i d x m)
-
--- the name of a header that was read is that of its place
-pub named : (a name : List ℕ) (head : Head) (h : ℕ) → name ≡ name_of a head.offset → head ≡ head_of a h → name ≡ name_of a h
-named a name head h e f = e ∙ ap (λ (x : Head). name_of a x.offset) f
 
 -- a member whose key is not made anew yet is as it was
 pub not_yet : (a : List ℕ) (n : ℕ) (old now : List KeyedMember) (i : ℕ) (d : KeyedMember) → i < length old
@@ -154,7 +157,7 @@ pub told_apart : (a : List ℕ) (n : ℕ) (ms : List KeyedMember) → All (IsRea
     → AreToldApart a ms (map (keyed_past a n) ms)
 told_apart a n ms r p s = rw s.is (record {
   read = All-map (IsRead a) (keyed_past a (length s.front)) ms
-      (λ k d l. record { given = (r k d l).given; length = (r k d l).length });
+      (λ k d l. record { given = (r k d l).given; head = (r k d l).head; name = (r k d l).name });
   keyed = record {
     front = s.front;
     each = All-map (IsKeyed a s.front) (keyed_past a (length s.front)) ms

@@ -21,10 +21,11 @@ member_in a m = record { name = name_of a m.offset; head = head_of a m.offset }
 abbrev pub members_in : List ℕ → List KeyedMember → List NamedMember
 members_in a ms = map (member_in a) ms
 
--- the header is one that the image gives, and its name has this length
+-- the header is one that the image gives, and its name is this
 pub record IsRead (a : List ℕ) (m : KeyedMember) : Type 0 where
   pub given : IsGiven a (head_of a m.offset)
-  pub length : m.name_len ≡ length (name_of a m.offset)
+  pub head : m.head ≡ head_of a m.offset
+  pub name : m.name.now ≡ name_of a m.offset
 
 -- the name begins with the front
 pub record HasFront (front name : List ℕ) : Type 0 where
@@ -58,12 +59,13 @@ abbrev pub keyed_past : List ℕ → ℕ → KeyedMember → KeyedMember
 keyed_past a n m = record {
   key = key 8 (drop n (name_of a m.offset));
   offset = m.offset;
-  name_len = m.name_len;
+  head = m.head;
+  name = m.name;
 }
 
 -- the key, and then the name
-abbrev pub key_and_name : List ℕ → KeyedMember → List ℕ
-key_and_name a m = m.key ∷ name_of a m.offset
+abbrev pub key_and_name : KeyedMember → List ℕ
+key_and_name m = m.key ∷ m.name.now
 
 -- in the order of their names
 abbrev pub IsByName : List NamedMember → Type 0

@@ -10,7 +10,6 @@
 //! stacks show.
 #![tactic(auto)]
 
-mod ahead;
 mod apart;
 mod clashes;
 pub mod laws;

@@ -1,10 +1,10 @@
 //! The members of a directory in the order of their names.
 //!
-//! Names are anywhere in an image, so a sort that reads two of them for each comparison is slow.
-//! For each member a key, the place of its header and the length of its name are kept, 16 bytes,
-//! and sorted by key; names are read again only if keys are equal. A key is eight bytes of a name
-//! as a number, the first ones after the common front of the directory's names, since names such as
-//! `file-000017` and `file-000018` are equal up to there.
+//! Names are anywhere in an image, so a sort that compares two of them each time is slow. For each
+//! member its header, its name as a slice of the image and a key are kept, and sorted by key; names
+//! are looked at only if keys are equal. A key is eight bytes of a name as a number, the first ones
+//! after the common front of the directory's names, since names such as `file-000017` and
+//! `file-000018` are equal up to there. A header is found in the image once.
 
 ghost use Rattle.std.specs.Prelude.{◌≡◌, ◌≤◌, [], ◌++◌, length, map, IfOk, IsFalse, All, MatchOption};
 ghost use Rattle.std.specs.List.Sorted.{IsPermutation};
@@ -25,24 +25,24 @@ use std::cmp::Ordering;
 /// How many members a directory gets room for at once: most have no more.
 const FEW: usize = 16;
 
-/// A member of a directory, by the place of its header.
+/// A member of a directory, with the place of its header.
 #[derive(Clone, Copy)]
-pub(crate) struct KeyedMember {
+pub(crate) struct KeyedMember<'a> {
     /// Eight bytes of the name as a number, behind a front that all names of the directory share.
     pub key: u64,
     pub offset: u32,
-    /// How many bytes its name has.
-    pub name_len: u32,
+    pub head: Head,
+    pub name: &'a [u8],
 }
 
 /// The members of a directory in the order of their names. It reads each header once, and sorts;
-/// names that begin alike are read once more, for keys after their front.
+/// names that begin alike are looked at once more, for keys after their front.
 #[inline(never)]
-pub(crate) fn sorted_members<A: Allocator + Copy>(
+pub(crate) fn sorted_members<'a, A: Allocator + Copy>(
     alloc: A,
-    image: &ImageView<'_>,
+    image: &ImageView<'a>,
     directory: &Head,
-) -> Result<Vec<KeyedMember, A>, AllocError>
+) -> Result<Vec<KeyedMember<'a>, A>, AllocError>
     requires sound { IsImage image.now }
     requires given { IsGiven image.now directory.now }
     requires directory { directory.now.kind ≡ Kind.Directory }
@@ -68,11 +68,11 @@ pub(crate) fn whiteout_of(name: &[u8]) -> Option<&[u8]>
 
 /// Members, each with the key of its full name, and how many bytes all their names share at the
 /// front.
-fn keyed_members<A: Allocator + Copy>(
+fn keyed_members<'a, A: Allocator + Copy>(
     alloc: A,
-    image: &ImageView<'_>,
-    members: Members<'_>,
-) -> Result<(Vec<KeyedMember, A>, usize), AllocError>
+    image: &ImageView<'a>,
+    members: Members<'a>,
+) -> Result<(Vec<KeyedMember<'a>, A>, usize), AllocError>
     requires { All (λ head. IsGiven image.now head) members }
     ensures heads { IfOk result
         (λ it. map (λ m. head_of image.now m.offset) it.0.items ≡ members.entry) }
@@ -88,7 +88,8 @@ fn keyed_members<A: Allocator + Copy>(
         keyed.push(KeyedMember {
             key: key_of(name),
             offset: head.offset,
-            name_len: head.name_len,
+            head,
+            name,
         })?;
     }
     Ok((keyed, front.len()))
@@ -121,7 +122,7 @@ fn shared<'a>(x: &'a [u8], y: &[u8]) -> &'a [u8]
 }
 
 /// Gives members whose names begin alike keys that distinguish them.
-fn tell_apart(image: &ImageView<'_>, members: &mut [KeyedMember], shared: usize)
+fn tell_apart(image: &ImageView<'_>, members: &mut [KeyedMember<'_>], shared: usize)
     requires read { All (IsRead image.now) members.old }
     requires keyed { All (IsKeyed image.now []) members.old }
     requires shared { ShareFront image.now shared members.old }
@@ -133,32 +134,37 @@ fn tell_apart(image: &ImageView<'_>, members: &mut [KeyedMember], shared: usize)
 }
 
 /// Gives each member the key of its name after the first `shared` bytes.
-fn set_keys(image: &ImageView<'_>, members: &mut [KeyedMember], shared: usize)
+fn set_keys(image: &ImageView<'_>, members: &mut [KeyedMember<'_>], shared: usize)
     requires read { All (IsRead image.now) members.old }
     requires long { All (λ m. shared ≤ length (name_of image.now m.offset)) members.old }
     ensures { members.new ≡ map (keyed_past image.now shared) members.old }
 {
+    // the image is named by the clauses alone
+    let _ = image;
     for member in members.iter_mut() {
-        let name = image.given_name(member.offset, member.name_len);
+        let name = member.name;
         member.key = key_of(&name[shared..]);
     }
 }
 
 /// Sorts members by name, byte by byte.
-fn sort_by_name<A: Allocator>(image: &ImageView<'_>, members: &mut Vec<KeyedMember, A>)
-    requires { AreKeyedBehind image.now members.old.items }
+fn sort_by_name<A: Allocator>(image: &ImageView<'_>, members: &mut Vec<KeyedMember<'_>, A>)
+    requires read { All (IsRead image.now) members.old.items }
+    requires keyed { AreKeyedBehind image.now members.old.items }
     ensures same { IsPermutation members.old.items members.new.items }
     ensures sorted { IsByName (members_in image.now members.new.items) }
 {
-    members.sort_unstable_by(|x, y| order(image, x, y));
+    // the image is named by the clauses alone
+    let _ = image;
+    members.sort_unstable_by(|x, y| order(x, y));
 }
 
 /// The order of members by key, and by name if keys are equal.
-fn order(image: &ImageView<'_>, x: &KeyedMember, y: &KeyedMember) -> Ordering
-    ensures { result ≡ name_cmp (key_and_name image.now x.now) (key_and_name image.now y.now) }
+fn order(x: &KeyedMember<'_>, y: &KeyedMember<'_>) -> Ordering
+    ensures { result ≡ name_cmp (key_and_name x.now) (key_and_name y.now) }
 {
     match x.key.cmp(&y.key) {
-        Ordering::Equal => image.name_at(x.offset).cmp(image.name_at(y.offset)),
+        Ordering::Equal => x.name.cmp(y.name),
         other => other,
     }
 }

@@ -15,7 +15,6 @@ ghost use Rattle.layer_paths.specs.Rows.{NamesRise, named};
 ghost use Rattle.layer_tree.specs.Members.{members_in, IsRead};
 ghost use Rattle.layer_tree.specs.Reading.{IsReadable, IsAtDepth, AddsMade, AreMadeOf, IsBlank, AreBuilt, AreWhiteouts, AreMembersAt, IsFolder, rest_of_opaque};
 
-use crate::ahead::NamesAhead;
 use crate::members::{KeyedMember, sorted_members, whiteout_of};
 use layer_paths::{Branch, Child, Entry, Mark, Name, Place, Tree, child, is_marker, merge};
 use romfs_format::limits::MAX_NAMES;
@@ -132,7 +131,7 @@ fn directory<A: Allocator + Copy>(
 fn branches_below<A: Allocator + Copy>(
     layer: &Layer<'_, A>,
     ends: &mut Ends<'_, A>,
-    members: &[KeyedMember],
+    members: &[KeyedMember<'_>],
     left: u16,
 ) -> Result<Branches<A>, AllocError>
     requires sound { IsImage layer.now.image.now }
@@ -148,15 +147,11 @@ fn branches_below<A: Allocator + Copy>(
         entries: Vec::with_capacity(layer.alloc, members.len())?,
         marks: Vec::new(layer.alloc),
     };
-    let mut ahead = NamesAhead::new();
     for member in members {
-        ahead.pass(layer.image, members);
-        let head = layer.image.given_named(member.offset, member.name_len);
-        let name = layer.image.name(&head);
-        if is_marker(name) {
+        if is_marker(member.name) {
             continue;
         }
-        add_branches(layer, ends, name, &head, left - 1, &mut made)?;
+        add_branches(layer, ends, member.name, &member.head, left - 1, &mut made)?;
     }
     Ok(made)
 }
@@ -219,7 +214,7 @@ fn folder<A: Allocator + Copy>(
     layer: &Layer<'_, A>,
     name: &[u8],
     head: &Head,
-    members: &[KeyedMember],
+    members: &[KeyedMember<'_>],
     below: Branches<A>,
 ) -> Result<(Child<A>, Branch<Mark, A>), AllocError>
     requires { IsFolder layer.now.image.now layer.now.number head.now members.now
@@ -246,7 +241,7 @@ fn add_folder<A: Allocator + Copy>(
     layer: &Layer<'_, A>,
     name: &[u8],
     head: &Head,
-    members: &[KeyedMember],
+    members: &[KeyedMember<'_>],
     below: Branches<A>,
     to: &mut Branches<A>,
 ) -> Result<(), AllocError>
@@ -271,7 +266,7 @@ fn add_folder<A: Allocator + Copy>(
 }
 
 /// Whether all members of a directory have branches of entries, and none has a mark.
-fn is_plain<A: Allocator>(members: &[KeyedMember], below: &Branches<A>) -> bool
+fn is_plain<A: Allocator>(members: &[KeyedMember<'_>], below: &Branches<A>) -> bool
     ensures { IsTrue result → (length below.now.entries.items ≡ length members.now)
         × (below.now.marks.items ≡ []) }
 {
@@ -330,7 +325,7 @@ fn entry_at(layer: u16, end: &Head) -> Entry
 /// is read again.
 fn markers_of<A: Allocator + Copy>(
     layer: &Layer<'_, A>,
-    members: &[KeyedMember],
+    members: &[KeyedMember<'_>],
     below: &Branches<A>,
 ) -> Result<Vec<Branch<Mark, A>, A>, AllocError>
     requires read { All (IsRead layer.now.image.now) members.now }
@@ -350,7 +345,7 @@ fn markers_of<A: Allocator + Copy>(
 fn whiteouts_of<A: Allocator + Copy>(
     alloc: A,
     image: &ImageView<'_>,
-    members: &[KeyedMember],
+    members: &[KeyedMember<'_>],
 ) -> Result<Vec<Branch<Mark, A>, A>, AllocError>
     requires { All (IsRead image.now) members.now }
     ensures { IfOk result
@@ -358,7 +353,7 @@ fn whiteouts_of<A: Allocator + Copy>(
 {
     let mut marks = Vec::new(alloc);
     for member in members {
-        let Some(name) = whiteout_of(image.given_name(member.offset, member.name_len)) else {
+        let Some(name) = whiteout_of(member.name) else {
             continue;
         };
         let name = Name::of(alloc, name)?;

@@ -25,7 +25,8 @@ loop-head-preserved g c =
       given = All-tail (λ head. IsGiven a head) head c.next.new.self (rw e at c.loop-head.invariant.given);
       read = rw p (All-push (IsRead a) c.loop-head.keyed.items _ c.loop-head.invariant.read (record {
         given = subst (IsGiven a) given.is given;
-        length = ap (λ (x : Head). x.name_len) given.is;
+        head = given.is;
+        name = named;
       }));
       keys = rw p (All-push (IsKeyed a []) c.loop-head.keyed.items _ c.loop-head.invariant.keys (record {
         rest = name_of a head.offset;

@@ -4,25 +4,22 @@ use Rattle.layer_tree.specs.Members.{members_in}
 use Rattle.layer_tree.proofs.Building.{nowhere_kept, name_at_place, as_many, white_none, white_one, whitening_ended}
 use Rattle.layer_tree.proofs.reading.whiteouts_of.Goals as goal
 
-pub given_name-requires : goal.given_name-requires
-given_name-requires g c =
-    let read = c.requires c.loop-member.member-index nowhere_kept c.loop-member-test.true in
-    record { head = read.given; name = read.length }
-
 pub loop-member-preserved-in_default : goal.loop-member-preserved-in_default
 loop-member-preserved-in_default g c =
     let ms = c.args.members.now in
+    let read = c.requires c.loop-member.member-index nowhere_kept c.loop-member-test.true in
     white_none (members_in c.args.image.now ms) _ c.loop-member.marks.items (omega (arith, as_many c.args.image.now ms))
     c.loop-member.invariant
-    (rw (name_at_place _ ms _ _ (omega arith) c.given_name.ensures) (rw c.in_default.is at c.whiteout_of.ensures))
+    (rw (name_at_place _ ms _ _ (omega arith) read.name) (rw c.in_default.is at c.whiteout_of.ensures))
 
 pub loop-member-preserved : goal.loop-member-preserved
 loop-member-preserved g c =
     let ms = c.args.members.now in
+    let read = c.requires c.loop-member.member-index nowhere_kept c.loop-member-test.true in
     let same : c.in_ok-name.name ≡ c.in-Some.name.now = c.in_ok-name.ensures in
     white_one (members_in c.args.image.now ms) _ c.loop-member.marks.items (omega (arith, as_many c.args.image.now ms))
     c.loop-member.invariant c.in_ok-name.name c.leaf.result c.add_mark.new.to.items
-    (name_at_place _ ms _ _ (omega arith) c.given_name.ensures ∙ c.in-Some.ensures
+    (name_at_place _ ms _ _ (omega arith) read.name ∙ c.in-Some.ensures
     ∙ ap (λ n. marker ++ n) (sym same)) c.leaf.ensures c.in_ok-add_mark.ensures
 
 pub returns : goal.returns
