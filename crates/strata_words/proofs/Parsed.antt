@@ -35,7 +35,8 @@ use Rattle.strata_words.specs.declared.options.Verb.{Verb}
 use Rattle.strata_words.specs.declared.options.Verb.TheVariants as verbs
 use Rattle.strata_words.proofs.Agreed.{one_name, one_word, same_rows}
 use Rattle.strata_words.proofs.Taken.{taken_names}
-use Rattle.strata_words.specs.CommandLine.{AreCrossed, GivesSocket, HoldsRows, IsFilled, IsFlagFilled, LineParts, Says, names_both, names_both_of, parts_of, IsLineOf, IsLineFault, IsNoLine, IsRefusedFor, TellsKind, IsNumberNamed, IsNumberTo, HaveNumbersInRange, Number, numbers, IsTaken, command_in, faults_in, program, verb_word}
+use Rattle.strata_words.specs.CommandLine.{AreCrossed, GivesSocket, HoldsRows, IsFilled, IsFlagFilled, LineParts, Says, names_both, names_both_of, parts_of, IsLineOf, IsLineFault, IsNoLine, IsRefusedFor, TellsKind, IsNumberNamed, IsNumberTo, HaveDigests, HaveNumbersInRange, images_in, Number, numbers, IsTaken, command_in, faults_in, program, verb_word}
+use Rattle.strata_words.specs.Digests.{AreDigests}
 use Rattle.strata_words.specs.Owners.{IsOwner}
 
 program_is_simple : is_simple program ≡ true
@@ -199,6 +200,14 @@ number_fault rows name most default named bad numbered =
     bad (found_passes (λ number. IfSome (first_of number.name rows) (IsNumberTo number.most)) (λ number. bytes_eq number.name name) numbers
     (record { name = name; most = most; default = default }) numbered.each named)
 
+-- digests that are none, or not one for each image, are a fault of the rows
+pub digest_fault : (rows : List Row) (count : ℕ) (fault : LineFault) → count ≡ length (images_in rows)
+    → (fault ≡ Memory) ⊎ ¬ AreDigests count (all_of (codes "digest") rows)
+    → (fault ≡ Memory) ⊎ ((¬ HaveNumbersInRange rows) ⊎ (AreCrossed rows ⊎ ¬ HaveDigests rows))
+digest_fault rows count fault many (inl memory) = inl memory
+digest_fault rows count fault many (inr wrong) =
+    inr (inr (inr (λ have. wrong (subst (λ n. AreDigests n (all_of (codes "digest") rows)) (sym many) have))))
+
 -- an owner that is none is a fault of the rows
 pub owner_fault : (rows : List Row) → ¬ IfSome (first_of (codes "owner") rows) IsOwner → ¬ HaveNumbersInRange rows
 owner_fault rows bad numbered = bad numbered.owner
@@ -225,10 +234,11 @@ names_as rows line says =
     ) refl
 
 -- a line that says what the rows give, and names no file beside the device, holds them
-pub held : (rows : List Row) (line : Line) → HaveNumbersInRange rows → Says line (parts_of line.verb rows) → names_both line ≡ false
+pub held : (rows : List Row) (line : Line) → HaveNumbersInRange rows → HaveDigests rows → Says line (parts_of line.verb rows) → names_both line ≡ false
     → HoldsRows rows line
-held rows line numbered says apart = record {
+held rows line numbered digested says apart = record {
   numbered = numbered;
+  digested = digested;
   apart = λ crossed. true≢false (sym crossed ∙ sym (names_as rows line says) ∙ apart);
   says = says;
 }
@@ -252,10 +262,11 @@ line_is words name rows verb (Err fault) taken command named verb_is holds = tt
 -- and a fault of its numbers is a fault of the words
 pub fault_is : (words : List Text) (name : Text) (rows : List Row) (fault : LineFault) → IsTaken words
     → command_in words ≡ Some (name, rows)
-    → (fault ≡ Memory) ⊎ ((¬ HaveNumbersInRange rows) ⊎ AreCrossed rows) → IsLineFault words fault
+    → (fault ≡ Memory) ⊎ ((¬ HaveNumbersInRange rows) ⊎ (AreCrossed rows ⊎ ¬ HaveDigests rows)) → IsLineFault words fault
 fault_is words name rows Memory taken command told = tt
 fault_is words name rows (Usage text) taken command told = elim told [
   | inl same ↦ cc
   | inr (inl wrong) ↦ inr (inl (record { taken = taken; name = name; rows = rows; command = command; wrong = wrong }))
-  | inr (inr crossed) ↦ inr (inr (record { taken = taken; name = name; rows = rows; command = command; crossed = crossed }))
+  | inr (inr (inl crossed)) ↦ inr (inr (inl (record { taken = taken; name = name; rows = rows; command = command; crossed = crossed })))
+  | inr (inr (inr wrong)) ↦ inr (inr (inr (record { taken = taken; name = name; rows = rows; command = command; wrong = wrong })))
 ]
