@@ -5,6 +5,8 @@ Written from the table of the format (strata-attributes(5)) alone, not from stra
 import collections
 import struct
 
+from checks.plain import plain_xattrs
+
 LETTERS = b"-attr01-"
 Row = collections.namedtuple("Row", "mode uid gid seconds nanoseconds")
 
@@ -43,11 +45,21 @@ def is_broken(data):
     if any(after <= before for before, after in zip(places, places[1:])):
         return True
     full = int.from_bytes(data[8:12], "big")
-    return any(at % 16 != 0 or at >= full or row.mode > 0o7777 or row.nanoseconds >= 10 ** 9 or last != 0
-               for at, row, last in rows)
+    if any(at % 16 != 0 or at >= full or row.mode > 0o7777 or row.nanoseconds >= 10 ** 9 or last != 0
+           for at, row, last in rows):
+        return True
+    part = plain_xattrs.part(size, found)
+    return part is not None and plain_xattrs.is_broken(part, [row.mode for _, row, _ in rows])
 
 
 def rows(data):
     """What the rows of an image say, by offset, where its trailer keeps the rule."""
     found = trailer(data)
     return {} if found is None else {at: row for at, row, _ in rows_of(found)}
+
+
+def extended(data):
+    """The extended attributes that the rows of an image lead to, by offset, as pairs of name and value, in the same case."""
+    places = list(rows(data))
+    found = plain_xattrs.part(16 + 32 * len(places), trailer(data) or b"")
+    return {} if found is None else {at: items for at, items in zip(places, plain_xattrs.lists(found, len(places))) if items}

@@ -1,7 +1,9 @@
-"""Random attribute trailers behind images: right ones, and ones that break their rule or nearly do, for checks/fuzz/fuzz.py."""
+"""Random attribute trailers behind images, some with a second part: right ones, and ones that break their rule or nearly do, for
+checks/fuzz/fuzz.py."""
 import struct
 
 from checks.shared.build import trailer
+from checks.shared.random_xattrs import random_part
 
 # the fields of a row
 PLACE, MODE, UID, GID, SECONDS, NANOSECONDS, LAST = range(7)
@@ -74,9 +76,11 @@ CHANGES = [
 
 
 def random_trailer(rng, full):
-    """A trailer for an image of this full size; one in three is changed."""
+    """A trailer for an image of this full size; one in three is changed. Many have a second part."""
     rows = random_rows(rng, full)
-    return rng.choice(CHANGES)(rng, rows, full) if rows and rng.random() < 0.33 else trailer(rows)
+    behind = random_part(rng, [row[MODE] for row in rows]) if rows and rng.random() < 0.4 else b""
+    is_changed = rows and rng.random() < (0.1 if behind else 0.33)
+    return (rng.choice(CHANGES)(rng, rows, full) if is_changed else trailer(rows)) + behind
 
 
 def with_trailer(rng, data):

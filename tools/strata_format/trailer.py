@@ -7,6 +7,7 @@ import os
 import struct
 
 from strata_format.files import write_at
+from strata_format.xattrs import Part, part_of
 
 MAGIC = b"-attr01-"
 HEAD_SIZE, ROW_SIZE = 16, 32
@@ -46,17 +47,18 @@ def words_sum(data):
     return sum(sum(struct.unpack(">%dI" % (len(piece) // 4), piece)) for piece in pieces)
 
 
-def trailer_of(rows):
-    """The trailer whose rows say this, by the offsets of headers."""
+def trailer_of(rows, lists):
+    """The trailer whose rows say this, by the offsets of headers, and whose files have these extended attributes."""
     body = b"".join([PLACE.pack(at) + row for at, row in sorted(rows.items())])
     begin = MAGIC + PLACE.pack(len(rows))
-    return begin + PLACE.pack(-words_sum(begin + body) & 0xffffffff) + body
+    part = part_of([lists.get(at, ()) for at in sorted(rows)])
+    return begin + PLACE.pack(-words_sum(begin + body) & 0xffffffff) + body + part
 
 
-def write_trailer(number, full, rows):
+def write_trailer(number, full, rows, lists=()):
     """Writes the trailer of an image of this full size, instead of what followed that. Its letters come last, so that
-    one that is written by half is none."""
-    data, place = memoryview(trailer_of(rows)), place_of(full)
+    one that is written by half is none. The lists of extended attributes are by offset too; each of them has a row."""
+    data, place = memoryview(trailer_of(rows, dict(lists))), place_of(full)
     end = place + len(data)
     os.ftruncate(number, place)
     os.ftruncate(number, end + -end % BLOCK_SIZE)
@@ -92,3 +94,9 @@ class Rows:
     def every(self):
         """What all rows say, by the offsets of headers."""
         return dict(self.row(number) for number in range(self.count))
+
+    def lists(self):
+        """The extended attributes of a good trailer, by the offsets of headers."""
+        part = Part(self.data, self.at + ROW_SIZE * self.count, self.count)
+        found = ((self.row(number)[0], part.of_row(number)) for number in range(self.count))
+        return {at: items for at, items in found if items}

@@ -2,5 +2,11 @@ pub mod Counting
 pub mod Pushing
 pub mod States
 pub mod Examples
-pub mod Contents
+pub mod Given
+pub mod Tree
+pub mod File
+pub mod Vouched
+pub mod Seal
+pub mod Read
+pub mod Honest
 pub mod Sources

@@ -1,19 +1,17 @@
 //! Rooms that are filled by as many reads as it takes.
 
 ghost use Rattle.std.specs.Prelude.{◌+◌, ◌<◌, ◌^◌, length};
-ghost use Rattle.devices.specs.Contents.{FillsFrom};
 ghost use Rattle.devices.specs.Sources.{GivesAll};
 
 use crate::contents::{Contents, Unread};
 
 /// Fills the room with the bytes from an offset on. `Unread` if a read failed, or if the bytes end
-/// earlier; the room is unspecified then. For known bytes only if there are too few.
+/// earlier; the room is unspecified then. For bytes in memory only if there are too few.
 ///
 /// It reads once for each portion of bytes, and once more if they end earlier.
 pub fn fill<S: Contents>(source: &S, room: &mut [u8], offset: u64) -> Result<(), Unread>
     requires { offset + length room.old < 2 ^ 64 }
-    ensures filled { FillsFrom (S.contents source.now) offset result room.new }
-    ensures given { GivesAll (S.source source.now) offset result room.new }
+    ensures { GivesAll (S.source source.now) offset result room.new }
 {
     let mut done = 0;
     while done < room.len() {

@@ -23,10 +23,7 @@ impl<F: FileExt + Drop> InFile<F> {
 }
 
 impl<F: FileExt> Contents for InFile<F> {
-    ghost use Rattle.std.specs.Prelude.{None};
     ghost use Rattle.devices.specs.Sources.{unknown};
-
-    ghost contents = { λ _. None };
 
     ghost source = { λ _. unknown };
 

@@ -1,6 +1,6 @@
 //! Bytes that are held.
 
-ghost use Rattle.std.specs.Prelude.{◌≡◌, Some};
+ghost use Rattle.std.specs.Prelude.{◌≡◌};
 ghost use Rattle.devices.specs.Sources.{held};
 
 use crate::contents::{Contents, Unread};
@@ -14,18 +14,14 @@ pub struct InMemory<'a> {
 impl<'a> InMemory<'a> {
     /// What is read are these bytes.
     pub fn new(bytes: &'a [u8]) -> InMemory<'a>
-        ensures contents { ⟦<InMemory<'a> as Contents>⟧.contents result ≡ Some bytes.now }
-        ensures source { ⟦<InMemory<'a> as Contents>⟧.source result ≡ held bytes.now }
+        ensures { ⟦<InMemory<'a> as Contents>⟧.source result ≡ held bytes.now }
     {
         InMemory { bytes }
     }
 }
 
 impl<'a> Contents for InMemory<'a> {
-    ghost use Rattle.std.specs.Prelude.{Some};
     ghost use Rattle.devices.specs.Sources.{held};
-
-    ghost contents = { λ bytes. Some bytes.bytes.now };
 
     ghost source = { λ bytes. held bytes.bytes.now };
 

@@ -13,11 +13,14 @@
 //!   once: [`InMemory`] never fails, [`InFile`] reads a file. [`fill`] reads on until a room is
 //!   full, however short the single reads are.
 //!
-//! A contract sees bytes where they are known (`specs/Contents`). Of a file it sees none, so
-//! nothing is assumed of a file that changes. No call takes memory beyond what the reader or writer
-//! takes. The crate stands on std alone.
+//! A contract sees bytes where they are known (`specs/Sources`). Of a file it sees none, so nothing
+//! is assumed of a file that changes. Of a file that is read under an fs-verity digest it sees for
+//! which bytes that vouches (`specs/Tree`, `File`, `Vouched`), and that these are the named ones,
+//! unless a read gives, in the place of a block, another with its digest (`specs/Read`). No call
+//! takes memory beyond what the reader or writer takes. The crate stands on std alone.
 #![tactic(auto)]
 
+mod algorithm;
 mod clients;
 mod contents;
 pub mod counts;
@@ -32,6 +35,7 @@ mod push;
 mod sink;
 mod source;
 
+pub use algorithm::Algorithm;
 pub use clients::{Clients, Listening};
 pub use contents::{Contents, Unread};
 pub use counts::{Accepts, LastPull, Pulls, Pushes};

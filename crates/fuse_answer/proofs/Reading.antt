@@ -8,6 +8,7 @@ use Rattle.std.proofs.lemmas.Bool.{le-ltb}
 use Rattle.std.proofs.lemmas.List.{length-take, take_all, take_min, take-take, drop-take, drop-drop, drop_at, drop_all}
 use Rattle.std.proofs.lemmas.Option.{slice_get-map}
 use Rattle.devices.specs.Sources.{Source, MayGive, held}
+use Rattle.devices.proofs.Given.{gives_none}
 use Rattle.romfs_format.specs.declared.head.Kind.TheVariants.{Regular}
 use Rattle.romfs_reader.specs.Readers.{bytes_at}
 use Rattle.fuse_wire.specs.declared.errno.Errno.{Errno}
@@ -106,18 +107,13 @@ data_behind : (unique : ℕ) (bytes : List ℕ) → drop OUT_HEADER_SIZE (reply_
 unfolding reply_with
 data_behind unique bytes = drop_at (reply_head unique (length bytes)) bytes OUT_HEADER_SIZE (length-head unique (length bytes))
 
-gives_none : (given : Option (List (List ℕ))) (fails : Bool) (place : ℕ) → MayGive (record { given = given; fails = fails }) place []
-gives_none None fails place = tt
-gives_none (Some choices) fails place = tt
-
 -- a reply without data is unchanged, whatever its data would be read from
 pub nothing_told : (reading : Option Reading) (unique : ℕ) → IsTold reading unique (reply_with unique []) (reply_with unique [])
 nothing_told None unique = refl
 nothing_told (Some reading) unique = inl (record {
   long = refl;
   head = refl;
-  given = subst (MayGive reading.source reading.place) (sym (data_behind unique [])) (gives_none reading.source.given reading.source.fails
-      reading.place);
+  given = subst (MayGive reading.source reading.place) (sym (data_behind unique [])) (gives_none reading.source reading.place);
 })
 
 -- and a part of no bytes has none
@@ -145,7 +141,7 @@ error_told (Some reading) unique errno = inl (record {
   head = refl;
   given = subst (MayGive reading.source reading.place)
       (sym (drop_all OUT_HEADER_SIZE (error_reply unique errno) (let e = length-error_reply unique errno in omega arith)))
-      (gives_none reading.source.given reading.source.fails reading.place);
+      (gives_none reading.source reading.place);
 })
 
 module _ {D : Type 0} (source : D → Source) (files : List D) (stack : Stacked) (offset : ℕ) (p : Place) where

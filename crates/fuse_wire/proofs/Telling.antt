@@ -1,33 +1,54 @@
--- Held data are answered as they are: the reply is the defined one (held_told). A reply whose data are read after its header (told_whole),
--- or that of EIO, set over it (told_unread).
+-- Shown data are answered as they are: the reply is the defined one, or EIO (shown_told); never EIO of data of which none lacks (whole_told),
+-- as of held ones (held_told). A reply whose data are read after its header (told_whole), or that of EIO, set over it (told_unread).
 use Rattle.std.proofs.Common.{◌≡◌, ◌∙◌, sym, ap, subst, ℕ, ◌+◌, ◌-◌, ◌<◌, ◌≤◌, List, ◌++◌, length, take, drop, Some, arith, inl, inr, true, false, refl, append_assoc, take-append-drop, length-append, length-drop}
 use Rattle.std.proofs.lemmas.List.{take_at, drop_at, take-take, length-take}
-use Rattle.devices.specs.Sources.{Source, MayGive, MayLack, held}
-use Rattle.devices.proofs.Held.{held_only}
+use Rattle.devices.specs.Sources.{Source, MayGive, MayLack, Shows, held}
 use Rattle.devices.proofs.Given.{held_lacks}
+use Rattle.devices.proofs.Shown.{shown_given}
 use Rattle.fuse_wire.specs.declared.errno.Errno.TheVariants.{EIO}
 use Rattle.fuse_wire.specs.declared.limits.TheConstants.{OUT_HEADER_SIZE}
 use Rattle.fuse_wire.specs.Replies.{reply_head, reply_with, error_reply}
-use Rattle.fuse_wire.specs.Told.{IsTold, Fills, TakesTold, read_from}
+use Rattle.fuse_wire.specs.Told.{IsTold, IsRight, Fills, Reading, TakesTold, read_from}
 use Rattle.fuse_wire.proofs.Sizes.{length-head, length-reply_with}
+
+pub shown_told : (reading : Reading) (xs : List ℕ) (unique : ℕ) (defined bytes : List ℕ) → Shows reading.source xs
+    → drop OUT_HEADER_SIZE defined ≡ take (length (drop OUT_HEADER_SIZE defined)) (drop reading.place xs)
+    → IsTold (Some reading) unique defined bytes → IsRight (Some reading) unique defined bytes
+shown_told reading xs unique defined bytes shows is (inr unread) = inr unread
+shown_told reading xs unique defined bytes shows is (inl read) =
+    let given = shown_given reading.source xs (drop OUT_HEADER_SIZE bytes) reading.place shows read.given in
+    let same : length (drop OUT_HEADER_SIZE bytes) ≡ length (drop OUT_HEADER_SIZE defined) =
+    length-drop OUT_HEADER_SIZE bytes ∙ ap (λ n. n - OUT_HEADER_SIZE) read.long ∙ sym (length-drop OUT_HEADER_SIZE defined) in
+    inl (sym (take-append-drop OUT_HEADER_SIZE bytes)
+    ∙ ap (λ l. l ++ drop OUT_HEADER_SIZE bytes) read.head
+    ∙ ap (λ l. take OUT_HEADER_SIZE defined ++ l) (given ∙ ap (λ n. take n (drop reading.place xs)) same ∙ sym is)
+    ∙ take-append-drop OUT_HEADER_SIZE defined)
+
+right_whole : (reading : Reading) (xs : List ℕ) (unique : ℕ) (defined bytes : List ℕ)
+    → ((end : ℕ) → end ≤ length xs → MayLack reading.source end → ⊥)
+    → drop OUT_HEADER_SIZE defined ≡ take (length (drop OUT_HEADER_SIZE defined)) (drop reading.place xs)
+    → IsRight (Some reading) unique defined bytes → bytes ≡ defined
+right_whole reading xs unique defined bytes whole is (inl e) = e
+right_whole reading xs unique defined bytes whole is (inr unread) =
+    let some = unread.some in
+    let size = ap length is ∙ length-take _ (drop reading.place xs) in
+    let left = length-drop reading.place xs in
+    let long = length-drop OUT_HEADER_SIZE defined in
+    absurd (whole (reading.place + (length defined - OUT_HEADER_SIZE)) (omega arith) unread.lacks)
+
+-- of bytes that are shown, and of which none lacks
+pub whole_told : (reading : Reading) (xs : List ℕ) (unique : ℕ) (defined bytes : List ℕ) → Shows reading.source xs
+    → ((end : ℕ) → end ≤ length xs → MayLack reading.source end → ⊥)
+    → drop OUT_HEADER_SIZE defined ≡ take (length (drop OUT_HEADER_SIZE defined)) (drop reading.place xs)
+    → IsTold (Some reading) unique defined bytes → bytes ≡ defined
+whole_told reading xs unique defined bytes shows whole is told =
+    right_whole reading xs unique defined bytes whole is (shown_told reading xs unique defined bytes shows is told)
 
 pub held_told : (xs : List ℕ) (place unique : ℕ) (defined bytes : List ℕ)
     → drop OUT_HEADER_SIZE defined ≡ take (length (drop OUT_HEADER_SIZE defined)) (drop place xs)
     → IsTold (Some (record { source = held xs; place = place })) unique defined bytes → bytes ≡ defined
-held_told xs place unique defined bytes is (inr unread) =
-    let some = unread.some in
-    let size = ap length is ∙ length-take _ (drop place xs) in
-    let left = length-drop place xs in
-    let long = length-drop OUT_HEADER_SIZE defined in
-    absurd (held_lacks xs (place + (length defined - OUT_HEADER_SIZE)) (omega arith) unread.lacks)
-held_told xs place unique defined bytes is (inl read) =
-    let given = held_only xs (drop OUT_HEADER_SIZE bytes) place read.given in
-    let same : length (drop OUT_HEADER_SIZE bytes) ≡ length (drop OUT_HEADER_SIZE defined) =
-    length-drop OUT_HEADER_SIZE bytes ∙ ap (λ n. n - OUT_HEADER_SIZE) read.long ∙ sym (length-drop OUT_HEADER_SIZE defined) in
-    sym (take-append-drop OUT_HEADER_SIZE bytes)
-    ∙ ap (λ l. l ++ drop OUT_HEADER_SIZE bytes) read.head
-    ∙ ap (λ l. take OUT_HEADER_SIZE defined ++ l) (given ∙ ap (λ n. take n (drop place xs)) same ∙ sym is)
-    ∙ take-append-drop OUT_HEADER_SIZE defined
+held_told xs place unique defined bytes is told =
+    whole_told (record { source = held xs; place = place }) xs unique defined bytes refl (held_lacks xs) is told
 
 module _ (source : Source) (place unique : ℕ) (bytes filled : List ℕ) (long : length filled ≡ length bytes) where
   whole : reply_with unique bytes ≡ reply_head unique (length bytes) ++ bytes

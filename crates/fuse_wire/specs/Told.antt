@@ -30,6 +30,12 @@ IsTold None unique defined bytes = bytes ≡ defined
 IsTold (Some reading) unique defined bytes =
     HasRead reading defined bytes ⊎ IsUnread reading unique defined bytes
 
+-- the same, if the bytes are shown from which its data are read: the defined reply, or EIO
+abbrev pub IsRight : Option Reading → ℕ → List ℕ → List ℕ → Type 0
+IsRight None unique defined bytes = bytes ≡ defined
+IsRight (Some reading) unique defined bytes =
+    (bytes ≡ defined) ⊎ IsUnread reading unique defined bytes
+
 -- the data of a reply are read from this source, from this place on
 abbrev pub read_from : Source → ℕ → Option Reading
 read_from source place = Some (record { source = source; place = place })

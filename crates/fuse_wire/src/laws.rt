@@ -7,8 +7,8 @@ ghost use Rattle.fuse_wire.specs.Stream.{BeginsMessage, IsBad, IsRest, IsSplit};
 ghost use Rattle.fuse_wire.specs.declared.limits.TheConstants.{HEADER_SIZE, OUT_HEADER_SIZE, MAX_MESSAGE_SIZE, MAX_FORGETS};
 ghost use Rattle.fuse_wire.specs.Requests.{forgets_of};
 ghost use Rattle.fuse_wire.specs.Laws.{BodySizes, ReplySizes, RowSizes};
-ghost use Rattle.fuse_wire.specs.Told.{Reading, IsTold};
-ghost use Rattle.devices.specs.Sources.{held};
+ghost use Rattle.fuse_wire.specs.Told.{Reading, IsTold, IsRight};
+ghost use Rattle.devices.specs.Sources.{MayLack, Shows, held};
 
 /// Every stream is cut into messages and a rest, in one way.
 #[tactic(auto, using(crate::proofs::Splits::one_split, crate::proofs::Splits::some_split))]
@@ -62,10 +62,21 @@ pub fn structures_have_their_sizes()
     ensures rows { RowSizes }
 {}
 
-/// A reply whose data are read from held bytes is the defined one, if these are the right data: no
-/// read gives others, and none fails.
-pub fn held_data_are_told()
-    ensures { (xs : List ℕ) (place unique : ℕ) (defined bytes : List ℕ) →
+/// A reply whose data are read from shown bytes is the defined one, if these are the right data, or
+/// that of EIO. It is the defined one if the source lacks none of them, as one that is held.
+pub fn shown_data_are_told()
+    ensures shown { (reading : Reading) (xs : List ℕ) (unique : ℕ) (defined bytes : List ℕ) →
+        Shows reading.source xs →
+        drop OUT_HEADER_SIZE defined
+        ≡ take (length (drop OUT_HEADER_SIZE defined)) (drop reading.place xs) →
+        IsTold (Some reading) unique defined bytes → IsRight (Some reading) unique defined bytes }
+    ensures whole { (reading : Reading) (xs : List ℕ) (unique : ℕ) (defined bytes : List ℕ) →
+        Shows reading.source xs →
+        ((end : ℕ) → end ≤ length xs → MayLack reading.source end → ⊥) →
+        drop OUT_HEADER_SIZE defined
+        ≡ take (length (drop OUT_HEADER_SIZE defined)) (drop reading.place xs) →
+        IsTold (Some reading) unique defined bytes → bytes ≡ defined }
+    ensures held { (xs : List ℕ) (place unique : ℕ) (defined bytes : List ℕ) →
         drop OUT_HEADER_SIZE defined
         ≡ take (length (drop OUT_HEADER_SIZE defined)) (drop place xs) →
         IsTold (Some (record { source = held xs; place = place })) unique defined bytes →

@@ -99,10 +99,7 @@ fn file(size: usize, most: usize, fails_at: u32) -> Slow {
 }
 
 impl Contents for Slow {
-    ghost use Rattle.std.specs.Prelude.{None};
     ghost use Rattle.devices.specs.Sources.{unknown};
-
-    ghost contents = { λ _. None };
 
     ghost source = { λ _. unknown };
 

@@ -5,6 +5,7 @@ pub mod Services
 pub mod Refusals
 pub mod Replies
 pub mod Readings
+pub mod Holding
 pub mod Moves
 pub mod Streams
 pub mod Examples

@@ -1,9 +1,11 @@
 -- pread(2): what the data of replies are read from, at the place of a file in its image.
-use Rattle.std.specs.Prelude.{ℕ, ◌+◌, List, [], ◌∷◌, slice_get, Option, None}
+use Rattle.std.specs.Prelude.{ℕ, ◌+◌, ◌<◌, List, [], ◌∷◌, length, slice_get, slice_index, Option, None, ⊤}
 use Rattle.std.specs.Option.{option_map, option_and_then}
-use Rattle.devices.specs.Sources.{Source}
+use Rattle.devices.specs.Sources.{Source, Shows}
+use Rattle.devices.specs.Seal.{Seal}
+use Rattle.devices.specs.Vouched.{VouchesAt}
 use Rattle.fuse_wire.specs.Requests.{NodeOp, Op, Asked, at_node, read}
-use Rattle.fuse_wire.specs.Told.{Reading, IsTold}
+use Rattle.fuse_wire.specs.Told.{Reading, IsTold, IsRight}
 use Rattle.stack_model.specs.Listing.{Stacked}
 use Rattle.stack_model.specs.Numbers.{Place, node_of}
 use Rattle.stack_model.specs.Attributes.{data_start}
@@ -57,3 +59,20 @@ reading_of by q = reading_from by.stack by.sources q
 -- these bytes are a possible reply to a request in a session
 abbrev pub IsReplyOver : Sourced → Session → Asked → List ℕ → Type 0
 IsReplyOver by s q bytes = IsTold (reading_of by q) q.unique (reply by.stack s q) bytes
+
+-- each of these sources shows the bytes at its position
+abbrev pub AreShown : List Source → List (List ℕ) → Type 0
+AreShown [] [] = ⊤
+AreShown (source ∷ sources) (xs ∷ images) = Shows source xs × AreShown sources images
+AreShown [] (xs ∷ images) = ⊥
+AreShown (source ∷ sources) [] = ⊥
+
+-- these bytes are the defined reply to a request; or, if its data are read from a source that may
+-- lack them, that of EIO
+abbrev pub IsRightOver : Sourced → List ℕ → Asked → List ℕ → Type 0
+IsRightOver by defined q bytes = IsRight (reading_of by q) q.unique defined bytes
+
+-- each of these bytes, from a place on, is one of a block for which the digest vouches
+pub record AreVouched (seal : Seal) (place : ℕ) (bytes : List ℕ) : Type 0 where
+  pub each : (k : ℕ) → k < length bytes
+      → VouchesAt seal.algorithm seal.hash seal.size seal.digest (place + k) (slice_index bytes k)

@@ -1,15 +1,22 @@
 //! What holds of every reply.
 
-ghost use Rattle.std.specs.Prelude.{◌≡◌, ◌⊎◌, ◌≤◌, [], ◌∷◌, ◌++◌, ℕ, List, length, map, All, true, false, ◌+ℤ◌};
+ghost use Rattle.std.specs.Prelude.{◌≡◌, ◌⊎◌, ◌≤◌, ◌+◌, [], ◌∷◌, ◌++◌, ℕ, List, length, drop, map, slice_get, Some, All, true, false, ◌+ℤ◌};
+ghost use Rattle.devices.specs.Sources.{Source, Shows, sealed, held};
+ghost use Rattle.devices.specs.Honest.{IsHonest};
+ghost use Rattle.devices.specs.Seal.{Seal};
 ghost use Rattle.romfs_format.specs.declared.rule.Profile.TheVariants.{Usual};
 ghost use Rattle.romfs_format.specs.Fields.{image};
 ghost use Rattle.romfs_format.specs.Rules.{IsSound};
-ghost use Rattle.fuse_wire.specs.Requests.{Op, Asked, at_node, lookup, readdirplus, done, destroy};
-ghost use Rattle.fuse_wire.specs.declared.limits.TheConstants.{MAX_REPLY_SIZE};
+ghost use Rattle.fuse_wire.specs.Requests.{Op, Asked, at_node, lookup, read, readdirplus, done, destroy};
+ghost use Rattle.fuse_wire.specs.declared.limits.TheConstants.{MAX_REPLY_SIZE, OUT_HEADER_SIZE};
+ghost use Rattle.fuse_wire.specs.declared.errno.Errno.TheVariants.{EIO};
+ghost use Rattle.fuse_wire.specs.Replies.{error_reply};
 ghost use Rattle.fuse_wire.specs.Stream.{said_length};
 ghost use Rattle.stack_model.specs.Listing.{Entry, Stacked, IsListing};
 ghost use Rattle.reply_model.specs.declared.session.Session.{Session};
 ghost use Rattle.reply_model.specs.Replies.{reply};
+ghost use Rattle.reply_model.specs.Holding.{Holds, AreHeldBy};
+ghost use Rattle.reply_model.specs.Readings.{sourced, AreShown, AreVouched, IsReplyOver, IsRightOver};
 ghost use Rattle.reply_model.specs.declared.session.Session.TheVariants.{Fresh, LastingFresh};
 ghost use Rattle.reply_model.specs.Sessions.{is_fresh, session_after, agreement_of};
 ghost use Rattle.reply_model.specs.Lasting.{usual_of, LastsAs};
@@ -17,8 +24,8 @@ ghost use Rattle.reply_model.specs.declared.moves.Move.{Move};
 ghost use Rattle.reply_model.specs.Moves.{moves, balance};
 ghost use Rattle.reply_model.specs.Streams.{session_at, replies_by, moves_by, balance_after};
 ghost use Rattle.reply_model.specs.Laws.{IsReplyTo, AreFirstThatFit, GivesEntry, GivesRows, is_moving, AreLayersOfBytes, AreOwned, FitsFields};
-ghost use Rattle.stack_model.specs.Numbers.{Place, nodes, number};
-ghost use Rattle.stack_model.specs.Attributes.{attr_of};
+ghost use Rattle.stack_model.specs.Numbers.{Place, nodes, node_of, number};
+ghost use Rattle.stack_model.specs.Attributes.{attr_of, data_start};
 ghost use Rattle.reply_model.specs.Rows.{Row, fitting};
 
 /// A reply is empty, or it begins with its own length, as a word of 32 bits, and carries its
@@ -119,4 +126,29 @@ pub fn attributes_fit_their_fields()
         AreLayersOfBytes stack.layers → AreOwned stack → FitsFields (attr_of stack p) }
     ensures numbers { (entries : List Entry) (p : Place) →
         number entries p ≤ length (nodes entries) }
+{}
+
+/// Data that are read from sources which show the layers' bytes are those that are defined: the
+/// reply is the defined one, or to a READ of data EIO. If the sources lack none of these bytes it
+/// is the defined one, as of bytes in memory, and of files under a digest that are the named ones.
+/// Under a digest each byte of data is of a block for which the digest vouches, whatever the files
+/// give.
+pub fn data_are_told_as_shown()
+    ensures shown { (stack : Stacked) (sources : List Source) → AreShown sources stack.layers →
+        (s : Session) (q : Asked) (bytes : List ℕ) →
+        IsReplyOver (sourced stack sources) s q bytes →
+        IsRightOver (sourced stack sources) (reply stack s q) q bytes }
+    ensures same { (stack : Stacked) (sources : List Source) → AreHeldBy sources stack.layers →
+        (s : Session) (q : Asked) (bytes : List ℕ) →
+        IsReplyOver (sourced stack sources) s q bytes → bytes ≡ reply stack s q }
+    ensures held { (images : List (List ℕ)) → AreHeldBy (map held images) images }
+    ensures honest { (s : Seal) (xs : List ℕ) → IsHonest s xs → Shows (sealed s) xs →
+        Holds (sealed s) xs }
+    ensures vouched { (stack : Stacked) (sources : List Source) (offset size : ℕ) (p : Place)
+        (seal : Seal) (s : Session) (q : Asked) (bytes : List ℕ) →
+        q.op ≡ at_node (read offset size) → node_of stack.entries q.node ≡ Some p →
+        slice_get sources p.0 ≡ Some (sealed seal) →
+        IsReplyOver (sourced stack sources) s q bytes →
+        AreVouched seal (data_start stack.layers p + offset) (drop OUT_HEADER_SIZE bytes)
+        ⊎ (bytes ≡ error_reply q.unique EIO) }
 {}

@@ -1,22 +1,23 @@
 -- What is loaded of a file of a kind, in words that name no kind.
-use Rattle.std.proofs.Common.{◌≡◌, sym, subst, ℕ, List, Option, None, IfOk, IfSome, Result, Ok, Err}
+use Rattle.std.proofs.Common.{◌≡◌, sym, subst, ℕ, List, Option, IfOk, IfSome, Result, Ok, Err}
 use Rattle.romfs_files.specs.declared.opening.FileKind.{FileKind}
 use Rattle.romfs_files.specs.declared.opening.FileKind.TheVariants.{Regular, BlockDevice, Stream}
 use Rattle.romfs_files.specs.declared.image_data.ImageData.{ImageData}
-use Rattle.romfs_files.specs.declared.image_data.ImageData.TheVariants.{File, Memory}
+use Rattle.romfs_files.specs.declared.image_data.ImageData.TheVariants.{File, Memory, Sealed}
 use Rattle.romfs_files.specs.declared.loaded.LoadedImage.{LoadedImage}
 use Rattle.romfs_files.specs.declared.loaded.Loading.{Loading}
 use Rattle.romfs_files.specs.declared.loaded.Loading.TheVariants as how
 use Rattle.romfs_files.specs.declared.loaded.Trailers.{Trailers}
+use Rattle.devices.specs.Sources.{IfShown, unknown}
 use Rattle.romfs_held.specs.declared.image.HeldImage.{HeldImage}
 use Rattle.romfs_held.specs.declared.image.HeldImage.TheVariants.{Kept, Whole}
-use Rattle.romfs_files.specs.Data.{known_bytes}
+use Rattle.romfs_files.specs.Data.{source_of}
 use Rattle.romfs_files.specs.Loaded.{IsKeptWith, IsOpenOver}
 use Rattle.romfs_files.specs.Opening.{AreOfFile, IsHeldAs, IsLoadedAs}
 use Rattle.romfs_files.specs.Files.{IsHeldWith, IsLoadedOf, IsWholeOf}
 
 kept_with : {A : Type 0} (known : Option (List ℕ)) (trailers its : Trailers) (held : HeldImage A) → its ≡ trailers
-    → IsKeptWith None trailers held → IsHeldWith known trailers its held
+    → IsKeptWith unknown trailers held → IsHeldWith known trailers its held
 kept_with known trailers its (Kept kept) same h = same
 kept_with known trailers its (Whole bytes) same h = absurd h
 
@@ -31,20 +32,26 @@ held_of (Regular size) known trailers image h = kept_with known trailers image.t
 held_of BlockDevice known trailers image h = kept_with known trailers image.trailers image.held h.0 h.1
 held_of Stream known trailers image h = whole_with known trailers image.trailers image.held h
 
--- what is known of the data of an image is what is known of its file
+-- what the data of an image show is what is known of its file
+same_bytes : (known : Option (List ℕ)) (ys zs : List ℕ) → ys ≡ zs → IfSome known (λ xs. ys ≡ xs) → IfSome known (λ xs. zs ≡ xs)
+same_bytes known ys zs e h = subst (λ l. IfSome known (λ xs. l ≡ xs)) e h
+
 seen_of : {F A : Type 0} (kind : FileKind) (known : Option (List ℕ)) (source : ImageData F A) → AreOfFile kind known source
-    → IfSome (known_bytes source) (λ ys. IfSome known (λ xs. ys ≡ xs))
-seen_of kind known (File file) h = tt
+    → IfShown (source_of source) (λ ys. IfSome known (λ xs. ys ≡ xs))
+seen_of kind known (File file) h = record { each = λ ys shown. absurd shown }
 seen_of (Regular size) known (Memory bytes) h = absurd h
+seen_of (Regular size) known (Sealed source) h = absurd h
+seen_of BlockDevice known (Sealed source) h = absurd h
+seen_of Stream known (Sealed source) h = absurd h
 seen_of BlockDevice known (Memory bytes) h = absurd h
-seen_of Stream known (Memory bytes) h = h
+seen_of Stream known (Memory bytes) h = record { each = λ ys shown. same_bytes known bytes.items ys shown h }
 
 pub loaded_of : {F A : Type 0} (kind : FileKind) (known : Option (List ℕ)) (loading : Loading) (image : LoadedImage F A)
     → IsLoadedAs kind known loading image → IsLoadedOf known loading image
 loaded_of kind known how.Whole image h = h
 loaded_of kind known (how.Open trailers) image h = record {
   source = h.source;
-  known_are = seen_of kind known h.source h.of_file;
+  shown_are = seen_of kind known h.source h.of_file;
   over = h.over;
 }
 loaded_of kind known (how.Gather trailers) image h = (held_of kind known trailers image h.0, h.1)

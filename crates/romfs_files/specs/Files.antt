@@ -1,6 +1,7 @@
 -- What is read of files, some of whose bytes are known.
 use Rattle.std.specs.Prelude.{◌≡◌, ℕ, List, Option, None, IfSome, All}
 use Rattle.std.specs.declared.vec.Vec.{Vec}
+use Rattle.devices.specs.Sources.{IfShown}
 use Rattle.romfs_held.specs.declared.image.HeldImage.{HeldImage}
 use Rattle.romfs_held.specs.declared.image.HeldImage.TheVariants.{Kept, Whole}
 use Rattle.romfs_files.specs.declared.image_data.ImageData.{ImageData}
@@ -8,7 +9,7 @@ use Rattle.romfs_files.specs.declared.loaded.LoadedImage.{LoadedImage}
 use Rattle.romfs_files.specs.declared.loaded.Loading.{Loading}
 use Rattle.romfs_files.specs.declared.loaded.Loading.TheVariants as how
 use Rattle.romfs_files.specs.declared.loaded.Trailers.{Trailers}
-use Rattle.romfs_files.specs.Data.{known_bytes}
+use Rattle.romfs_files.specs.Data.{source_of}
 use Rattle.romfs_files.specs.Loaded.{IsOpenOver}
 
 -- it was read of some file, as this says of a file and of what is read of it
@@ -21,11 +22,11 @@ abbrev pub AreBytesOf : {A : Type 0} → Option (List ℕ) → Vec ℕ A → Typ
 AreBytesOf known bytes = IfSome known (λ xs. bytes.items ≡ xs)
 
 -- the image of a file of which these bytes are known is open, with its trailer or without; the
--- bytes that are known of its data, if there are any, are those of the file
+-- bytes that its data show, if they show any, are those of the file
 pub record IsOpenOf {F A : Type 0} (known : Option (List ℕ)) (trailers : Trailers)
     (image : LoadedImage F A) : Type 0 where
   pub source : ImageData F A
-  pub known_are : IfSome (known_bytes source) (λ seen. IfSome known (λ xs. seen ≡ xs))
+  pub shown_are : IfShown (source_of source) (λ seen. IfSome known (λ xs. seen ≡ xs))
   pub over : IsOpenOver source trailers image
 
 -- of the image of a file all bytes are held, those that are known of it

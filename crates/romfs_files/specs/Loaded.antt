@@ -1,5 +1,7 @@
 -- What comes of the file of an image that is loaded.
 use Rattle.std.specs.Prelude.{◌≡◌, ℕ, List, [], ◌∷◌, ◌++◌, Option, Some, None, map}
+use Rattle.devices.specs.Sources.{Source, sealed, unknown}
+use Rattle.romfs_seal.specs.Named.{seal_of}
 use Rattle.romfs_kept.specs.Gathered.{IsGathered, IsGatheredWithTrailer}
 use Rattle.romfs_held.specs.declared.image.HeldImage.{HeldImage}
 use Rattle.romfs_held.specs.declared.image.HeldImage.TheVariants as held
@@ -8,38 +10,40 @@ use Rattle.romfs_files.specs.declared.loaded.Trailers.{Trailers}
 use Rattle.romfs_files.specs.declared.loaded.Trailers.TheVariants.{Read, Left}
 use Rattle.romfs_files.specs.declared.image_data.ImageData.{ImageData}
 use Rattle.romfs_files.specs.declared.image_data.ImageData.TheVariants as from
-use Rattle.romfs_files.specs.Data.{known_bytes}
+use Rattle.romfs_files.specs.Data.{source_of}
 
--- what is kept was gathered from the data, where their bytes are known: with their trailer, where
+-- what is kept was gathered from whatever bytes the source shows: with their trailer, where
 -- trailers are read
-abbrev pub WasGathered : Trailers → Option (List ℕ) → List ℕ → Type 0
-WasGathered Read known kept = IsGatheredWithTrailer known kept
-WasGathered Left known kept = IsGathered known kept
+abbrev pub WasGathered : Trailers → Source → List ℕ → Type 0
+WasGathered Read source kept = IsGatheredWithTrailer source kept
+WasGathered Left source kept = IsGathered source kept
 
--- what the rules look at is held: it was gathered from these bytes, where they are known, with
--- their trailer, where trailers are read
-abbrev pub IsKeptWith : {A : Type 0} → Option (List ℕ) → Trailers → HeldImage A → Type 0
-IsKeptWith known trailers (held.Kept kept) = WasGathered trailers known kept
-IsKeptWith known trailers (held.Whole bytes) = ⊥
+-- what the rules look at is held: it was gathered from this source, with its trailer, where
+-- trailers are read
+abbrev pub IsKeptWith : {A : Type 0} → Source → Trailers → HeldImage A → Type 0
+IsKeptWith source trailers (held.Kept kept) = WasGathered trailers source kept
+IsKeptWith source trailers (held.Whole bytes) = ⊥
 
 -- so it is of an image, which says whether its trailer was read
-abbrev pub IsKeptOf : {F A : Type 0} → Option (List ℕ) → Trailers → LoadedImage F A → Type 0
-IsKeptOf known trailers image =
-    (image.trailers ≡ trailers) × IsKeptWith known trailers image.held
+abbrev pub IsKeptOf : {F A : Type 0} → Source → Trailers → LoadedImage F A → Type 0
+IsKeptOf source trailers image =
+    (image.trailers ≡ trailers) × IsKeptWith source trailers image.held
 
 -- an image is open over these data, with its trailer or without
 pub record IsOpenOver {F A : Type 0} (source : ImageData F A) (trailers : Trailers)
     (image : LoadedImage F A) : Type 0 where
   pub source_is : image.source ≡ Some source
-  pub kept : IsKeptOf (known_bytes source) trailers image
+  pub kept : IsKeptOf (source_of source) trailers image
 
--- an image has let these data go: of a file what the rules look at is held; all bytes that were in
--- memory are
+-- an image has let these data go: of a file, sealed or not, what the rules look at is held; all bytes
+-- that were in memory are
 abbrev pub IsLetGo : {F A : Type 0} → ImageData F A → Trailers → LoadedImage F A → Type 0
 IsLetGo (from.File file) trailers image =
-    IsKeptOf None trailers image × (image.source ≡ None)
+    IsKeptOf unknown trailers image × (image.source ≡ None)
 IsLetGo (from.Memory bytes) trailers image =
     (image.held ≡ held.Whole bytes) × (image.source ≡ None)
+IsLetGo (from.Sealed name) trailers image =
+    IsKeptOf (sealed (seal_of name)) trailers image × (image.source ≡ None)
 
 -- a list with what is added, if there is something
 abbrev pub added : {T : Type 0} → List T → Option T → List T

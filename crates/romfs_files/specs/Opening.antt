@@ -12,6 +12,7 @@ use Rattle.romfs_files.specs.declared.loaded.Loading.{Loading}
 use Rattle.romfs_files.specs.declared.loaded.Loading.TheVariants as how
 use Rattle.romfs_files.specs.declared.loaded.Trailers.{Trailers}
 use Rattle.std.specs.declared.vec.Vec.{Vec}
+use Rattle.devices.specs.Sources.{unknown}
 use Rattle.romfs_held.specs.Images.{held_bytes}
 use Rattle.romfs_files.specs.Files.{AreBytesOf, IsWholeOf}
 use Rattle.romfs_files.specs.Loaded.{IsKeptOf, IsOpenOver}
@@ -26,15 +27,17 @@ IsKindOf m (Regular size) = IsFile (file_type m) × (size ≡ metadata_len m) ×
 IsKindOf m BlockDevice = IsBlockDevice m
 IsKindOf m Stream = (IsFile (file_type m) → metadata_len m ≡ 0) × (IsBlockDevice m → ⊥)
 
--- the data stay in their file
+-- the data stay in their file, under no digest
 abbrev pub StayInFile : {F A : Type 0} → ImageData F A → Type 0
 StayInFile (from.File file) = ⊤
 StayInFile (from.Memory bytes) = ⊥
+StayInFile (from.Sealed name) = ⊥
 
 -- all bytes of the data are in memory, those that are known
 abbrev pub AreAllOf : {F A : Type 0} → Option (List ℕ) → ImageData F A → Type 0
 AreAllOf known (from.File file) = ⊥
 AreAllOf known (from.Memory bytes) = AreBytesOf known bytes
+AreAllOf known (from.Sealed name) = ⊥
 
 -- what the data of a file of this kind are read from, of which these bytes are known
 abbrev pub AreOfFile : {F A : Type 0} → FileKind → Option (List ℕ) → ImageData F A → Type 0
@@ -53,8 +56,8 @@ pub record IsOpenedAs {F A : Type 0} (kind : FileKind) (known : Option (List ℕ
 -- all, and of any other what the rules look at, but of its reads nothing is known
 abbrev pub IsHeldAs : {F A : Type 0} → FileKind → Option (List ℕ) → Trailers → LoadedImage F A
     → Type 0
-IsHeldAs (Regular size) known trailers image = IsKeptOf None trailers image
-IsHeldAs BlockDevice known trailers image = IsKeptOf None trailers image
+IsHeldAs (Regular size) known trailers image = IsKeptOf unknown trailers image
+IsHeldAs BlockDevice known trailers image = IsKeptOf unknown trailers image
 IsHeldAs Stream known trailers image = IsWholeOf known image.held
 
 -- what is loaded of such a file

@@ -1,23 +1,25 @@
 //! What the data of an image are read from while it is served.
 
-use devices::{Contents, InFile, InMemory, Unread};
+use devices::{Algorithm, Contents, InFile, InMemory, Unread};
+use romfs_seal::{Files, SealedImage};
 use std::alloc::Allocator;
 use std::os::unix::fs::FileExt;
 
 /// What the bytes of an image are read from. Several may read at the same time.
 #[derive(Drop)]
-pub enum ImageData<F, A: Allocator> {
+pub enum ImageData<F: FileExt, A: Allocator> {
     /// The file, which stays open. Its size is the one that it reported when it was opened.
     File(InFile<F>),
     /// All bytes of a file that cannot be read at a place.
     Memory(Vec<u8, A>),
+    /// The file and the file of its tree, which stay open, under the file's digest.
+    Sealed(SealedImage<Files<InFile<F>, InFile<F>, Algorithm>, A>),
 }
 
-/// Of a file no byte is known, and a read may fail. Bytes in memory are read as they are.
+/// Of a file no byte is known, and a read may fail. Bytes in memory are read as they are. Under a
+/// digest those are read for which it vouches.
 impl<F: FileExt, A: Allocator> Contents for ImageData<F, A> {
-    ghost use Rattle.romfs_files.specs.Data.{known_bytes, source_of};
-
-    ghost contents = { known_bytes };
+    ghost use Rattle.romfs_files.specs.Data.{source_of};
 
     ghost source = { source_of };
 
@@ -25,6 +27,7 @@ impl<F: FileExt, A: Allocator> Contents for ImageData<F, A> {
         match self {
             ImageData::File(file) => file.size(),
             ImageData::Memory(bytes) => InMemory::new(bytes).size(),
+            ImageData::Sealed(file) => file.size(),
         }
     }
 
@@ -32,6 +35,7 @@ impl<F: FileExt, A: Allocator> Contents for ImageData<F, A> {
         match self {
             ImageData::File(file) => file.read_at(room, offset),
             ImageData::Memory(bytes) => InMemory::new(bytes).read_at(room, offset),
+            ImageData::Sealed(file) => file.read_at(room, offset),
         }
     }
 }

@@ -11,19 +11,25 @@
 //!   the bytes ([`ImageData`]). [`apart`] makes two lists of a list of images.
 //! - gathered. As much is read, and no file is kept open.
 //!
+//! [`open_sealed`] opens one image whose fs-verity digest is known, with the file of its tree
+//! (`romfs_seal`).
+//!
 //! Of a long list up to four parts are read at the same time; the lowest image that cannot be read
 //! is reported.
 //!
 //! The private parts: `images` shares a list out; `opening` loads one file by what it is, `whole`
 //! reads all of one; `loaded` and `image_data` have what comes of it. No clause sees a
 //! path, nor what a read at a place gives: the tests open real files. Bytes in memory are those of
-//! some file, where these are known, and what is kept beside them was gathered from them.
+//! some file, where these are known, and what is kept beside them was gathered from them. Under a
+//! digest what is kept is the named file's, if no read gives, in the place of a block, another with
+//! its digest.
 #![tactic(auto)]
 
 mod image_data;
 mod images;
 mod loaded;
 mod opening;
+mod sealing;
 mod whole;
 
 pub use image_data::ImageData;
@@ -31,3 +37,4 @@ pub use images::{FilesFault, load};
 pub use loaded::{LoadedImage, Loading, Trailers, apart};
 pub use opening::{FileKind, load_as};
 pub use romfs_kept::GatherFault;
+pub use sealing::open_sealed;

@@ -2,7 +2,7 @@
 
 ghost use Rattle.std.specs.Prelude.{◌≡◌, None, IfOk, IfErr};
 ghost use Rattle.romfs_kept.specs.Reads.{IsCause};
-ghost use Rattle.romfs_files.specs.Data.{known_bytes};
+ghost use Rattle.romfs_files.specs.Data.{source_of};
 ghost use Rattle.romfs_files.specs.Loaded.{AreApart, IsKeptOf, IsOpenOver, IsLetGo, WasGathered, added};
 
 use crate::image_data::ImageData;
@@ -33,7 +33,7 @@ pub enum Loading {
 /// An image that was loaded: what is held of it; what its data are read from, where its file stays
 /// open; and whether its trailer was read, where not all bytes are held.
 #[derive(Drop)]
-pub struct LoadedImage<F, A: Allocator> {
+pub struct LoadedImage<F: FileExt, A: Allocator> {
     pub held: HeldImage<A>,
     pub source: Option<ImageData<F, A>>,
     pub trailers: Trailers,
@@ -48,15 +48,15 @@ pub(crate) fn open<F: FileExt + Drop, A: Allocator + Copy>(
     trailers: Trailers,
 ) -> Result<LoadedImage<F, A>, GatherFault>
     ensures ok { IfOk result (IsOpenOver source trailers) }
-    ensures err { IfErr result (IsCause (known_bytes source)) }
+    ensures err { IfErr result (IsCause (source_of source)) }
 {
     let mut image = kept_of(alloc, &source, trailers)?;
     image.source = Some(source);
     Ok(image)
 }
 
-/// The image of these data, which are let go: what the rules look at, of a file; all bytes that are
-/// in memory.
+/// The image of these data, which are let go: what the rules look at, of a file, sealed or not; all
+/// bytes that are in memory.
 pub(crate) fn let_go<F: FileExt + Drop, A: Allocator + Copy>(
     alloc: A,
     source: ImageData<F, A>,
@@ -67,11 +67,12 @@ pub(crate) fn let_go<F: FileExt + Drop, A: Allocator + Copy>(
     match source {
         ImageData::File(file) => kept_of(alloc, &file, trailers),
         ImageData::Memory(bytes) => Ok(whole(bytes)),
+        ImageData::Sealed(file) => kept_of(alloc, &file, trailers),
     }
 }
 
 /// The image of these bytes, which are all that its file has.
-pub(crate) fn whole<F, A: Allocator>(bytes: Vec<u8, A>) -> LoadedImage<F, A>
+pub(crate) fn whole<F: FileExt, A: Allocator>(bytes: Vec<u8, A>) -> LoadedImage<F, A>
     ensures held { result.held ≡ HeldImage.Whole bytes }
     ensures source { result.source ≡ None }
 {
@@ -84,14 +85,14 @@ pub(crate) fn whole<F, A: Allocator>(bytes: Vec<u8, A>) -> LoadedImage<F, A>
 
 /// What the rules look at, with the trailer where it is asked for, and nothing that data are read
 /// from.
-fn kept_of<F, S: Contents, A: Allocator + Copy>(
+fn kept_of<F: FileExt, S: Contents, A: Allocator + Copy>(
     alloc: A,
     source: &S,
     trailers: Trailers,
 ) -> Result<LoadedImage<F, A>, GatherFault>
-    ensures ok { IfOk result (IsKeptOf (S.contents source.now) trailers) }
+    ensures ok { IfOk result (IsKeptOf (S.source source.now) trailers) }
     ensures source { IfOk result (λ image. image.source ≡ None) }
-    ensures err { IfErr result (IsCause (S.contents source.now)) }
+    ensures err { IfErr result (IsCause (S.source source.now)) }
 {
     Ok(LoadedImage {
         held: HeldImage::Kept(gather_as(alloc, source, trailers)?),
@@ -105,8 +106,8 @@ fn gather_as<S: Contents, A: Allocator + Copy>(
     source: &S,
     trailers: Trailers,
 ) -> Result<Kept<A>, GatherFault>
-    ensures ok { IfOk result (WasGathered trailers (S.contents source.now)) }
-    ensures err { IfErr result (IsCause (S.contents source.now)) }
+    ensures ok { IfOk result (WasGathered trailers (S.source source.now)) }
+    ensures err { IfErr result (IsCause (S.source source.now)) }
 {
     match trailers {
         Trailers::Read => gather_with_trailer(alloc, source),
@@ -116,7 +117,7 @@ fn gather_as<S: Contents, A: Allocator + Copy>(
 
 /// Takes images apart: what is held of each; and what the data are read from of each whose file
 /// stays open, in the order of the images. `AllocError` comes only if memory was refused.
-pub fn apart<F: Drop, A: Allocator + Copy>(
+pub fn apart<F: FileExt + Drop, A: Allocator + Copy>(
     alloc: A,
     images: Vec<LoadedImage<F, A>, A>,
 ) -> Result<(Vec<HeldImage<A>, A>, Vec<ImageData<F, A>, A>), AllocError>

@@ -1,10 +1,12 @@
 -- What keeps its rule is known by its bounds, and bounds that can't fail hold (stable_..): so the
 -- trailer of a sound image keeps its rule, where the profile reads it (whole_trailer).
 use Rattle.std.proofs.Common.{◌≡◌, ℕ, ◌<◌, ◌≤◌, inl, inr, List, IsTrue, arith, refl}
+use Rattle.std.specs.Prelude.{Bool, true, false}
 use Rattle.std.proofs.lemmas.Bool.{cases_lt, cases_order}
 use Rattle.romfs_format.specs.declared.rule.Profile.{Profile}
 use Rattle.romfs_format.specs.declared.rule.Rule.TheVariants.{Attributes}
 use Rattle.romfs_format.specs.Fields.{word}
+use Rattle.romfs_format.specs.Part.{AreTables, AreLists, IsFramed, IsPart}
 use Rattle.romfs_format.specs.Profiles.{reads_attributes}
 use Rattle.romfs_format.specs.Trailer.{trailer_at, trailer, HasTrailer, IsTrailer, IsTrailerBroken}
 use Rattle.romfs_format.specs.Rules.{IsSound}
@@ -22,6 +24,46 @@ stable_eq m n h = elim (cases_order m n) [
   | inr (inr l) ↦ absurd (h (λ k. omega arith))
 ]
 
+stable_true : (b : Bool) → ¬ ¬ IsTrue b → IsTrue b
+stable_true true h = refl
+stable_true false h = absurd (h (λ e. absurd (cc)))
+
+-- tables that cannot break their rule keep it
+stable_tables : (y : List ℕ) → ¬ ¬ AreTables y → AreTables y
+stable_tables y h = record {
+  firsts_fit = stable_le _ _ (λ n. h (λ p. n p.firsts_fit));
+  from_zero = stable_eq _ _ (λ n. h (λ p. n p.from_zero));
+  firsts_rise = stable_true _ (λ n. h (λ p. n p.firsts_rise));
+  edges_fit = stable_le _ _ (λ n. h (λ p. n p.edges_fit));
+  edges_rise = stable_true _ (λ n. h (λ p. n p.edges_rise));
+  inside = stable_le _ _ (λ n. h (λ p. n p.inside));
+}
+
+-- so do lists
+stable_lists : (y : List ℕ) → ¬ ¬ AreLists y → AreLists y
+stable_lists y h = record {
+  tables = stable_tables y (λ n. h (λ p. n p.tables));
+  each = stable_true _ (λ n. h (λ p. n p.each));
+}
+
+-- and their frame
+stable_frame : (n : ℕ) (x : List ℕ) → ¬ ¬ IsFramed n x → IsFramed n x
+stable_frame n x h = record {
+  head = stable_le _ _ (λ n. h (λ p. n p.head));
+  whole = stable_le _ _ (λ n. h (λ p. n p.whole));
+  words = stable_eq _ _ (λ n. h (λ p. n p.words));
+  sum = stable_eq _ _ (λ n. h (λ p. n p.sum));
+  rows_fit = stable_le _ _ (λ n. h (λ p. n p.rows_fit));
+}
+
+-- and a part
+stable_part : (n : ℕ) (mode : ℕ → ℕ) (x : List ℕ) → ¬ ¬ IsPart n mode x → IsPart n mode x
+stable_part n mode x h = record {
+  frame = stable_frame n x (λ n. h (λ p. n p.frame));
+  lists = stable_lists _ (λ n. h (λ p. n p.lists));
+  rows = stable_true _ (λ n. h (λ p. n p.rows));
+}
+
 -- a trailer that cannot break its rule keeps it
 stable_trailer : (full : ℕ) (t : List ℕ) → ¬ ¬ IsTrailer full t → IsTrailer full t
 stable_trailer full t h = record {
@@ -37,6 +79,7 @@ stable_trailer full t h = record {
     };
     rising = λ i j l m. stable_lt _ _ (λ n. h (λ x. n (x.rows.rising i j l m)));
   };
+  part = λ v. stable_part _ _ _ (λ n. h (λ x. n (x.part v)));
 }
 
 -- a trailer that is not broken keeps its rule

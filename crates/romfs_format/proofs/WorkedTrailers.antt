@@ -3,12 +3,12 @@
 use Rattle.std.proofs.Common.{◌≡◌, ℕ, zero, suc, ◌<◌, ◌≤◌, List, arith, refl, lit<, lit≤}
 use Rattle.std.specs.Prelude.{⊤}
 use Rattle.romfs_format.specs.Fields.{word}
-use Rattle.romfs_format.specs.Trailer.{trailer, trailer_bytes, long_word, row_of, IsRow, AreRows}
+use Rattle.romfs_format.specs.Trailer.{trailer, trailer_bytes, long_word, part, row_of, IsRow, AreRows}
 use Rattle.romfs_format.specs.TrailerExamples.{NoTrailerExamples, TrailerExamples, ProfileExamples, BrokenTrailerExamples}
 
 -- what trailers that are written out are read by
 unfoldable trailers_on_literals : ⊤
-unfolding word trailer trailer_bytes long_word
+unfolding word trailer trailer_bytes long_word part
 trailers_on_literals = tt
 
 -- where trailers begin, and what is none
@@ -38,8 +38,16 @@ module _ (full : ℕ) (t : List ℕ) (x : IsRow full t 0) (y : IsRow full t 1) (
   two_rise (suc i) (suc zero) m n = absurd (omega arith)
   two_rise i (suc (suc j)) m n = absurd (omega arith)
 
-  two_right : AreRows full t 2
+  pub two_right : AreRows full t 2
   two_right = record { each = two_each; rising = two_rise }
+
+module _ (full : ℕ) (t : List ℕ) (x : IsRow full t 0) where
+  one_each : (i : ℕ) → i < 1 → IsRow full t i
+  one_each zero m = x
+  one_each (suc i) m = absurd (omega arith)
+
+  pub one_right : AreRows full t 1
+  one_right = record { each = one_each; rising = λ i j l m. absurd (omega arith) }
 
 -- trailers that keep their rule, and what they say
 pub whole : TrailerExamples
@@ -49,6 +57,7 @@ whole = record {
     whole = lit≤ tt;
     sum = refl;
     rows = record { each = λ i l. absurd (omega arith); rising = λ i j l m. absurd (omega arith) };
+    part = λ h. absurd (cc);
   };
   two = record {
     whole = lit≤ tt;
@@ -57,6 +66,7 @@ whole = record {
         (record { aligned = refl; inside = lit< tt; mode = lit≤ tt; nanoseconds = lit< tt; last = refl })
         (record { aligned = refl; inside = lit< tt; mode = lit≤ tt; nanoseconds = lit< tt; last = refl })
         (lit< tt);
+    part = λ h. absurd (cc);
   };
   longer = record {
     whole = lit≤ tt;
@@ -65,6 +75,7 @@ whole = record {
         (record { aligned = refl; inside = lit< tt; mode = lit≤ tt; nanoseconds = lit< tt; last = refl })
         (record { aligned = refl; inside = lit< tt; mode = lit≤ tt; nanoseconds = lit< tt; last = refl })
         (lit< tt);
+    part = λ h. absurd (cc);
   };
   has_none = refl;
   has_two = refl;

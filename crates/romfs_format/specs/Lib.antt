@@ -2,9 +2,15 @@ pub mod Fields
 pub mod Chains
 pub mod Links
 pub mod Profiles
+pub mod Below
+pub mod Acls
+pub mod Extended
+pub mod Part
 pub mod Trailer
 pub mod Rules
 pub mod Heads
 pub mod Texts
 pub mod Examples
 pub mod TrailerExamples
+pub mod ExtendedExamples
+pub mod PartExamples

@@ -1,5 +1,5 @@
--- The attribute trailer: owners, modes and times of an image's files, in a table after its full
--- size, where no reader of romfs looks.
+-- The attribute trailer: owners, modes, times and extended attributes of an image's files, after
+-- its full size, where no reader of romfs looks.
 use Rattle.std.specs.Prelude.{◌≡◌, ℕ, zero, suc, ◌+◌, ◌*◌, ◌%◌, ◌^◌, ◌<◌, ◌≤◌, ◌==◌, ◌&&◌, Bool, List, [], ◌∷◌, ◌++◌, length, take, drop, Option, Some, None, nat_eq, nat_lt, codes, IsTrue, if◌then◌else◌}
 use Rattle.std.specs.List.{starts_with}
 use Rattle.byteorder.specs.Endian.{big_number}
@@ -8,6 +8,8 @@ use Rattle.romfs_format.specs.declared.attribute_row.AttributeRow.{AttributeRow}
 use Rattle.romfs_format.specs.declared.rule.Profile.{Profile}
 use Rattle.romfs_format.specs.Fields.{word, padded, word_sum}
 use Rattle.romfs_format.specs.Profiles.{reads_attributes}
+use Rattle.romfs_format.specs.Extended.{Extended}
+use Rattle.romfs_format.specs.Part.{list_number, lists_in, numbered, IsPart}
 
 -- b is all bytes of an image, and t those from the start of its trailer on. Numbers are big-endian,
 -- as in the image.
@@ -74,11 +76,25 @@ pub record AreRows (full : ℕ) (t : List ℕ) (n : ℕ) : Type 0 where
   pub each : (i : ℕ) → i < n → IsRow full t i
   pub rising : (i j : ℕ) → i < j → j < n → (row_of t i).place < (row_of t j).place
 
--- the trailer keeps its rule: it is not cut off, its words sum to 0, and its rows are right
+-- the bytes after the rows
+unfoldable pub part : List ℕ → List ℕ
+part t = drop (trailer_end t) t
+
+-- t is of version 2: its rows are followed by these letters
+abbrev pub has_part : List ℕ → Bool
+has_part t = starts_with nat_eq (part t) (codes "-attr02-")
+
+-- the mode that row i says
+abbrev pub mode_of : List ℕ → ℕ → ℕ
+mode_of t i = (row_of t i).mode
+
+-- the trailer keeps its rule: it is not cut off, its words sum to 0, its rows are right, and so is
+-- the part after them, if there is one
 pub record IsTrailer (full : ℕ) (t : List ℕ) : Type 0 where
   pub whole : trailer_end t ≤ length t
   pub sum : word_sum (trailer_bytes t) % 2 ^ 32 ≡ 0
   pub rows : AreRows full t (row_count t)
+  pub part : IsTrue (has_part t) → IsPart (row_count t) (mode_of t) (part t)
 
 -- b has a trailer that does not keep its rule
 abbrev pub IsTrailerBroken : List ℕ → Type 0
@@ -93,6 +109,22 @@ first_rows t (suc n) = first_rows t n ++ row_of t n ∷ []
 abbrev pub rows : List ℕ → List AttributeRow
 rows b = if has_trailer b then first_rows (trailer b) (row_count (trailer b)) else []
 
+-- the extended attributes of row i
+abbrev pub extended_of : List ℕ → ℕ → List Extended
+extended_of t i =
+    if has_part t
+    then numbered (lists_in (row_count t) (part t)) (list_number (part t) i)
+    else []
+
+-- those of the first n rows
+abbrev pub first_lists : List ℕ → ℕ → List (List Extended)
+first_lists t zero = []
+first_lists t (suc n) = first_lists t n ++ extended_of t n ∷ []
+
+-- a list of extended attributes for each row of b
+abbrev pub lists : List ℕ → List (List Extended)
+lists b = if has_trailer b then first_lists (trailer b) (row_count (trailer b)) else []
+
 -- the rows of b that a profile shows
 abbrev pub rows_shown : Profile → List ℕ → List AttributeRow
 rows_shown profile b = if reads_attributes profile then rows b else []
@@ -101,3 +133,12 @@ rows_shown profile b = if reads_attributes profile then rows b else []
 abbrev pub row_at : List AttributeRow → ℕ → Option AttributeRow
 row_at [] p = None
 row_at (x ∷ xs) p = if x.place == p then Some x else row_at xs p
+
+-- the lists of b that a profile shows
+abbrev pub lists_shown : Profile → List ℕ → List (List Extended)
+lists_shown profile b = if reads_attributes profile then lists b else []
+
+-- the list of extended attributes for the header at p
+abbrev pub list_at : List AttributeRow → List (List Extended) → ℕ → List Extended
+list_at (x ∷ xs) (ys ∷ yss) p = if x.place == p then ys else list_at xs yss p
+list_at _ _ p = []

@@ -4,14 +4,17 @@
 //! `specs/` restates the document: the fields of headers (`Fields`, `Heads`), which headers are in
 //! which directory (`Chains`), what they lead to (`Links`), the rules of an image and the one fault
 //! of an image that breaks some (`Rules`, as text `Texts`). An image may be followed by an
-//! attribute trailer with the owners, modes and times of its files (`Trailer`), which some profiles
-//! read (`Profiles`). [`limits`] has all sizes and limits, and [`examples`] the number of each, and
-//! worked trailers. [`read`] reads words, names and headers if they lie within the image; no call
-//! takes memory. [`laws`] says that an image has at most one fault.
+//! attribute trailer with the owners, modes and times of its files (`Trailer`), and after its rows
+//! a part with lists (`Part`) of extended attributes (`Extended`, `Acls`); some profiles read it
+//! (`Profiles`). [`limits`] has all sizes and limits, [`acl`] the numbers of access control lists,
+//! and [`examples`] the number of each, and worked trailers. [`read`] reads words, names and
+//! headers if they lie within the image; no call takes memory. [`laws`] says that an image has at
+//! most one fault.
 //!
 //! The crate uses `byteorder` for words and `memchr` for the ends of names.
 #![tactic(auto)]
 
+pub mod acl;
 pub mod attribute_row;
 pub mod examples;
 pub mod head;

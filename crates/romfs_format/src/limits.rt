@@ -30,3 +30,18 @@ pub const MAX_MODE: u32 = 4_095;
 
 /// How many nanoseconds a second has. A row has fewer.
 pub const SECOND: u32 = 1_000_000_000;
+
+/// The size of the head, before the words of the part with extended attributes, in bytes.
+pub const PART_HEAD_SIZE: usize = 16;
+
+/// The most bytes of the name of an extended attribute (`XATTR_NAME_MAX` of linux/limits.h).
+pub const MAX_XATTR_NAME_SIZE: usize = 255;
+
+/// The most bytes of its value (`XATTR_SIZE_MAX`).
+pub const MAX_XATTR_SIZE: usize = 65_536;
+
+/// The most bytes of all names of a file together, each with a zero byte (`XATTR_LIST_MAX`).
+pub const MAX_XATTR_LIST_SIZE: usize = 65_536;
+
+/// The most bytes of an access control list: Linux's FUSE asks for no more.
+pub const MAX_ACL_SIZE: usize = 4_096;

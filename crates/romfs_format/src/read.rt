@@ -172,7 +172,7 @@ fn name_field(image: &[u8], at: usize) -> &[u8]
 }
 
 /// The bytes before the first zero byte, if there is one.
-fn ended(field: &[u8]) -> Option<&[u8]>
+pub fn ended(field: &[u8]) -> Option<&[u8]>
     ensures { option_map (λ text. text.now) result ≡ ended field.now }
 {
     match first_zero(field) {

@@ -10,7 +10,7 @@ ghost use Rattle.romfs_format.specs.declared.limits.TheConstants.{HEAD_SIZE};
 ghost use Rattle.romfs_format.specs.Fields.{word as word_of, text_at as text_of, text_end, ended, name_field as field_of, word_sum};
 ghost use Rattle.romfs_format.specs.Heads.{head_of, name_of};
 ghost use Rattle.romfs_format.specs.Trailer.{long_word as long_word_of};
-ghost use Rattle.romfs_held.specs.Blocks.{Rises, AreInRow, IsRun, IsKept, IsFront, CopiesSome, filled, byte_of};
+ghost use Rattle.romfs_held.specs.Blocks.{Rises, AreInRow, IsRun, IsKept, IsFront, IsSumOfSome, CopiesSome, filled, byte_of};
 
 use crate::numbers::Numbers;
 use byteorder::{BigEndian, ByteOrder};
@@ -361,7 +361,7 @@ pub(crate) fn sum_in(blocks: &Numbers<'_>, bytes: &[u8], size: u32, at: u32, len
     }
 }
 
-/// The same, word by word.
+/// The same, run by run, and word by word where nothing is kept.
 fn sum_of_words(blocks: &Numbers<'_>, bytes: &[u8], size: u32, at: u32, len: u32) -> u32
     requires kept { IsKept blocks.now.all.now bytes.now }
     requires within { at + len ≤ size }
@@ -371,10 +371,39 @@ fn sum_of_words(blocks: &Numbers<'_>, bytes: &[u8], size: u32, at: u32, len: u32
     let mut sum: u32 = 0;
     let mut done: u32 = 0;
     while len - done >= 4 {
-        sum = sum.wrapping_add(word_in(blocks, bytes, size, at + done));
-        done += 4;
+        let some = sum_of_some(blocks, bytes, size, at + done, len - done);
+        sum = sum.wrapping_add(some.sum);
+        done += some.len;
     }
     sum
+}
+
+/// The sum of some words, and how many bytes they have.
+#[derive(Clone, Copy)]
+pub(crate) struct Summed {
+    pub(crate) sum: u32,
+    pub(crate) len: u32,
+}
+
+/// The sum of the first words of these bytes: those of a run, or else one.
+fn sum_of_some(blocks: &Numbers<'_>, bytes: &[u8], size: u32, at: u32, len: u32) -> Summed
+    requires kept { IsKept blocks.now.all.now bytes.now }
+    requires within { at + len ≤ size }
+    requires long { 4 ≤ len }
+    ensures { IsSumOfSome (filled size blocks.now.all.now bytes.now) at len result.sum result.len }
+{
+    let near = run(blocks, bytes, at);
+    let count = near.len().min(len as usize) / 4 * 4;
+    if count == 0 {
+        return Summed {
+            sum: word_in(blocks, bytes, size, at),
+            len: 4,
+        };
+    }
+    Summed {
+        sum: word_sum(&near[..count]),
+        len: count as u32,
+    }
 }
 
 /// Puts bytes from a place on, of an image of this size, at the front of a room: those of a run, or

@@ -34,7 +34,7 @@ impl<A: Allocator> Model for Kept<A> {
         × AreBelow kept.size kept.blocks.items };
 }
 
-impl<A: Allocator> Kept<A> {
+impl<A: Allocator + Copy> Kept<A> {
     /// Blocks of an image of this size in bytes: their numbers, rising, and the bytes of each, one
     /// behind the other. Those beyond the size are dropped. Fails only if memory was refused.
     #[tactic(auto, using(crate::proofs::Fronts::filled_long))]
@@ -58,7 +58,9 @@ impl<A: Allocator> Kept<A> {
             stretches,
         })
     }
+}
 
+impl<A: Allocator> Kept<A> {
     /// The image, to be read.
     #[tactic(auto, using(crate::proofs::Fronts::filled_long))]
     pub fn held(&self) -> Held<'_>

@@ -1,17 +1,17 @@
--- What was gathered from known bytes is judged as they are (judged_alike), with their trailer under every profile (judged_with_trailer).
+-- What was gathered from bytes is judged as they are (judged_alike), with their trailer under every profile (judged_with_trailer).
 use Rattle.std.proofs.Common.{◌≡◌, ℕ, List, ◌↔◌, Some, None, IsTrue}
 use Rattle.romfs_format.specs.declared.rule.Profile.{Profile}
 use Rattle.romfs_format.specs.Profiles.{reads_attributes}
 use Rattle.romfs_format.specs.Rules.{IsSound}
 use Rattle.romfs_format.specs.Trailer.{rows_shown}
-use Rattle.romfs_kept.specs.Gathered.{IsGathered, IsGatheredWithTrailer}
+use Rattle.romfs_kept.specs.Gathered.{IsGatheredOf, IsGatheredWithTrailerOf}
 use Rattle.romfs_kept.proofs.Volumes.{same_fault}
 use Rattle.romfs_kept.proofs.WithTrailer.{same_fault_with_trailer, same_rows_shown}
 use Rattle.romfs_image.specs.declared.refusal.CheckFault.{CheckFault}
 use Rattle.romfs_image.specs.declared.refusal.CheckFault.TheVariants.{Broken, Memory}
 use Rattle.romfs_image.specs.Refusals.{IsRefusal}
 
-module _ (profile : Profile) (plain : ¬ IsTrue (reads_attributes profile)) (b a : List ℕ) (g : IsGathered (Some b) a) where
+module _ (profile : Profile) (plain : ¬ IsTrue (reads_attributes profile)) (b a : List ℕ) (g : IsGatheredOf b a) where
   refused_alike : (fault : CheckFault) → IsRefusal profile a fault ↔ IsRefusal profile b fault
   refused_alike (Broken fault) = (let s = same_fault profile plain b a g (Some fault) in (s.1, s.0))
   refused_alike Memory = (λ x. x, λ x. x)
@@ -20,7 +20,7 @@ module _ (profile : Profile) (plain : ¬ IsTrue (reads_attributes profile)) (b a
       fault)
   judged_alike = (let s = same_fault profile plain b a g None in ((s.1, s.0), refused_alike))
 
-module _ (profile : Profile) (b a : List ℕ) (g : IsGatheredWithTrailer (Some b) a) where
+module _ (profile : Profile) (b a : List ℕ) (g : IsGatheredWithTrailerOf b a) where
   refused_with_trailer : (fault : CheckFault) → IsRefusal profile a fault ↔ IsRefusal profile b fault
   refused_with_trailer (Broken fault) = (let s = same_fault_with_trailer b a g profile (Some fault) in (s.1, s.0))
   refused_with_trailer Memory = (λ x. x, λ x. x)

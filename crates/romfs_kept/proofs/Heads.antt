@@ -1,19 +1,21 @@
 -- What is kept of a trailer is judged as the trailer is (judged), and says the same rows where it is
 -- right (rows_same). Words and rows that lie in it are the trailer's (word_kept, row_kept). Where the
 -- head alone is kept the trailer is broken, since rows that are right lie 16 bytes apart (apart, few).
-use Rattle.std.proofs.Common.{◌≡◌, ◌∙◌, sym, ap, subst, ℕ, zero, suc, ◌+◌, ◌*◌, ◌/◌, ◌%◌, ◌^◌, ◌<◌, ◌≤◌, ◌⊎◌, ◌↔◌, inl, inr, List, [], ◌∷◌, ◌++◌, length, take, refl, arith, length-take, length-take-le}
+use Rattle.std.proofs.Common.{◌≡◌, ◌∙◌, sym, ap, subst, ℕ, zero, suc, ◌+◌, ◌*◌, ◌/◌, ◌%◌, ◌^◌, ◌<◌, ◌≤◌, ◌⊎◌, ◌↔◌, inl, inr, List, [], ◌∷◌, ◌++◌, length, take, drop, IsTrue, refl, arith, length-take}
 use Rattle.std.specs.Prelude.{nat_eq, codes}
 use Rattle.std.specs.List.{starts_with}
 use Rattle.std.specs.Cmp.Lexicographic.{pointwise}
 use Rattle.std.proofs.lemmas.Bool.{cases_lt}
 use Rattle.std.proofs.lemmas.Bool.Decides.{nat_tests}
-use Rattle.std.proofs.lemmas.List.{get_or-take, take-take}
+use Rattle.std.proofs.lemmas.List.{get_or-take, take-take, drop-take}
 use Rattle.romfs_format.specs.declared.attribute_row.AttributeRow.{AttributeRow}
 use Rattle.romfs_format.specs.Fields.{word, padded, word_sum}
-use Rattle.romfs_format.specs.Trailer.{row_count, row_start, row_of, long_word, trailer_end, trailer_bytes, first_rows, IsRow, AreRows, IsTrailer}
+use Rattle.romfs_format.specs.Trailer.{row_count, row_start, row_of, long_word, trailer_end, trailer_bytes, first_rows, part, has_part, mode_of, IsRow, AreRows, IsTrailer}
+use Rattle.romfs_format.specs.Part.{IsPart}
 use Rattle.romfs_held.proofs.Fields.{word_same}
 use Rattle.romfs_held.proofs.Views.{long_by_words}
-use Rattle.romfs_kept.specs.Gathered.{kept_end, kept_tail}
+use Rattle.romfs_kept.specs.Gathered.{kept_part, kept_end, kept_tail}
+use Rattle.romfs_kept.proofs.Parts.{begins, part_judged}
 
 -- a row by its numbers
 abbrev row : ℕ → ℕ → ℕ → ℕ → ℕ → ℕ → AttributeRow
@@ -69,19 +71,22 @@ module _ (t : List ℕ) (n : ℕ) where
       ap (λ xs. xs ++ row_of (take n t) k ∷ []) (first_kept k (omega arith))
       ∙ ap (λ x. first_rows t k ++ x ∷ []) (row_kept k (omega arith))
 
-  -- a trailer that is kept to its end
-  module _ (full : ℕ) (end : n ≡ trailer_end t) (within : n ≤ length t) where
+  -- a trailer that is kept to the end of its rows, and as much as is kept of what follows them
+  module _ (full : ℕ) (end : n ≡ trailer_end t + kept_part (part t)) (within : trailer_end t ≤ length t) where
     count_kept : row_count (take n t) ≡ row_count t
     count_kept = word_kept 8 (omega arith)
 
     bytes_kept : trailer_bytes (take n t) ≡ trailer_bytes t
     unfolding trailer_bytes
     bytes_kept =
-        ap (λ k. take (row_start k) (take n t)) count_kept ∙ ap (λ k. take k (take n t)) (sym end)
-        ∙ twice ∙ ap (λ k. take k t) end
-      where
-        twice : take n (take n t) ≡ take n t
-        twice = take-take n n t (omega arith)
+        ap (λ k. take (row_start k) (take n t)) count_kept ∙ take-take (trailer_end t) n t (omega arith)
+
+    part_kept : part (take n t) ≡ take (kept_part (part t)) (part t)
+    unfolding part
+    part_kept =
+        ap (λ k. drop (row_start k) (take n t)) count_kept
+        ∙ ap (λ k. drop (trailer_end t) (take k t)) end
+        ∙ drop-take (trailer_end t) (kept_part (drop (trailer_end t) t)) t
 
     row_same : (i : ℕ) → i < row_count t → row_of (take n t) i ≡ row_of t i
     row_same i l = row_kept i (omega arith)
@@ -89,8 +94,29 @@ module _ (t : List ℕ) (n : ℕ) where
     last_same : (i : ℕ) → i < row_count t → word (take n t) (row_start i + 28) ≡ word t (row_start i + 28)
     last_same i l = word_kept (row_start i + 28) (omega arith)
 
-    kept_long : length (take n t) ≡ n
-    kept_long = length-take-le n t within
+    kept_long : trailer_end t ≤ length (take n t)
+    kept_long = let l = length-take n t in omega arith
+
+    mode_same : (i : ℕ) → i < row_count t → mode_of (take n t) i ≡ mode_of t i
+    mode_same i l = ap (λ (r : AttributeRow). r.mode) (row_same i l)
+
+    judged_part : (IsTrue (has_part t) → IsPart (row_count t) (mode_of t) (part t))
+        ↔ (IsTrue (begins (take (kept_part (part t)) (part t)))
+        → IsPart (row_count t) (mode_of (take n t)) (take (kept_part (part t)) (part t)))
+    judged_part = part_judged (part t) (row_count t) (mode_of t) (mode_of (take n t)) mode_same
+
+    part_forth : (IsTrue (has_part t) → IsPart (row_count t) (mode_of t) (part t))
+        → IsTrue (has_part (take n t)) → IsPart (row_count (take n t)) (mode_of (take n t)) (part (take n t))
+    part_forth p h = subst (λ k. IsPart k (mode_of (take n t)) (part (take n t))) (sym count_kept)
+        (subst (λ xs. IsPart (row_count t) (mode_of (take n t)) xs) (sym part_kept)
+        (judged_part.0 p (subst (λ xs. IsTrue (begins xs)) part_kept h)))
+
+    part_back : (IsTrue (has_part (take n t)) → IsPart (row_count (take n t)) (mode_of (take n t)) (part (take n t)))
+        → IsTrue (has_part t) → IsPart (row_count t) (mode_of t) (part t)
+    part_back p = judged_part.1 (λ h.
+        subst (λ xs. IsPart (row_count t) (mode_of (take n t)) xs) part_kept
+        (subst (λ k. IsPart k (mode_of (take n t)) (part (take n t))) count_kept
+        (p (subst (λ xs. IsTrue (begins xs)) (sym part_kept) h))))
 
     whole_forth : IsTrailer full t → IsTrailer full (take n t)
     whole_forth x = record {
@@ -101,6 +127,7 @@ module _ (t : List ℕ) (n : ℕ) where
         rising = λ i j l m. (let e = ap (λ (r : AttributeRow). r.place) (row_same i (omega arith)) in
             let f = ap (λ (r : AttributeRow). r.place) (row_same j m) in let r = x.rows.rising i j l m in omega arith);
       });
+      part = part_forth x.part;
     }
       where
         forth : (i : ℕ) → i < row_count t → IsRow full t i → IsRow full (take n t) i
@@ -119,6 +146,7 @@ module _ (t : List ℕ) (n : ℕ) where
       whole = omega arith;
       sum = subst (λ xs. word_sum xs % 2 ^ 32 ≡ 0) bytes_kept x.sum;
       rows = back_rows (subst (λ k. AreRows full (take n t) k) count_kept x.rows);
+      part = part_back x.part;
     }
       where
         back : (i : ℕ) → i < row_count t → IsRow full (take n t) i → IsRow full t i
@@ -156,8 +184,8 @@ module _ (t : List ℕ) (full : ℕ) where
   all_broken (inr l) x = (let f = few full t (row_count t) x.rows in omega arith)
 
   -- what is kept
-  which : ((kept_end full (length t) (row_count t) ≡ trailer_end t) × (trailer_end t ≤ length t))
-      ⊎ ((kept_end full (length t) (row_count t) ≡ 16) × ((length t < trailer_end t) ⊎ (padded full / 16 < row_count t)))
+  which : ((kept_end full t ≡ trailer_end t + kept_part (part t)) × (trailer_end t ≤ length t))
+      ⊎ ((kept_end full t ≡ 16) × ((length t < trailer_end t) ⊎ (padded full / 16 < row_count t)))
   which = elim (cases_lt (length t) (trailer_end t)) [
     | inl l ↦ inr (grind (arith, nat_tests), inl l)
     | inr l ↦ elim (cases_lt (padded full / 16) (row_count t)) [
@@ -169,7 +197,7 @@ module _ (t : List ℕ) (full : ℕ) where
   pub judged : IsTrailer full t ↔ IsTrailer full (kept_tail full t)
   judged = elim which [
     | inl x ↦ subst (λ n. IsTrailer full t ↔ IsTrailer full (take n t)) (sym x.0)
-        (whole_forth t (trailer_end t) full refl x.1, whole_back t (trailer_end t) full refl x.1)
+        (whole_forth t (trailer_end t + kept_part (part t)) full refl x.1, whole_back t (trailer_end t + kept_part (part t)) full refl x.1)
     | inr x ↦ subst (λ n. IsTrailer full t ↔ IsTrailer full (take n t)) (sym x.0)
         ((λ y. absurd (all_broken x.1 y)), (λ y. absurd (head_broken x.1 y)))
   ]
@@ -177,13 +205,13 @@ module _ (t : List ℕ) (full : ℕ) where
   pub rows_same : IsTrailer full t → first_rows (kept_tail full t) (row_count (kept_tail full t)) ≡ first_rows t (row_count t)
   rows_same y = elim which [
     | inl x ↦ subst (λ n. first_rows (take n t) (row_count (take n t)) ≡ first_rows t (row_count t)) (sym x.0)
-        (whole_rows t (trailer_end t) full refl x.1)
+        (whole_rows t (trailer_end t + kept_part (part t)) full refl x.1)
     | inr x ↦ absurd (all_broken x.1 y)
   ]
 
   pub letters_same : starts_with nat_eq (kept_tail full t) (codes "-attr01-") ≡ starts_with nat_eq t (codes "-attr01-")
   letters_same = ap (λ xs. pointwise nat_eq (codes "-attr01-") xs)
-      (take-take 8 (kept_end full (length t) (row_count t)) t (elim which [
+      (take-take 8 (kept_end full t) t (elim which [
         | inl x ↦ (let x0 = x.0 in omega arith)
         | inr x ↦ (let x0 = x.0 in omega arith)
       ]))

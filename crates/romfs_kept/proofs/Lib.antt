@@ -8,5 +8,6 @@ pub mod Alike
 pub mod Likeness
 pub mod Volumes
 pub mod Tails
+pub mod Parts
 pub mod Heads
 pub mod WithTrailer

@@ -18,7 +18,7 @@ use Rattle.std.proofs.lemmas.List.Elements.{Contains-append_left, Contains-push_
 use Rattle.romfs_format.specs.declared.head.Kind.TheVariants.{Directory, HardLink}
 use Rattle.romfs_format.specs.declared.limits.TheConstants.{HEAD_SIZE}
 use Rattle.romfs_format.specs.Fields.{word, root, IsInside, kind_of, kind, next, spec, cleared, text_end, text_at}
-use Rattle.devices.specs.Contents.{IsSizeOf}
+use Rattle.devices.specs.Sources.{Source, IsSizeOf}
 use Rattle.romfs_kept.specs.declared.pieces.Piece.{Piece}
 use Rattle.romfs_kept.specs.Pieces.{HasBlock, AreRight, IsFilled}
 use Rattle.romfs_kept.specs.Reads.{AreWithin, HasBytesAt, IsReadAt, AreAdded}
@@ -28,6 +28,7 @@ use Rattle.romfs_kept.specs.Walk.{HasText, HasTarget, IsVisit, HasVisited, HasFr
 use Rattle.romfs_held.specs.Blocks.{IsFront}
 use Rattle.romfs_held.proofs.Fields.{word_same}
 use Rattle.romfs_kept.proofs.Names.{name_ends}
+use Rattle.romfs_kept.proofs.Reading.{within_shown}
 
 -- how many bytes are looked at, by the first of them
 module _ (b front : List ℕ) (whole : ℕ) (long : whole ≡ min (length b) 4294967295) (h : HasBytesAt (take whole b) 0 front)
@@ -53,11 +54,12 @@ module _ (b front : List ℕ) (whole : ℕ) (long : whole ≡ min (length b) 429
         | inr m ↦ (let f : (if nat_le HEAD_SIZE w then w else HEAD_SIZE) ≡ w = grind (arith, nat_tests) in omega arith)
       ]
 
-pub reached : (known : Option (List ℕ)) (whole full size : ℕ) (front : List ℕ) (len : ℕ) → IsSizeOf known len → whole ≡ min len 4294967295
-    → IsReadAt known whole 0 front → length front ≡ 512 → full ≡ word front 8 → full < 4294967296
-    → size ≡ min whole (if nat_le HEAD_SIZE full then full else HEAD_SIZE) → IsReach known size
-reached None whole full size front len l w r n f s e = tt
-reached (Some b) whole full size front len l w r n f s e = reach_is b front whole (w ∙ ap (λ k. min k 4294967295) l) r n full size f s e
+pub reached : (s : Source) (whole full size : ℕ) (front : List ℕ) (len : ℕ) → IsSizeOf s len → whole ≡ min len 4294967295
+    → IsReadAt s whole 0 front → length front ≡ 512 → full ≡ word front 8 → full < 4294967296
+    → size ≡ min whole (if nat_le HEAD_SIZE full then full else HEAD_SIZE) → IsReach s size
+reached s whole full size front len l w r n f small e = record {
+  each = λ b v. reach_is b front whole (w ∙ ap (λ k. min k 4294967295) (l.shown b v)) (r.each b v) n full size f small e;
+}
 
 -- the volume name lies in the first bytes, and so they say where the root stands
 pub front_near : (xs front : List ℕ) → length front ≡ 512 → HasBytesAt xs 0 front
@@ -89,18 +91,19 @@ root_short xs l = root_none xs (none (text_at xs 16) refl)
     none (Some n) e = absurd (let t = name_ends xs n 16 e in let w = t.within in omega arith)
 
 -- the first bytes
-pub front_added : (known : Option (List ℕ)) (size root_at : ℕ) (front : List ℕ) (old new : List Piece) → AreWithin known size → old ≡ []
-    → IsReadAt known size 0 front → AreAdded known size 0 32 old new
-    → ((xs : List ℕ) → length xs ≡ size → HasBytesAt xs 0 front → root_at ≡ root xs) → HasFront known size root_at new
-front_added None size root_at front old new w e r a f = tt
-front_added (Some b) size root_at front old new w e r a f = record {
-  right = a.right (subst (λ l. AreRight (take size b) l) (sym e) none);
-  has = λ i l. subst (λ k. HasBlock new k) (let e : 0 + i ≡ i = omega arith in e) (a.has i l);
-  is = f (take size b) (length-take-le size b w) r;
+pub front_added : (s : Source) (size root_at : ℕ) (front : List ℕ) (old new : List Piece) → AreWithin s size → old ≡ []
+    → IsReadAt s size 0 front → AreAdded s size 0 32 old new
+    → ((xs : List ℕ) → length xs ≡ size → HasBytesAt xs 0 front → root_at ≡ root xs) → HasFront s size root_at new
+front_added s size root_at front old new w e r a f = record {
+  each = λ b v. record {
+    right = (a.each b v).right (subst (λ l. AreRight (take size b) l) (sym e) (none b));
+    has = λ i l. subst (λ k. HasBlock new k) (let e : 0 + i ≡ i = omega arith in e) ((a.each b v).has i l);
+    is = f (take size b) (length-take-le size b (within_shown s size w b v)) (r.each b v);
+  };
 }
   where
-    none : AreRight (take size b) []
-    none = record { each = λ x c. absurd (let l = c.1 in omega arith) }
+    none : (b : List ℕ) → AreRight (take size b) []
+    none b = record { each = λ x c. absurd (let l = c.1 in omega arith) }
 
 -- places of headers are multiples of 16 that fit a word, so there are few
 pub record IsPlace (h : ℕ) : Type 0 where
@@ -217,10 +220,14 @@ module _ (start at end : ℕ) (old new : List Piece) (before todo mid after : Li
       ];
     }
 
-  pub under_turn : (known : Option (List ℕ)) → AreWithin known end → IsUnderWay known end start old before noted
-      → HasVisited known end at old new first second → IsUnderWay known end start new after most
-  under_turn None l u v = tt
-  under_turn (Some b) l u v = (u.0, turned (take end b) (length-take-le end b l) u.0 u.1 v)
+  pub under_turn : (s : Source) → AreWithin s end → IsUnderWay s end start old before noted
+      → HasVisited s end at old new first second → IsUnderWay s end start new after most
+  under_turn s l u v = record {
+    each = λ b w. (
+      (u.each b w).0,
+      turned (take end b) (length-take-le end b (within_shown s end l b w)) (u.each b w).0 (u.each b w).1 (v.each b w),
+    );
+  }
 
 -- the places that wait or are noted stay places
 pub places_turn : (old new : ℕ → Bool) (todo more : List ℕ) (test : Bool) (place : ℕ) → HasPushed todo more old new test place
@@ -246,22 +253,23 @@ waiting_popped before todo at e w h c = w h (subst (λ l. Contains l h) (sym e) 
 pub cleared_place : (n : ℕ) → n < 2 ^ 32 → IsPlace (cleared n)
 cleared_place n l = record { even = omega arith; small = omega arith }
 
-pub under_start : (known : Option (List ℕ)) (end start : ℕ) (pieces : List Piece) (none todo : List ℕ) (noted more : ℕ → Bool)
-    → HasFront known end start pieces → ((h : ℕ) → IsTrue (noted h) → ⊥) → HasPushed none todo noted more true start
-    → IsUnderWay known end start pieces todo more
-under_start None end start pieces none todo noted more f n p = tt
-under_start (Some b) end start pieces none todo noted more f n p = (
-  f.is,
-  record {
-    right = f.right;
-    front = f.has;
-    at_root = subst (λ h. IsTrue (more h)) f.is (p.has refl);
-    each = λ h s. elim (p.only h s) [
-      | inl x ↦ absurd (n h x)
-      | inr e ↦ inl e.1
-    ];
-  },
-)
+pub under_start : (s : Source) (end start : ℕ) (pieces : List Piece) (none todo : List ℕ) (noted more : ℕ → Bool)
+    → HasFront s end start pieces → ((h : ℕ) → IsTrue (noted h) → ⊥) → HasPushed none todo noted more true start
+    → IsUnderWay s end start pieces todo more
+under_start s end start pieces none todo noted more f n p = record {
+  each = λ b v. (
+    (f.each b v).is,
+    record {
+      right = (f.each b v).right;
+      front = (f.each b v).has;
+      at_root = subst (λ h. IsTrue (more h)) (f.each b v).is (p.has refl);
+      each = λ h q. elim (p.only h q) [
+        | inl x ↦ absurd (n h x)
+        | inr e ↦ inl e.1
+      ];
+    },
+  );
+}
 
 same_byte : (x y : ℕ) → x ≡ y → IsTrue (x == y)
 same_byte x y e = grind (arith, nat_tests)
@@ -294,12 +302,15 @@ module _ (xs a : List ℕ) (pieces : List Piece) (noted : ℕ → Bool) (size : 
     to_link = λ h s i k. (done h s).to_spec (inr (i, inr k));
   }
 
-pub gathered : (known : Option (List ℕ)) (size : ℕ) (pieces : List Piece) (a : List ℕ) → AreWithin known size → IsReach known size
-    → HasWalked known size pieces → length a ≡ size → IsFilled pieces size a → IsGathered known a
-gathered None size pieces a w r k l f = tt
-gathered (Some b) size pieces a w r k l f = record {
-  long = l ∙ r;
-  headers = k.0;
-  closed = subst (λ n. IsClosed (is_same (take n b) a) k.0 (take n b)) (sym l)
-      (closed (take size b) a pieces k.0 size (length-take-le size b w) k.1 k.2 f);
+pub gathered : (s : Source) (size : ℕ) (pieces : List Piece) (a : List ℕ) → AreWithin s size → IsReach s size
+    → HasWalked s size pieces → length a ≡ size → IsFilled pieces size a → IsGathered s a
+gathered s size pieces a w r k0 l f = record {
+  each = λ b v.
+      let k = k0.each b v in
+      record {
+        long = l ∙ r.each b v;
+        headers = k.0;
+        closed = subst (λ n. IsClosed (is_same (take n b) a) k.0 (take n b)) (sym l)
+            (closed (take size b) a pieces k.0 size (length-take-le size b (within_shown s size w b v)) k.1 k.2 f);
+      };
 }

@@ -1,9 +1,11 @@
 -- What is kept of an image.
-use Rattle.std.specs.Prelude.{◌≡◌, ℕ, ◌/◌, ◌^◌, ◌≤◌, ◌&&◌, List, length, take, drop, Bool, true, false, Option, Some, None, ⊤, nat_eq, nat_le, nat_lt, codes, if◌then◌else◌}
+use Rattle.std.specs.Prelude.{◌≡◌, ℕ, ◌+◌, ◌/◌, ◌^◌, ◌≤◌, ◌&&◌, List, length, take, drop, Bool, true, false, nat_eq, nat_le, nat_lt, codes, if◌then◌else◌}
 use Rattle.std.specs.List.{starts_with}
-use Rattle.romfs_format.specs.declared.limits.TheConstants.{TRAILER_HEAD_SIZE}
+use Rattle.devices.specs.Sources.{Source, IfShown}
+use Rattle.romfs_format.specs.declared.limits.TheConstants.{TRAILER_HEAD_SIZE, PART_HEAD_SIZE}
 use Rattle.romfs_format.specs.Fields.{padded}
-use Rattle.romfs_format.specs.Trailer.{row_count, row_start}
+use Rattle.romfs_format.specs.Part.{part_size}
+use Rattle.romfs_format.specs.Trailer.{row_count, trailer_end, part}
 use Rattle.romfs_kept.specs.Footprint.{IsClosed, is_same, reach}
 
 -- the list is as long as what is looked at, and has its bytes at a closed set of headers
@@ -12,31 +14,38 @@ pub record IsGatheredOf (b a : List ℕ) : Type 0 where
   pub headers : ℕ → Bool
   pub closed : IsClosed (is_same (take (length a) b) a) headers (take (length a) b)
 
--- the same, if the bytes are known
-abbrev pub IsGathered : Option (List ℕ) → List ℕ → Type 0
-IsGathered None a = ⊤
-IsGathered (Some b) a = IsGatheredOf b a
+-- the same of whatever bytes the source shows
+abbrev pub IsGathered : Source → List ℕ → Type 0
+IsGathered source a = IfShown source (λ b. IsGatheredOf b a)
 
 -- this many bytes are looked at
-abbrev pub IsReach : Option (List ℕ) → ℕ → Type 0
-IsReach None size = ⊤
-IsReach (Some b) size = size ≡ reach b
+abbrev pub IsReach : Source → ℕ → Type 0
+IsReach source size = IfShown source (λ b. size ≡ reach b)
 
 -- a trailer begins at the place
 abbrev pub begins_trailer : List ℕ → ℕ → Bool
 begins_trailer b place =
     nat_lt place (2 ^ 32) && starts_with nat_eq (drop place b) (codes "-attr01-")
 
--- how much is kept of a trailer of this many bytes and rows: all up to its end; only the head if it
--- is cut off, or has more rows than an image of this full size has places for headers
-abbrev pub kept_end : ℕ → ℕ → ℕ → ℕ
-kept_end full room rows =
-    if nat_le (row_start rows) room && nat_le rows (padded full / 16)
-    then row_start rows else TRAILER_HEAD_SIZE
+-- how much is kept of the bytes after the rows, if a part begins there: all of the part; only its
+-- letters if it is cut off
+abbrev pub kept_part : List ℕ → ℕ
+kept_part x =
+    if starts_with nat_eq x (codes "-attr02-")
+    then (if nat_le PART_HEAD_SIZE (part_size x) && nat_le (part_size x) (length x)
+    then part_size x else 8)
+    else 0
 
--- what is kept of the bytes t, which begin with a trailer
+-- how much is kept of the bytes t, which begin with a trailer: all up to its end; only the head if
+-- it is cut off, or has more rows than an image of this full size has places for headers
+abbrev pub kept_end : ℕ → List ℕ → ℕ
+kept_end full t =
+    if nat_le (trailer_end t) (length t) && nat_le (row_count t) (padded full / 16)
+    then trailer_end t + kept_part (part t) else TRAILER_HEAD_SIZE
+
+-- what is kept of them
 abbrev pub kept_tail : ℕ → List ℕ → List ℕ
-kept_tail full t = take (kept_end full (length t) (row_count t)) t
+kept_tail full t = take (kept_end full t) t
 
 -- what was gathered, and behind it what is kept of the trailer, if one begins there
 pub record IsGatheredWithTrailerOf (b a : List ℕ) : Type 0 where
@@ -46,7 +55,6 @@ pub record IsGatheredWithTrailerOf (b a : List ℕ) : Type 0 where
   pub tail : begins_trailer b (padded (reach b)) ≡ true
       → drop (padded (reach b)) a ≡ kept_tail (reach b) (drop (padded (reach b)) b)
 
--- the same, if the bytes are known
-abbrev pub IsGatheredWithTrailer : Option (List ℕ) → List ℕ → Type 0
-IsGatheredWithTrailer None a = ⊤
-IsGatheredWithTrailer (Some b) a = IsGatheredWithTrailerOf b a
+-- the same of whatever bytes the source shows
+abbrev pub IsGatheredWithTrailer : Source → List ℕ → Type 0
+IsGatheredWithTrailer source a = IfShown source (λ b. IsGatheredWithTrailerOf b a)

@@ -1,33 +1,32 @@
--- What is read from known bytes, of which only those below a size are used.
-use Rattle.std.specs.Prelude.{◌≡◌, ◌≢◌, ℕ, ◌+◌, ◌<◌, ◌≤◌, ◌%◌, List, length, take, get_or, Option, Some, None, MatchOption, ⊤}
+-- What is read from a source, of whose bytes only those below a size are used.
+use Rattle.std.specs.Prelude.{◌≡◌, ◌≢◌, ℕ, ◌+◌, ◌<◌, ◌≤◌, ◌%◌, ◌⊎◌, List, length, take, get_or, Option, MatchOption}
+use Rattle.devices.specs.Sources.{Source, MayFail, IsSizeOf, IfShown}
 use Rattle.romfs_kept.specs.declared.fault.GatherFault.{GatherFault}
 use Rattle.romfs_kept.specs.declared.fault.GatherFault.TheVariants.{Memory}
 use Rattle.romfs_kept.specs.declared.pieces.Piece.{Piece}
 use Rattle.romfs_kept.specs.Pieces.{HasBlock, AreRight}
 
--- there are at least n known bytes
-abbrev pub AreWithin : Option (List ℕ) → ℕ → Type 0
-AreWithin None n = ⊤
-AreWithin (Some b) n = n ≤ length b
+-- the source has at least n bytes
+pub record AreWithin (source : Source) (n : ℕ) : Type 0 where
+  pub size : ℕ
+  pub is : IsSizeOf source size
+  pub fits : n ≤ size
 
--- of known bytes only memory fails
-abbrev pub IsCause : Option (List ℕ) → GatherFault → Type 0
-IsCause None fault = ⊤
-IsCause (Some b) fault = fault ≡ Memory
+-- memory failed, or a read may fail
+abbrev pub IsCause : Source → GatherFault → Type 0
+IsCause source fault = (fault ≡ Memory) ⊎ MayFail source
 
 -- the room has the bytes of xs from the place on, and zeros behind their end
 pub record HasBytesAt (xs : List ℕ) (at : ℕ) (room : List ℕ) : Type 0 where
   pub same : (i : ℕ) → i < length room → get_or room i 0 ≡ get_or xs (at + i) 0
 
--- the window has the known bytes from its start on
-abbrev pub IsHeld : Option (List ℕ) → ℕ → List ℕ → Type 0
-IsHeld None start bytes = ⊤
-IsHeld (Some b) start bytes = HasBytesAt b start bytes
+-- the window has the bytes that are shown from its start on
+abbrev pub IsHeld : Source → ℕ → List ℕ → Type 0
+IsHeld source start bytes = IfShown source (λ b. HasBytesAt b start bytes)
 
--- the room has the known bytes from the place on, this many
-abbrev pub IsReadAt : Option (List ℕ) → ℕ → ℕ → List ℕ → Type 0
-IsReadAt None size at room = ⊤
-IsReadAt (Some b) size at room = HasBytesAt (take size b) at room
+-- the room has those from the place on, this many
+abbrev pub IsReadAt : Source → ℕ → ℕ → List ℕ → Type 0
+IsReadAt source size at room = IfShown source (λ b. HasBytesAt (take size b) at room)
 
 -- the name ends in the last block of this front of a header and its name
 pub record IsEnded (near : List ℕ) (count : ℕ) : Type 0 where
@@ -55,10 +54,9 @@ pub record IsHeadAt (xs : List ℕ) (at : ℕ) (head : List ℕ) : Type 0 where
   pub stops : length head < 272
       → (i : ℕ) × (i < length head) × (length head ≤ i + 16) × (get_or head i 0 ≡ 0)
 
--- the same of known bytes
-abbrev pub IsHeadRead : Option (List ℕ) → ℕ → ℕ → List ℕ → Type 0
-IsHeadRead None size at head = ⊤
-IsHeadRead (Some b) size at head = IsHeadAt (take size b) at head
+-- the same of bytes that are shown
+abbrev pub IsHeadRead : Source → ℕ → ℕ → List ℕ → Type 0
+IsHeadRead source size at head = IfShown source (λ b. IsHeadAt (take size b) at head)
 
 -- this many blocks of xs from the first on were added
 pub record IsAdded (xs : List ℕ) (first count : ℕ) (old new : List Piece) : Type 0 where
@@ -66,7 +64,7 @@ pub record IsAdded (xs : List ℕ) (first count : ℕ) (old new : List Piece) : 
   pub stays : (b : ℕ) → HasBlock old b → HasBlock new b
   pub has : (i : ℕ) → i < count → HasBlock new (first + i)
 
--- the same of known bytes
-abbrev pub AreAdded : Option (List ℕ) → ℕ → ℕ → ℕ → List Piece → List Piece → Type 0
-AreAdded None size first count old new = ⊤
-AreAdded (Some b) size first count old new = IsAdded (take size b) first count old new
+-- the same of bytes that are shown
+abbrev pub AreAdded : Source → ℕ → ℕ → ℕ → List Piece → List Piece → Type 0
+AreAdded source size first count old new =
+    IfShown source (λ b. IsAdded (take size b) first count old new)

@@ -1,5 +1,6 @@
 -- A walk over the headers of an image: what it has added, and what it has still to look at.
-use Rattle.std.specs.Prelude.{◌≡◌, ◌≢◌, ℕ, ◌+◌, ◌*◌, ◌/◌, ◌%◌, ◌<◌, ◌≤◌, ◌⊎◌, List, [], length, take, get_or, Bool, IsTrue, Option, Some, None, Contains, ⊤}
+use Rattle.std.specs.Prelude.{◌≡◌, ◌≢◌, ℕ, ◌+◌, ◌*◌, ◌/◌, ◌%◌, ◌<◌, ◌≤◌, ◌⊎◌, List, [], length, take, get_or, Bool, IsTrue, Some, Contains}
+use Rattle.devices.specs.Sources.{Source, IfShown}
 use Rattle.romfs_format.specs.declared.head.Kind.TheVariants.{Directory, HardLink, SymLink}
 use Rattle.romfs_format.specs.declared.limits.TheConstants.{MAX_TARGET_SIZE}
 use Rattle.romfs_format.specs.Fields.{root, word, IsInside, kind_of, kind, next, spec, size, name, data_at, cleared}
@@ -25,11 +26,10 @@ pub record IsTargetAdded (xs : List ℕ) (from first count : ℕ) (old new : Lis
   pub has : kind_of (first % 8) ≡ SymLink → count ≤ MAX_TARGET_SIZE
       → (i : ℕ) → i < count → from + i < length xs → HasBlock new ((from + i) / 16)
 
--- the same of known bytes
-abbrev pub HasAddedTarget : Option (List ℕ) → ℕ → ℕ → ℕ → ℕ → List Piece → List Piece → Type 0
-HasAddedTarget None end from first count old new = ⊤
-HasAddedTarget (Some b) end from first count old new =
-    IsTargetAdded (take end b) from first count old new
+-- the same of bytes that are shown
+abbrev pub HasAddedTarget : Source → ℕ → ℕ → ℕ → ℕ → List Piece → List Piece → Type 0
+HasAddedTarget source end from first count old new =
+    IfShown source (λ b. IsTargetAdded (take end b) from first count old new)
 
 -- the header at a place was added with its name and target, and the words are its first two
 pub record IsVisit (xs : List ℕ) (at : ℕ) (old new : List Piece) (first second : ℕ) : Type 0 where
@@ -41,10 +41,10 @@ pub record IsVisit (xs : List ℕ) (at : ℕ) (old new : List Piece) (first seco
   pub first_is : first ≡ word xs at
   pub second_is : second ≡ word xs (at + 4)
 
--- the same of known bytes
-abbrev pub HasVisited : Option (List ℕ) → ℕ → ℕ → List Piece → List Piece → ℕ → ℕ → Type 0
-HasVisited None end at old new first second = ⊤
-HasVisited (Some b) end at old new first second = IsVisit (take end b) at old new first second
+-- the same of bytes that are shown
+abbrev pub HasVisited : Source → ℕ → ℕ → List Piece → List Piece → ℕ → ℕ → Type 0
+HasVisited source end at old new first second =
+    IfShown source (λ b. IsVisit (take end b) at old new first second)
 
 -- the first bytes were added, and the root is there
 pub record IsFrontAdded (xs : List ℕ) (root_at : ℕ) (new : List Piece) : Type 0 where
@@ -52,10 +52,9 @@ pub record IsFrontAdded (xs : List ℕ) (root_at : ℕ) (new : List Piece) : Typ
   pub has : (i : ℕ) → i < 32 → HasBlock new i
   pub is : root_at ≡ root xs
 
--- the same of known bytes
-abbrev pub HasFront : Option (List ℕ) → ℕ → ℕ → List Piece → Type 0
-HasFront None end root_at new = ⊤
-HasFront (Some b) end root_at new = IsFrontAdded (take end b) root_at new
+-- the same of bytes that are shown
+abbrev pub HasFront : Source → ℕ → ℕ → List Piece → Type 0
+HasFront source end root_at new = IfShown source (λ b. IsFrontAdded (take end b) root_at new)
 
 -- a place waits that was not noted before, if the test says so
 pub record HasPushed (old_todo new_todo : List ℕ) (old new : ℕ → Bool) (test : Bool)
@@ -87,15 +86,14 @@ pub record IsWalking (xs : List ℕ) (pieces : List Piece) (todo : List ℕ)
   pub at_root : IsTrue (noted (root xs))
   pub each : (h : ℕ) → IsTrue (noted h) → Contains todo h ⊎ IsDone xs pieces noted h
 
--- the same of known bytes, from the root on
-abbrev pub IsUnderWay : Option (List ℕ) → ℕ → ℕ → List Piece → List ℕ → (ℕ → Bool) → Type 0
-IsUnderWay None end root_at pieces todo noted = ⊤
-IsUnderWay (Some b) end root_at pieces todo noted =
-    (root_at ≡ root (take end b)) × IsWalking (take end b) pieces todo noted
+-- the same of bytes that are shown, from the root on
+abbrev pub IsUnderWay : Source → ℕ → ℕ → List Piece → List ℕ → (ℕ → Bool) → Type 0
+IsUnderWay source end root_at pieces todo noted =
+    IfShown source (λ b.
+    (root_at ≡ root (take end b)) × IsWalking (take end b) pieces todo noted)
 
 -- every place that was noted is done
-abbrev pub HasWalked : Option (List ℕ) → ℕ → List Piece → Type 0
-HasWalked None end pieces = ⊤
-HasWalked (Some b) end pieces =
-    (noted : ℕ → Bool) × IsWalking (take end b) pieces [] noted
-    × ((h : ℕ) → IsTrue (noted h) → h % 16 ≡ 0)
+abbrev pub HasWalked : Source → ℕ → List Piece → Type 0
+HasWalked source end pieces =
+    IfShown source (λ b. (noted : ℕ → Bool) × IsWalking (take end b) pieces [] noted
+    × ((h : ℕ) → IsTrue (noted h) → h % 16 ≡ 0))

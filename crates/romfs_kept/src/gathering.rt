@@ -34,7 +34,8 @@ use std::collections::BTreeSet;
 /// gathered like any other bytes.
 ///
 /// `Unread` only if a read failed, or if the bytes end before the reported size; `Memory` only if
-/// memory was refused. A read of known bytes never fails.
+/// memory was refused. A read of bytes in memory never fails, and one under a digest only if the
+/// files are not the named ones.
 ///
 /// A header is read once. It takes two reads at most, and a third for the target of a symbolic link
 /// whose name has 48 bytes or more; adjacent headers take fewer. Memory is taken in proportion to
@@ -43,8 +44,8 @@ pub fn gather<S: Contents, A: Allocator + Copy>(
     alloc: A,
     source: &S,
 ) -> Result<Kept<A>, GatherFault>
-    ensures ok { IfOk result (IsGathered (S.contents source.now)) }
-    ensures err { IfErr result (IsCause (S.contents source.now)) }
+    ensures ok { IfOk result (IsGathered (S.source source.now)) }
+    ensures err { IfErr result (IsCause (S.source source.now)) }
 {
     let mut window = Window::new(alloc);
     let size = full_size(source, &mut window)?;
@@ -61,10 +62,10 @@ fn full_size<S: Contents, A: Allocator>(
 ) -> Result<u32, GatherFault>
     requires { length window.old.bytes.items ≡ 0 }
     ensures held { OnOk result
-        (IsHeld (S.contents source.now) window.new.start window.new.bytes.items) }
-    ensures reach { IfOk result (IsReach (S.contents source.now)) }
-    ensures within { IfOk result (AreWithin (S.contents source.now)) }
-    ensures err { IfErr result (IsCause (S.contents source.now)) }
+        (IsHeld (S.source source.now) window.new.start window.new.bytes.items) }
+    ensures reach { IfOk result (IsReach (S.source source.now)) }
+    ensures within { IfOk result (AreWithin (S.source source.now)) }
+    ensures err { IfErr result (IsCause (S.source source.now)) }
 {
     let whole = source.size().min(u64::from(u32::MAX)) as u32;
     let mut front = [0u8; SUMMED_SIZE];
@@ -92,14 +93,14 @@ fn keep_front<S: Contents, A: Allocator>(
     pieces: &mut Vec<Piece, A>,
 ) -> Result<u32, GatherFault>
     requires empty { pieces.old.items ≡ [] }
-    requires within { AreWithin (S.contents source.now) size }
-    requires held { IsHeld (S.contents source.now) window.old.start window.old.bytes.items }
+    requires within { AreWithin (S.source source.now) size }
+    requires held { IsHeld (S.source source.now) window.old.start window.old.bytes.items }
     ensures held { OnOk result
-        (IsHeld (S.contents source.now) window.new.start window.new.bytes.items) }
+        (IsHeld (S.source source.now) window.new.start window.new.bytes.items) }
     ensures front { IfOk result (λ root_at.
-        HasFront (S.contents source.now) size root_at pieces.new.items) }
+        HasFront (S.source source.now) size root_at pieces.new.items) }
     ensures even { IfOk result (λ root_at. root_at % 16 ≡ 0) }
-    ensures err { IfErr result (IsCause (S.contents source.now)) }
+    ensures err { IfErr result (IsCause (S.source source.now)) }
 {
     let mut front = [0u8; SUMMED_SIZE];
     keep_row(source, window, size, 0, &mut front, pieces)?;
@@ -133,11 +134,11 @@ fn walk<S: Contents, A: Allocator + Copy>(
     pieces: &mut Vec<Piece, A>,
 ) -> Result<(), GatherFault>
     requires even { root % 16 ≡ 0 }
-    requires front { HasFront (S.contents source.now) size root pieces.old.items }
-    requires within { AreWithin (S.contents source.now) size }
-    requires held { IsHeld (S.contents source.now) window.old.start window.old.bytes.items }
-    ensures ok { OnOk result (HasWalked (S.contents source.now) size pieces.new.items) }
-    ensures err { IfErr result (IsCause (S.contents source.now)) }
+    requires front { HasFront (S.source source.now) size root pieces.old.items }
+    requires within { AreWithin (S.source source.now) size }
+    requires held { IsHeld (S.source source.now) window.old.start window.old.bytes.items }
+    ensures ok { OnOk result (HasWalked (S.source source.now) size pieces.new.items) }
+    ensures err { IfErr result (IsCause (S.source source.now)) }
 {
     let mut todo = Vec::new(alloc);
     let mut noted = BTreeSet::new(alloc);

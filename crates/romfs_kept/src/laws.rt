@@ -13,7 +13,7 @@ ghost use Rattle.romfs_format.specs.Links.{IsFinal};
 ghost use Rattle.romfs_format.specs.Profiles.{reads_attributes};
 ghost use Rattle.romfs_format.specs.Rules.{Breaks, BreaksHeader, IsFaultOf, IsSound};
 ghost use Rattle.romfs_format.specs.Trailer.{rows_shown};
-ghost use Rattle.romfs_kept.specs.Gathered.{IsGathered, IsGatheredWithTrailer};
+ghost use Rattle.romfs_kept.specs.Gathered.{IsGatheredOf, IsGatheredWithTrailerOf};
 ghost use Rattle.romfs_kept.specs.Footprint.{Agrees, IsClosed};
 
 /// Lists that agree on the kept parts of a closed set of headers break the same header rules, each
@@ -30,7 +30,7 @@ pub fn same_header_rules()
 /// full size.
 pub fn same_rules()
     ensures { (profile : Profile) → ¬ IsTrue (reads_attributes profile) → (b a : List ℕ) →
-        IsGathered (Some b) a → HEAD_SIZE ≤ word b 8 → word b 8 ≤ length b → (r : Rule) (p : ℕ) →
+        IsGatheredOf b a → HEAD_SIZE ≤ word b 8 → word b 8 ≤ length b → (r : Rule) (p : ℕ) →
         (Breaks profile b r p → Breaks profile a r p)
         × (Breaks profile a r p → Breaks profile b r p) }
 {}
@@ -39,7 +39,7 @@ pub fn same_rules()
 /// a profile.
 pub fn same_fault()
     ensures { (profile : Profile) → ¬ IsTrue (reads_attributes profile) → (b a : List ℕ) →
-        IsGathered (Some b) a → (fault : Option ImageFault) →
+        IsGatheredOf b a → (fault : Option ImageFault) →
         (IsFaultOf profile b fault → IsFaultOf profile a fault)
         × (IsFaultOf profile a fault → IsFaultOf profile b fault) }
 {}
@@ -47,7 +47,7 @@ pub fn same_fault()
 /// What was gathered from any bytes with their trailer is sound if they are, and otherwise has
 /// their fault, under every profile.
 pub fn same_fault_with_trailer()
-    ensures { (profile : Profile) → (b a : List ℕ) → IsGatheredWithTrailer (Some b) a →
+    ensures { (profile : Profile) → (b a : List ℕ) → IsGatheredWithTrailerOf b a →
         (fault : Option ImageFault) →
         (IsFaultOf profile b fault → IsFaultOf profile a fault)
         × (IsFaultOf profile a fault → IsFaultOf profile b fault) }
@@ -55,7 +55,7 @@ pub fn same_fault_with_trailer()
 
 /// And it shows the rows that they show, if they are sound.
 pub fn same_rows_with_trailer()
-    ensures { (profile : Profile) → (b a : List ℕ) → IsGatheredWithTrailer (Some b) a →
+    ensures { (profile : Profile) → (b a : List ℕ) → IsGatheredWithTrailerOf b a →
         IsSound profile b → rows_shown profile a ≡ rows_shown profile b }
 {}
 

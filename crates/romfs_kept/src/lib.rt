@@ -10,9 +10,9 @@
 //!
 //! `specs/` defines what is read (`Footprint`) and what was gathered (`Gathered`); the other
 //! definitions belong to the layers between: blocks as they are read (`Pieces`), reads (`Reads`),
-//! the walk (`Walk`), the trailer (`Tails`). If the bytes are known, as those in memory are, a
-//! contract says that what is kept has their bytes wherever the rules look. It says nothing about a
-//! file: what was kept is then all that is known of it. The crate uses `devices` and
+//! the walk (`Walk`), the trailer (`Tails`). Whatever bytes the source shows, as those in memory
+//! or under a digest, a contract says that what is kept has their bytes wherever the rules look. A
+//! file alone shows none: what was kept is then all that is known of it. The crate uses `devices` and
 //! `romfs_held`.
 #![tactic(auto)]
 

@@ -3,16 +3,17 @@
 //! It follows the full size, where the walk does not look. It is read at once, and put after what
 //! the walk kept.
 
-ghost use Rattle.std.specs.Prelude.{◌≡◌, ◌+◌, ◌*◌, ◌/◌, ◌<◌, ◌≤◌, ◌^◌, length, IfOk, IfErr, IfSome, MatchOption, OnOk};
-ghost use Rattle.romfs_kept.specs.Gathered.{IsGatheredWithTrailer, kept_end};
+ghost use Rattle.std.specs.Prelude.{◌≡◌, ◌+◌, ◌*◌, ◌/◌, ◌<◌, ◌≤◌, ◌^◌, length, IfOk, IfErr, IfSome, IsTrue, MatchOption, OnOk};
+ghost use Rattle.romfs_kept.specs.Gathered.{IsGatheredWithTrailer};
 ghost use Rattle.romfs_kept.specs.Reads.{AreWithin, IsCause, IsHeld};
-ghost use Rattle.romfs_kept.specs.Tails.{BeginsTrailer, IsNoTail, IsRoom, IsTail, IsTailEnd};
+ghost use Rattle.romfs_kept.specs.Tails.{BeginsTrailer, BeginsWith, IsNoTail, IsPartEnd, IsRoom};
+ghost use Rattle.romfs_kept.specs.Tails.{IsTail, IsTailEnd, end_of};
 
 use crate::fault::GatherFault;
 use crate::gathering::gather;
 use crate::window::load;
 use devices::Contents;
-use romfs_format::limits::{HEAD_SIZE, ROW_SIZE, TRAILER_HEAD_SIZE};
+use romfs_format::limits::{HEAD_SIZE, PART_HEAD_SIZE, ROW_SIZE, TRAILER_HEAD_SIZE};
 use romfs_format::read::{padded, word};
 use romfs_held::Kept;
 use std::alloc::Allocator;
@@ -20,22 +21,29 @@ use std::alloc::Allocator;
 /// The letters with which a trailer begins.
 const LETTERS: &[u8; 8] = b"-attr01-";
 
+/// The letters with which its second part begins.
+const PART_LETTERS: &[u8; 8] = b"-attr02-";
+
+/// The end of the word that has this part's size.
+const PART_SIZE_END: u64 = 12;
+
 /// Nothing is kept from here on: places are numbers of 32 bits.
 const PLACES: u64 = 1 << 32;
 
 /// Keeps what [`gather`] keeps of an image, and after it the attribute trailer, if there is one:
 /// all of it; or only its head if it is cut off, or has more rows than there are places for
-/// headers, which breaks it in any case.
+/// headers, which breaks it in any case. Of a second part that is cut off only the letters are
+/// kept.
 ///
 /// The errors are those of `gather`, and `Memory` if a trailer does not end below 2^32, for which
-/// there is no room. It takes three more reads, and 32 bytes for each row, twice while they are put
-/// after the others.
+/// there is no room. It takes at most five more reads, and the trailer's bytes twice while they are
+/// put after the others.
 pub fn gather_with_trailer<S: Contents, A: Allocator + Copy>(
     alloc: A,
     source: &S,
 ) -> Result<Kept<A>, GatherFault>
-    ensures ok { IfOk result (IsGatheredWithTrailer (S.contents source.now)) }
-    ensures err { IfErr result (IsCause (S.contents source.now)) }
+    ensures ok { IfOk result (IsGatheredWithTrailer (S.source source.now)) }
+    ensures err { IfErr result (IsCause (S.source source.now)) }
 {
     let front = gather(alloc, source)?;
     let full = front.held().len() as u32;
@@ -52,11 +60,11 @@ fn read_trailer<S: Contents, A: Allocator>(
     full: u32,
 ) -> Result<Option<Vec<u8, A>>, GatherFault>
     ensures ok { IfOk result (λ read. MatchOption read
-        (IsNoTail (S.contents source.now) full)
-        (λ tail. IsTail (S.contents source.now) full tail.items)) }
+        (IsNoTail (S.source source.now) full)
+        (λ tail. IsTail (S.source source.now) full tail.items)) }
     ensures small { IfOk result (λ read. IfSome read
         (λ tail. (full + 15) / 16 * 16 + length tail.items < 2 ^ 32)) }
-    ensures err { IfErr result (IsCause (S.contents source.now)) }
+    ensures err { IfErr result (IsCause (S.source source.now)) }
 {
     let place = padded(full as usize);
     let room = source.size().saturating_sub(place as u64);
@@ -77,15 +85,36 @@ fn begins_trailer<S: Contents, A: Allocator>(
     room: u64,
 ) -> Result<bool, GatherFault>
     requires place { place ≤ 2 ^ 32 }
-    requires room { IsRoom (S.contents source.now) place room }
-    ensures ok { IfOk result (λ yes. BeginsTrailer (S.contents source.now) place yes) }
-    ensures err { IfErr result (IsCause (S.contents source.now)) }
+    requires room { IsRoom (S.source source.now) place room }
+    ensures ok { IfOk result (λ yes. BeginsTrailer (S.source source.now) place yes) }
+    ensures some { IfOk result (λ yes. IsTrue yes → 8 ≤ room) }
+    ensures err { IfErr result (IsCause (S.source source.now)) }
 {
-    if place as u64 == PLACES || room < 8 {
+    if place as u64 == PLACES {
+        return Ok(false);
+    }
+    begins_with(source, tail, place, room, LETTERS)
+}
+
+/// Whether a place, followed by this many bytes, has these eight letters.
+fn begins_with<S: Contents, A: Allocator>(
+    source: &S,
+    tail: &mut Vec<u8, A>,
+    place: usize,
+    room: u64,
+    letters: &[u8; 8],
+) -> Result<bool, GatherFault>
+    requires place { place < 2 ^ 42 }
+    requires room { IsRoom (S.source source.now) place room }
+    ensures ok { IfOk result (λ yes. BeginsWith (S.source source.now) place letters.now yes) }
+    ensures some { IfOk result (λ yes. IsTrue yes → 8 ≤ room) }
+    ensures err { IfErr result (IsCause (S.source source.now)) }
+{
+    if room < 8 {
         return Ok(false);
     }
     read_tail(source, tail, place, 8)?;
-    Ok(tail.starts_with(LETTERS))
+    Ok(tail.starts_with(letters))
 }
 
 /// How many bytes of a trailer are kept.
@@ -97,28 +126,62 @@ fn tail_end<S: Contents, A: Allocator>(
     full: u32,
 ) -> Result<u64, GatherFault>
     requires place { place ≤ 2 ^ 32 }
-    requires room { IsRoom (S.contents source.now) place room }
-    ensures ok { IfOk result (IsTailEnd (S.contents source.now) place full) }
-    ensures small { IfOk result (λ end. end < 2 ^ 40) }
-    ensures err { IfErr result (IsCause (S.contents source.now)) }
+    requires room { IsRoom (S.source source.now) place room }
+    ensures ok { IfOk result (IsTailEnd (S.source source.now) place full) }
+    ensures small { IfOk result (λ end. end < 2 ^ 41) }
+    ensures err { IfErr result (IsCause (S.source source.now)) }
 {
     if room < TRAILER_HEAD_SIZE as u64 {
         return Ok(TRAILER_HEAD_SIZE as u64);
     }
     read_tail(source, tail, place, TRAILER_HEAD_SIZE as u64)?;
-    Ok(end_by(word(tail, 8), room, full))
+    match end_of(word(tail, 8), room, full) {
+        None => Ok(TRAILER_HEAD_SIZE as u64),
+        Some(end) => {
+            let more = part_end(source, tail, place + end as usize, room - end)?;
+            Ok(end + more)
+        }
+    }
 }
 
-/// The same, by how many rows there are.
-fn end_by(rows: u32, room: u64, full: u32) -> u64
-    ensures value { result ≡ kept_end full room rows }
-    ensures small { result < 2 ^ 40 }
+/// The end of this many rows, if they are there, and no more than an image has places for headers.
+fn end_of(rows: u32, room: u64, full: u32) -> Option<u64>
+    ensures value { result ≡ end_of rows room full }
+    ensures small { IfSome result (λ end. end < 2 ^ 40) }
 {
     let end = TRAILER_HEAD_SIZE as u64 + ROW_SIZE as u64 * u64::from(rows);
     if end <= room && rows as usize <= padded(full as usize) / HEAD_SIZE {
-        end
+        Some(end)
     } else {
-        TRAILER_HEAD_SIZE as u64
+        None
+    }
+}
+
+/// How many bytes are kept of a part that may begin at a place, which this many bytes follow.
+fn part_end<S: Contents, A: Allocator>(
+    source: &S,
+    tail: &mut Vec<u8, A>,
+    place: usize,
+    room: u64,
+) -> Result<u64, GatherFault>
+    requires place { place < 2 ^ 42 }
+    requires room { IsRoom (S.source source.now) place room }
+    ensures ok { IfOk result (IsPartEnd (S.source source.now) place) }
+    ensures small { IfOk result (λ end. end < 2 ^ 32) }
+    ensures err { IfErr result (IsCause (S.source source.now)) }
+{
+    if !begins_with(source, tail, place, room, PART_LETTERS)? {
+        return Ok(0);
+    }
+    if room < PART_SIZE_END {
+        return Ok(8);
+    }
+    read_tail(source, tail, place, PART_SIZE_END)?;
+    let size = u64::from(word(tail, 8));
+    if PART_HEAD_SIZE as u64 <= size && size <= room {
+        Ok(size)
+    } else {
+        Ok(8)
     }
 }
 
@@ -129,13 +192,13 @@ fn read_tail<S: Contents, A: Allocator>(
     place: usize,
     count: u64,
 ) -> Result<(), GatherFault>
-    requires place { place ≤ 2 ^ 32 }
-    requires count { count < 2 ^ 40 }
-    requires within { AreWithin (S.contents source.now) (place + count) }
+    requires place { place < 2 ^ 42 }
+    requires count { count < 2 ^ 41 }
+    requires within { AreWithin (S.source source.now) (place + count) }
     ensures small { OnOk result (place + count < 2 ^ 32) }
     ensures long { OnOk result (length tail.new.items ≡ count) }
-    ensures held { OnOk result (IsHeld (S.contents source.now) place tail.new.items) }
-    ensures err { IfErr result (IsCause (S.contents source.now)) }
+    ensures held { OnOk result (IsHeld (S.source source.now) place tail.new.items) }
+    ensures err { IfErr result (IsCause (S.source source.now)) }
 {
     if place as u64 + count >= PLACES {
         return Err(GatherFault::Memory);

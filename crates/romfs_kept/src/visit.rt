@@ -49,13 +49,13 @@ pub fn visit<S: Contents, A: Allocator>(
     pieces: &mut Vec<Piece, A>,
 ) -> Result<Words, GatherFault>
     requires at { at % 16 ≡ 0 }
-    requires within { AreWithin (S.contents source.now) size }
-    requires held { IsHeld (S.contents source.now) window.old.start window.old.bytes.items }
+    requires within { AreWithin (S.source source.now) size }
+    requires held { IsHeld (S.source source.now) window.old.start window.old.bytes.items }
     ensures held { OnOk result
-        (IsHeld (S.contents source.now) window.new.start window.new.bytes.items) }
-    ensures known { IfOk result (λ words. HasVisited (S.contents source.now) size at
+        (IsHeld (S.source source.now) window.new.start window.new.bytes.items) }
+    ensures known { IfOk result (λ words. HasVisited (S.source source.now) size at
         pieces.old.items pieces.new.items words.first words.second) }
-    ensures err { IfErr result (IsCause (S.contents source.now)) }
+    ensures err { IfErr result (IsCause (S.source source.now)) }
 {
     let mut short = [0u8; SHORT];
     if let Some(count) = read_head(source, window, size, at, &mut short)? {
@@ -83,13 +83,13 @@ fn read_head<S: Contents, A: Allocator>(
     requires long { 16 ≤ length room.old }
     requires few { length room.old ≤ 272 }
     requires whole { length room.old % 16 ≡ 0 }
-    requires within { AreWithin (S.contents source.now) size }
-    requires held { IsHeld (S.contents source.now) window.old.start window.old.bytes.items }
+    requires within { AreWithin (S.source source.now) size }
+    requires held { IsHeld (S.source source.now) window.old.start window.old.bytes.items }
     ensures held { OnOk result
-        (IsHeld (S.contents source.now) window.new.start window.new.bytes.items) }
-    ensures room { OnOk result (IsReadAt (S.contents source.now) size at room.new) }
+        (IsHeld (S.source source.now) window.new.start window.new.bytes.items) }
+    ensures room { OnOk result (IsReadAt (S.source source.now) size at room.new) }
     ensures end { IfOk result (IsEndIn room.new) }
-    ensures err { IfErr result (IsCause (S.contents source.now)) }
+    ensures err { IfErr result (IsCause (S.source source.now)) }
 {
     read(source, window, size, at, room)?;
     Ok(end_in(room))
@@ -122,14 +122,14 @@ fn keep<S: Contents, A: Allocator>(
     requires long { 16 ≤ length head.now }
     requires few { length head.now ≤ 272 }
     requires whole { length head.now % 16 ≡ 0 }
-    requires head { IsHeadRead (S.contents source.now) size at head.now }
-    requires within { AreWithin (S.contents source.now) size }
-    requires held { IsHeld (S.contents source.now) window.old.start window.old.bytes.items }
+    requires head { IsHeadRead (S.source source.now) size at head.now }
+    requires within { AreWithin (S.source source.now) size }
+    requires held { IsHeld (S.source source.now) window.old.start window.old.bytes.items }
     ensures held { OnOk result
-        (IsHeld (S.contents source.now) window.new.start window.new.bytes.items) }
-    ensures known { IfOk result (λ words. HasVisited (S.contents source.now) size at
+        (IsHeld (S.source source.now) window.new.start window.new.bytes.items) }
+    ensures known { IfOk result (λ words. HasVisited (S.source source.now) size at
         pieces.old.items pieces.new.items words.first words.second) }
-    ensures err { IfErr result (IsCause (S.contents source.now)) }
+    ensures err { IfErr result (IsCause (S.source source.now)) }
 {
     add_row(pieces, at / 16, head)?;
     note_used(window, head.len());
@@ -169,13 +169,13 @@ fn keep_target<S: Contents, A: Allocator>(
     pieces: &mut Vec<Piece, A>,
 ) -> Result<(), GatherFault>
     requires from { from % 16 ≡ 0 }
-    requires within { AreWithin (S.contents source.now) size }
-    requires held { IsHeld (S.contents source.now) window.old.start window.old.bytes.items }
+    requires within { AreWithin (S.source source.now) size }
+    requires held { IsHeld (S.source source.now) window.old.start window.old.bytes.items }
     ensures held { OnOk result
-        (IsHeld (S.contents source.now) window.new.start window.new.bytes.items) }
-    ensures known { OnOk result (HasAddedTarget (S.contents source.now) size from words.first
+        (IsHeld (S.source source.now) window.new.start window.new.bytes.items) }
+    ensures known { OnOk result (HasAddedTarget (S.source source.now) size from words.first
         words.third pieces.old.items pieces.new.items) }
-    ensures err { IfErr result (IsCause (S.contents source.now)) }
+    ensures err { IfErr result (IsCause (S.source source.now)) }
 {
     let count = target_len(words, (size as usize).saturating_sub(from));
     if count == 0 {
@@ -212,14 +212,14 @@ pub fn keep_row<S: Contents, A: Allocator>(
 ) -> Result<(), GatherFault>
     requires at { at % 16 ≡ 0 }
     requires few { length room.old ≤ 4096 }
-    requires within { AreWithin (S.contents source.now) size }
-    requires held { IsHeld (S.contents source.now) window.old.start window.old.bytes.items }
+    requires within { AreWithin (S.source source.now) size }
+    requires held { IsHeld (S.source source.now) window.old.start window.old.bytes.items }
     ensures held { OnOk result
-        (IsHeld (S.contents source.now) window.new.start window.new.bytes.items) }
-    ensures room { OnOk result (IsReadAt (S.contents source.now) size at room.new) }
-    ensures known { OnOk result (AreAdded (S.contents source.now) size (at / 16)
+        (IsHeld (S.source source.now) window.new.start window.new.bytes.items) }
+    ensures room { OnOk result (IsReadAt (S.source source.now) size at room.new) }
+    ensures known { OnOk result (AreAdded (S.source source.now) size (at / 16)
         (length room.old / 16) pieces.old.items pieces.new.items) }
-    ensures err { IfErr result (IsCause (S.contents source.now)) }
+    ensures err { IfErr result (IsCause (S.source source.now)) }
 {
     read(source, window, size, at, room)?;
     add_row(pieces, at / 16, room)?;

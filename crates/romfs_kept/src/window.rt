@@ -59,12 +59,12 @@ pub fn read<S: Contents, A: Allocator>(
     room: &mut [u8],
 ) -> Result<(), GatherFault>
     requires few { length room.old ≤ 4096 }
-    requires within { AreWithin (S.contents source.now) size }
-    requires held { IsHeld (S.contents source.now) window.old.start window.old.bytes.items }
+    requires within { AreWithin (S.source source.now) size }
+    requires held { IsHeld (S.source source.now) window.old.start window.old.bytes.items }
     ensures held { OnOk result
-        (IsHeld (S.contents source.now) window.new.start window.new.bytes.items) }
-    ensures room { OnOk result (IsReadAt (S.contents source.now) size at room.new) }
-    ensures err { IfErr result (IsCause (S.contents source.now)) }
+        (IsHeld (S.source source.now) window.new.start window.new.bytes.items) }
+    ensures room { OnOk result (IsReadAt (S.source source.now) size at room.new) }
+    ensures err { IfErr result (IsCause (S.source source.now)) }
 {
     clear(room);
     if at >= size {
@@ -102,13 +102,13 @@ fn look_at<S: Contents, A: Allocator>(
     count: usize,
 ) -> Result<(), GatherFault>
     requires few { from + count ≤ size }
-    requires within { AreWithin (S.contents source.now) size }
-    requires held { IsHeld (S.contents source.now) window.old.start window.old.bytes.items }
+    requires within { AreWithin (S.source source.now) size }
+    requires held { IsHeld (S.source source.now) window.old.start window.old.bytes.items }
     ensures held { OnOk result
-        (IsHeld (S.contents source.now) window.new.start window.new.bytes.items) }
+        (IsHeld (S.source source.now) window.new.start window.new.bytes.items) }
     ensures low { OnOk result (window.new.start ≤ from) }
     ensures high { OnOk result (from + count ≤ window.new.start + length window.new.bytes.items) }
-    ensures err { IfErr result (IsCause (S.contents source.now)) }
+    ensures err { IfErr result (IsCause (S.source source.now)) }
 {
     if covers(window, from, count) {
         return Ok(());
@@ -149,10 +149,10 @@ pub fn load<S: Contents, A: Allocator>(
     count: usize,
 ) -> Result<(), GatherFault>
     requires few { at + count < 2 ^ 32 }
-    requires within { AreWithin (S.contents source.now) (at + count) }
+    requires within { AreWithin (S.source source.now) (at + count) }
     ensures long { OnOk result (length bytes.new.items ≡ count) }
-    ensures held { OnOk result (IsHeld (S.contents source.now) at bytes.new.items) }
-    ensures err { IfErr result (IsCause (S.contents source.now)) }
+    ensures held { OnOk result (IsHeld (S.source source.now) at bytes.new.items) }
+    ensures err { IfErr result (IsCause (S.source source.now)) }
 {
     // those that exist already are not cleared, since they are read over
     bytes.resize(count, 0)?;
@@ -162,9 +162,9 @@ pub fn load<S: Contents, A: Allocator>(
 /// Fills a room with the bytes from a place on.
 fn load_room<S: Contents>(source: &S, room: &mut [u8], at: u64) -> Result<(), GatherFault>
     requires few { at + length room.old < 2 ^ 32 }
-    requires within { AreWithin (S.contents source.now) (at + length room.old) }
-    ensures held { OnOk result (IsHeld (S.contents source.now) at room.new) }
-    ensures err { IfErr result (IsCause (S.contents source.now)) }
+    requires within { AreWithin (S.source source.now) (at + length room.old) }
+    ensures held { OnOk result (IsHeld (S.source source.now) at room.new) }
+    ensures err { IfErr result (IsCause (S.source source.now)) }
 {
     match fill(source, room, at) {
         Ok(()) => Ok(()),

@@ -207,10 +207,7 @@ impl<'a> ImageView<'a> {
 
 /// What is held of an image is read as it is. No read fails.
 impl<'a> Contents for ImageView<'a> {
-    ghost use Rattle.std.specs.Prelude.{Some};
     ghost use Rattle.devices.specs.Sources.{held};
-
-    ghost contents = { λ lent. Some lent };
 
     ghost source = { λ lent. held lent };
 

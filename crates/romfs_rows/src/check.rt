@@ -1,50 +1,61 @@
 //! Whether a trailer keeps its rule.
 
-ghost use Rattle.std.specs.Prelude.{◌+◌, ◌≤◌, ◌↔◌, length, IsTrue};
+ghost use Rattle.std.specs.Prelude.{◌+◌, ◌≤◌, ◌↔◌, length, IfOk, IsTrue};
 ghost use Rattle.romfs_format.specs.declared.limits.TheConstants.{HEAD_SIZE, ROW_SIZE};
 ghost use Rattle.romfs_format.specs.Trailer.{AreRows, IsRow, IsTrailer, row_start};
 ghost use Rattle.romfs_rows.specs.Faults.{IsTrailerFault};
 
+use crate::part::is_part;
 use crate::read::{Trailer, row_of, row_start, trailer_place};
 use romfs_format::limits::{MAX_MODE, SECOND, TRAILER_HEAD_SIZE};
 use romfs_format::{ImageFault, Rule};
 use romfs_held::Held;
 use romfs_held::read::word;
+use std::alloc::{AllocError, Allocator};
 
 /// The fault of an image's attribute trailer, from all bytes of the image; none if it has no
 /// trailer, or one that keeps its rule.
 ///
-/// It goes over the bytes of the trailer twice, and takes no memory.
+/// It goes over the rows twice, and a few times over a second part, whose lists it copies into
+/// memory meanwhile. Fails only if that memory was refused.
 #[tactic(auto, unfolding(romfs_format::specs::Trailer::trailer))]
-pub fn trailer_fault(image: &Held<'_>) -> Option<ImageFault>
+pub fn trailer_fault<A: Allocator>(
+    alloc: A,
+    image: &Held<'_>,
+) -> Result<Option<ImageFault>, AllocError>
     requires { HEAD_SIZE ≤ length image.now }
-    ensures { IsTrailerFault image.now result }
+    ensures { IfOk result (IsTrailerFault image.now) }
 {
-    let place = trailer_place(image)?;
-    if is_trailer(&Trailer::at(image, place), word(image, 8)) {
-        None
+    let Some(place) = trailer_place(image) else {
+        return Ok(None);
+    };
+    if is_trailer(alloc, &Trailer::at(image, place as usize), word(image, 8))? {
+        Ok(None)
     } else {
-        Some(ImageFault {
+        Ok(Some(ImageFault {
             rule: Rule::Attributes,
             place,
-        })
+        }))
     }
 }
 
 // Whether a trailer keeps its rule, in an image of this full size.
 #[tactic(auto, unfolding(romfs_format::specs::Trailer::trailer_bytes))]
-fn is_trailer(trailer: &Trailer<'_>, full: u32) -> bool
-    ensures { IsTrue result ↔ IsTrailer full trailer.now }
+fn is_trailer<A: Allocator>(alloc: A, trailer: &Trailer<'_>, full: u32) -> Result<bool, AllocError>
+    ensures { IfOk result (λ yes. IsTrue yes ↔ IsTrailer full trailer.now) }
 {
     if trailer.len() < TRAILER_HEAD_SIZE {
-        return false;
+        return Ok(false);
     }
     let count = trailer.word(8);
     let end = row_start(count);
     if trailer.len() < end {
-        return false;
+        return Ok(false);
     }
-    trailer.sum(end) == 0 && are_rows(trailer, count, full)
+    if trailer.sum(end) != 0 || !are_rows(trailer, count, full) {
+        return Ok(false);
+    }
+    is_part(alloc, trailer, count)
 }
 
 // Whether the first rows are right and rise.

@@ -1,6 +1,7 @@
 //! The trailer of an image, and its rows.
 
-ghost use Rattle.std.specs.Prelude.{◌≡◌, ◌+◌, ◌<◌, ◌≤◌, ◌%◌, ◌^◌, false, length, take, drop, ℕ, List, IfSome, MatchOption};
+ghost use Rattle.std.specs.Prelude.{◌≡◌, ◌+◌, ◌<◌, ◌≤◌, ◌%◌, ◌^◌, false, length, take, drop, nat_eq, ℕ, List, IfOk, IfSome, MatchOption};
+ghost use Rattle.std.specs.List.{starts_with as begins_with};
 ghost use Rattle.romfs_format.specs.declared.limits.TheConstants.{HEAD_SIZE, ROW_SIZE};
 ghost use Rattle.romfs_format.specs.Fields.{word as word_of, word_sum};
 ghost use Rattle.romfs_format.specs.Trailer.{has_trailer, long_word as long_word_of, row_of, row_start};
@@ -10,8 +11,12 @@ use romfs_format::limits::{ROW_SIZE, TRAILER_HEAD_SIZE};
 use romfs_format::read::padded;
 use romfs_format::{AttributeRow, read as fields};
 use romfs_held::Held;
-use romfs_held::read::{long_word, slice_at, stand_at, sum, word};
+use romfs_held::read::{copy_some, long_word, slice_at, stand_at, sum, word};
+use std::alloc::{AllocError, Allocator};
 use std::marker::Model;
+
+/// How many bytes are copied at once.
+const PIECE_SIZE: usize = 512;
 
 /// The start of an image's trailer, if it has one.
 #[tactic(auto, unfolding(romfs_format::specs::Trailer::trailer))]
@@ -32,12 +37,12 @@ pub(crate) fn trailer_place(image: &Held<'_>) -> Option<u32>
     }
 }
 
-/// A trailer: the bytes of an image from a place on. A clause sees these.
+/// A trailer, or its second part: the bytes of an image from a place on. A clause sees these.
 #[derive(Drop)]
 pub(crate) struct Trailer<'t> {
     image: &'t Held<'t>,
     /// Its start.
-    place: u32,
+    place: usize,
     /// The end of the image.
     end: usize,
 }
@@ -55,7 +60,7 @@ impl<'t> Model for Trailer<'t> {
 
 impl<'t> Trailer<'t> {
     /// The bytes from a place on.
-    pub(crate) fn at(image: &'t Held<'t>, place: u32) -> Trailer<'t>
+    pub(crate) fn at(image: &'t Held<'t>, place: usize) -> Trailer<'t>
         requires { place ≤ length image.now }
         ensures { result ≡ drop place image.now }
     {
@@ -66,11 +71,26 @@ impl<'t> Trailer<'t> {
         }
     }
 
+    /// The bytes after the first ones.
+    pub(crate) fn behind(&self, count: usize) -> Trailer<'t>
+        requires { count ≤ length self.now }
+        ensures { result ≡ drop count self.now }
+    {
+        Trailer::at(self.image, self.place + count)
+    }
+
+    /// Whether they begin with some bytes.
+    pub(crate) fn starts_with(&self, bytes: &[u8]) -> bool
+        ensures { result ≡ begins_with nat_eq self.now bytes.now }
+    {
+        stand_at(self.image, self.place, bytes)
+    }
+
     /// How many bytes there are.
     pub(crate) fn len(&self) -> usize
         ensures { result ≡ length self.now }
     {
-        self.end - self.place as usize
+        self.end - self.place
     }
 
     /// The word at a place, counted from the start of the trailer.
@@ -78,7 +98,7 @@ impl<'t> Trailer<'t> {
         requires { at + 4 ≤ length self.now }
         ensures { result ≡ word_of self.now at }
     {
-        word(self.image, self.place as usize + at)
+        word(self.image, self.place + at)
     }
 
     /// The number in the eight bytes at such a place.
@@ -86,7 +106,20 @@ impl<'t> Trailer<'t> {
         requires { at + 8 ≤ length self.now }
         ensures { result ≡ long_word_of self.now at }
     {
-        long_word(self.image, self.place as usize + at)
+        long_word(self.image, self.place + at)
+    }
+
+    /// This many bytes from such a place on, in memory of their own.
+    pub(crate) fn copied<A: Allocator>(
+        &self,
+        alloc: A,
+        at: usize,
+        len: usize,
+    ) -> Result<Vec<u8, A>, AllocError>
+        requires { at + len ≤ length self.now }
+        ensures { IfOk result (λ bytes. bytes.items ≡ take len (drop at self.now)) }
+    {
+        copied(alloc, self.image, self.place + at, len)
     }
 
     /// This many bytes from such a place on, if they are at hand in one piece.
@@ -94,7 +127,7 @@ impl<'t> Trailer<'t> {
         requires { at + len ≤ length self.now }
         ensures { IfSome result (λ part. part.now ≡ take len (drop at self.now)) }
     {
-        slice_at(self.image, self.place as usize + at, len)
+        slice_at(self.image, self.place + at, len)
     }
 
     /// The sum of the complete words in this many bytes.
@@ -102,8 +135,29 @@ impl<'t> Trailer<'t> {
         requires { len ≤ length self.now }
         ensures { result ≡ word_sum (take len self.now) % 2 ^ 32 }
     {
-        sum(self.image, self.place as usize, len)
+        sum(self.image, self.place, len)
     }
+}
+
+// This many bytes of an image from a place on.
+fn copied<A: Allocator>(
+    alloc: A,
+    image: &Held<'_>,
+    at: usize,
+    len: usize,
+) -> Result<Vec<u8, A>, AllocError>
+    requires inside { at + len ≤ length image.now }
+    requires small { at + len < 2 ^ 64 }
+    ensures { IfOk result (λ bytes. bytes.items ≡ take len (drop at image.now)) }
+{
+    let mut bytes = Vec::with_capacity(alloc, len)?;
+    let mut room = [0; PIECE_SIZE];
+    while bytes.len() < len {
+        let count = copy_some(image, at + bytes.len(), &mut room);
+        let left = len - bytes.len();
+        bytes.extend_from_slice(&room[..count.min(left)])?;
+    }
+    Ok(bytes)
 }
 
 /// The start of a row in its trailer.

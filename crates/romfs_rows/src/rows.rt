@@ -55,7 +55,7 @@ impl<A: Allocator> Rows<A> {
         match trailer_place(image) {
             None => Ok(Rows::none(alloc)),
             Some(place) => {
-                let rows = rows_in(alloc, &Trailer::at(image, place))?;
+                let rows = rows_in(alloc, &Trailer::at(image, place as usize))?;
                 Ok(Rows { rows })
             }
         }

@@ -35,7 +35,8 @@ use std::alloc::{AllocError, Allocator};
 ///
 /// It takes n log n steps in headers and one pass over the bytes of the image, whatever they are,
 /// or over those that are kept of it. Beside them it takes at most a byte for each 40 of the image
-/// and 96 for each header that is reached, and keeps nothing.
+/// and 96 for each header that is reached, and then the bytes of a trailer's second part; it keeps
+/// nothing.
 pub fn first_fault<A: Allocator + Copy>(
     alloc: A,
     image: &Held<'_>,
@@ -44,7 +45,7 @@ pub fn first_fault<A: Allocator + Copy>(
     ensures { IfOk result (IsFaultOf profile image.now) }
 {
     let fault = fault_to_depth(alloc, image, profile)?;
-    Ok(fault_with_attributes(image, profile, fault))
+    fault_with_attributes(alloc, image, profile, fault)
 }
 
 // The fault of an image, whatever its attributes.
@@ -70,24 +71,20 @@ fn fault_to_depth<A: Allocator + Copy>(
 
 // The fault of an image, if that before its attributes is known.
 #[tactic(auto, using(crate::proofs::Verdict::long_enough))]
-fn fault_with_attributes(
+fn fault_with_attributes<A: Allocator>(
+    alloc: A,
     image: &Held<'_>,
     profile: Profile,
     fault: Option<ImageFault>,
-) -> Option<ImageFault>
+) -> Result<Option<ImageFault>, AllocError>
     requires before { IsFaultToDepth profile image.now fault }
-    ensures { IsFaultOf profile image.now result }
+    ensures { IfOk result (IsFaultOf profile image.now) }
 {
-    match fault {
-        Some(fault) => Some(fault),
-        None => {
-            if profile.reads_attributes() {
-                trailer_fault(image)
-            } else {
-                None
-            }
-        }
+    if fault.is_some() || !profile.reads_attributes() {
+        return Ok(fault);
     }
+    let found = trailer_fault(alloc, image)?;
+    Ok(found)
 }
 
 // The fault of an image that keeps the rules of the volume header, from its accessible bytes,

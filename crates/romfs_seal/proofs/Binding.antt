@@ -2,9 +2,9 @@
 -- the same root hash are the same, or have twins (one_root). Of whole bytes it vouches for each block (vouches).
 use Rattle.std.proofs.Common.{◌≡◌, ◌≢◌, ◌∙◌, sym, ap, ℕ, zero, suc, ◌+◌, ◌*◌, ◌/◌, ◌%◌, ◌^◌, ◌<◌, ◌≤◌, List, [], ◌∷◌, get_or, refl, arith, inl, inr, ◌⊎◌, ext_get_or}
 use Rattle.std.proofs.lemmas.Bool.{cases_eq, cases_lt}
-use Rattle.romfs_seal.specs.declared.algorithm.Algorithm.{Algorithm}
-use Rattle.romfs_seal.specs.Tree.{Hash, IsDigest, AreBlocks, fan, block, digest_at, blocks_above, above, root}
-use Rattle.romfs_seal.specs.Vouched.{Vouches}
+use Rattle.devices.specs.declared.algorithm.Algorithm.{Algorithm}
+use Rattle.devices.specs.Tree.{Hash, IsDigest, AreBlocks, fan, block, digest_at, blocks_above, above, root}
+use Rattle.devices.specs.Vouched.{Vouches}
 use Rattle.romfs_seal.specs.Twins.{AreTwins, IsForged, HaveTwins}
 use Rattle.romfs_seal.proofs.Fans.{above_within, one_block, one_level_less, split_is, rest_below}
 use Rattle.romfs_seal.proofs.Levels.{digest_at-above, blocks-above, block-is, block-only, digest_at-block, index-block}

@@ -1,16 +1,16 @@
 -- A block that was filled from a source (given_filled), and a digest among some (digest_is).
-use Rattle.std.proofs.Common.{◌≡◌, ◌∙◌, sym, ap, subst, ℕ, ◌+◌, ◌-◌, ◌*◌, ◌≤◌, List, ◌++◌, length, take, drop, replicate, refl, arith, length-append, length-take-le, length-drop}
+use Rattle.std.proofs.Common.{◌≡◌, ◌∙◌, sym, ap, ℕ, ◌+◌, ◌-◌, ◌*◌, ◌≤◌, List, ◌++◌, length, take, drop, replicate, arith, length-append, length-take-le, length-drop}
 use Rattle.std.proofs.lemmas.List.{take_at, take_all, length-replicate}
 use borrow.Rule.Slice.PartMut.{put_mid, same_len_mid}
-use Rattle.devices.specs.Sources.{Source, MayGive}
+use Rattle.devices.specs.Given.{Given, Allows}
 use Rattle.devices.proofs.Rooms.{put_front}
-use Rattle.romfs_seal.specs.declared.algorithm.Algorithm.{Algorithm}
-use Rattle.romfs_seal.specs.Tree.{AreBytes, digest_size, digest_at}
-use Rattle.romfs_seal.specs.File.{filled}
-use Rattle.romfs_seal.specs.Seal.{IsGiven}
+use Rattle.devices.specs.declared.algorithm.Algorithm.{Algorithm}
+use Rattle.devices.specs.Tree.{AreBytes, digest_size, digest_at}
+use Rattle.devices.specs.File.{filled}
+use Rattle.devices.specs.Seal.{IsGiven}
 
-pub given_filled : (source : Source) (place count k : ℕ) (room block zeros : List ℕ) → length room ≡ count → length block ≡ 4096 → count ≤ 4096
-    → AreBytes room → MayGive source place room → k ≡ 4096 - count
+pub given_filled : (source : Given) (place count k : ℕ) (room block zeros : List ℕ) → length room ≡ count → length block ≡ 4096 → count ≤ 4096
+    → AreBytes room → Allows source place room → k ≡ 4096 - count
     → zeros ≡ replicate (length (take k (drop count (room ++ drop count block)))) 0
     → IsGiven source place count (put_mid count k (room ++ drop count block) zeros)
 unfolding filled

@@ -1,9 +1,9 @@
 -- Blocks and the digests over them, by numbers: of either algorithm.
 use Rattle.std.proofs.Common.{◌≡◌, ℕ, zero, suc, ◌+◌, ◌*◌, ◌/◌, ◌%◌, ◌^◌, ◌<◌, ◌≤◌, arith, pow-suc, inl, inr}
 use Rattle.std.proofs.lemmas.Bool.{cases_lt}
-use Rattle.romfs_seal.specs.declared.algorithm.Algorithm.{Algorithm}
-use Rattle.romfs_seal.specs.declared.algorithm.Algorithm.TheVariants.{Sha256, Sha512}
-use Rattle.romfs_seal.specs.Tree.{HasLevels, digest_size, fan, blocks_above}
+use Rattle.devices.specs.declared.algorithm.Algorithm.{Algorithm}
+use Rattle.devices.specs.declared.algorithm.Algorithm.TheVariants.{Sha256, Sha512}
+use Rattle.devices.specs.Tree.{HasLevels, digest_size, fan, blocks_above}
 
 pub above_within : (a : Algorithm) (n i : ℕ) → i < n → i / fan a < blocks_above a n
 above_within Sha256 n i below = omega arith

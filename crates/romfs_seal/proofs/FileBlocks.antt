@@ -4,10 +4,10 @@ use Rattle.std.specs.Int.{to_le_bytes, w64}
 use Rattle.std.proofs.lemmas.Nat.{from_le_bytes-to_le_bytes_8}
 use Rattle.std.specs.Int.{from_le_bytes}
 use Rattle.std.proofs.lemmas.List.{take_at, take_all, length-replicate}
-use Rattle.romfs_seal.specs.declared.algorithm.Algorithm.{Algorithm}
+use Rattle.devices.specs.declared.algorithm.Algorithm.{Algorithm}
 use Rattle.romfs_seal.specs.Digests.{bytes-append}
-use Rattle.romfs_seal.specs.Tree.{Hash, AreBytes, IsDigest, AreBlocks, HasLevels, digest_size, root, root_hash}
-use Rattle.romfs_seal.specs.File.{blocks_of, in_blocks, number, field, descriptor, root_of, IsFileDigest}
+use Rattle.devices.specs.Tree.{Hash, AreBytes, IsDigest, AreBlocks, HasLevels, digest_size, root, root_hash}
+use Rattle.devices.specs.File.{blocks_of, in_blocks, number, field, descriptor, root_of, IsFileDigest}
 use Rattle.romfs_seal.specs.Twins.{HaveTwins, AreForged}
 use Rattle.romfs_seal.proofs.Fans.{one_count}
 use Rattle.romfs_seal.proofs.Levels.{bytes-zeros}

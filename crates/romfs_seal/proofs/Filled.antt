@@ -2,10 +2,10 @@
 use Rattle.std.proofs.Common.{◌≡◌, ◌∙◌, sym, ap, ℕ, zero, suc, ◌+◌, ◌-◌, ◌*◌, ◌<◌, ◌≤◌, List, [], ◌∷◌, ◌++◌, length, take, drop, replicate, get_or, slice_index, refl, arith, inl, inr, length-append, length-drop, ext_get_or, min, append-nil}
 use Rattle.std.proofs.lemmas.List.{take_at, length-take, length-replicate, get_or_append_left, get_or-append_right}
 use Rattle.std.proofs.lemmas.Bool.{cases_lt}
-use Rattle.romfs_seal.specs.declared.algorithm.Algorithm.{Algorithm}
+use Rattle.devices.specs.declared.algorithm.Algorithm.{Algorithm}
 use Rattle.romfs_seal.specs.Digests.{bytes-append}
-use Rattle.romfs_seal.specs.Tree.{Hash, AreBytes, IsBlock, IsDigest, block, blocks_above, above, tree, tree_blocks}
-use Rattle.romfs_seal.specs.File.{blocks_of, filled, in_blocks}
+use Rattle.devices.specs.Tree.{Hash, AreBytes, IsBlock, IsDigest, block, blocks_above, above, tree, tree_blocks}
+use Rattle.devices.specs.File.{blocks_of, filled, in_blocks}
 use Rattle.romfs_seal.proofs.Levels.{bytes-zeros, block-is, blocks-above, index-block}
 use Rattle.romfs_seal.proofs.FileBlocks.{blocks-file}
 

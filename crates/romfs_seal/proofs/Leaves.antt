@@ -2,19 +2,18 @@
 -- kept (leaf_kept).
 use Rattle.std.proofs.Common.{◌-◌, ◌≡◌, ◌≢◌, ◌∙◌, sym, ap, subst, ℕ, zero, suc, ◌+◌, ◌*◌, ◌/◌, ◌%◌, ◌^◌, ◌<◌, ◌≤◌, List, ◌++◌, length, take, drop, refl, arith, length-append, length-drop}
 use Rattle.std.proofs.lemmas.List.{take_at, take_all}
-use Rattle.romfs_seal.specs.declared.algorithm.Algorithm.{Algorithm}
-use Rattle.romfs_seal.specs.declared.algorithm.Algorithm.TheVariants.{Sha256, Sha512}
-use Rattle.romfs_seal.specs.Tree.{Hash, AreBytes, IsBlock, IsDigest, AreBlocks, HasLevels, digest_size, fan, block, digest_at, blocks_above, above, root, root_hash}
-use Rattle.romfs_seal.specs.File.{blocks_of, in_blocks, filled, descriptor}
-use Rattle.romfs_seal.specs.Vouched.{Vouches}
+use Rattle.devices.specs.declared.algorithm.Algorithm.{Algorithm}
+use Rattle.devices.specs.declared.algorithm.Algorithm.TheVariants.{Sha256, Sha512}
+use Rattle.devices.specs.Tree.{Hash, AreBytes, IsBlock, IsDigest, AreBlocks, HasLevels, digest_size, fan, block, digest_at, blocks_above, above, root}
+use Rattle.devices.specs.File.{blocks_of, in_blocks, filled}
+use Rattle.devices.specs.Vouched.{Vouches}
 use Rattle.romfs_seal.proofs.Fans.{none_yet, above_within, split_is, rest_below, one_block, few_blocks, one_level_less, one_count}
 use Rattle.romfs_seal.proofs.Levels.{block-is, block-only, blocks-above, digest_at-above, digest_at-block}
 use Rattle.romfs_seal.proofs.Binding.{vouches}
 use Rattle.romfs_seal.proofs.FileBlocks.{blocks-file, root_some}
 use Rattle.romfs_seal.proofs.Filled.{filled_whole}
-use Rattle.devices.specs.Sources.{Source, MayGive}
-use Rattle.romfs_seal.specs.Seal.{Seal, lowest_place, kept_len, kept_root, kept_of, IsGiven, MayBeKept}
-use Rattle.romfs_seal.specs.Read.{IsAloneAt, IsUnmatched}
+use Rattle.devices.specs.Seal.{Seal, lowest_place, kept_len, kept_root, kept_of, IsGiven}
+use Rattle.devices.specs.Read.{IsAloneAt, IsUnmatched}
 use Rattle.romfs_seal.specs.Kept.{IsOpened, IsLeaf, first_under}
 
 -- ---- places in a leaf

@@ -2,9 +2,9 @@
 use Rattle.std.proofs.Common.{◌≡◌, ◌∙◌, sym, ap, subst, ℕ, zero, suc, ◌+◌, ◌-◌, ◌*◌, ◌<◌, ◌≤◌, List, ◌++◌, length, take, drop, replicate, get_or, arith, append_assoc, length-append, length-take-le, length-drop, inl, inr, slice_index}
 use Rattle.std.proofs.lemmas.List.{take_at, drop_at, drop-drop, drop-take, take-take, take_all, get_or-take, get_or-drop, get_or-replicate, length-replicate}
 use Rattle.std.proofs.lemmas.Bool.{cases_lt}
-use Rattle.romfs_seal.specs.declared.algorithm.Algorithm.{Algorithm}
+use Rattle.devices.specs.declared.algorithm.Algorithm.{Algorithm}
 use Rattle.romfs_seal.specs.Digests.{bytes_nil, bytes-append}
-use Rattle.romfs_seal.specs.Tree.{Hash, AreBytes, IsBlock, IsDigest, AreBlocks, digest_size, fan, block, digest_at, digests, blocks_above, above}
+use Rattle.devices.specs.Tree.{Hash, AreBytes, IsBlock, IsDigest, AreBlocks, digest_size, fan, block, digest_at, digests, blocks_above, above}
 use Rattle.romfs_seal.proofs.Fans.{above_fits, one_more, none_yet, digest_fits, digest_place}
 
 -- ---- bytes

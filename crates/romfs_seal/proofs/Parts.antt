@@ -1,16 +1,16 @@
--- A block for which the digest vouches is read (read_block); bytes that are read are those of what is unmatched (read_are).
-use Rattle.std.proofs.Common.{◌≡◌, ◌∙◌, sym, ap, subst, ℕ, ◌+◌, ◌-◌, ◌*◌, ◌/◌, ◌%◌, ◌<◌, ◌≤◌, List, length, take, drop, get_or, slice_index, refl, arith, inl, inr, length-drop, length-take-le, ext_get_or, ◌++◌, length-append, min}
-use Rattle.std.proofs.lemmas.List.{get_or-take, get_or-drop, get_or_append_left, get_or-append_right, take_all}
-use Rattle.std.proofs.lemmas.Bool.{cases_lt}
+-- A block for which the digest vouches is read (read_block).
+use Rattle.std.proofs.Common.{◌≡◌, ◌∙◌, sym, ap, subst, ℕ, ◌+◌, ◌-◌, ◌*◌, ◌/◌, ◌%◌, ◌<◌, ◌≤◌, List, length, take, drop, slice_index, arith, length-drop, length-take-le, ◌++◌, min}
+use Rattle.std.proofs.lemmas.List.{get_or-take, get_or-drop, take_all}
 use borrow.Rule.Slice.PartMut.{put_mid}
 use Rattle.devices.proofs.Rooms.{put_front}
-use Rattle.romfs_seal.specs.Tree.{IsBlock, block, digest_at, fan}
-use Rattle.romfs_seal.specs.File.{blocks_of, filled, in_blocks}
-use Rattle.romfs_seal.specs.Vouched.{Vouches}
+use Rattle.devices.proofs.Shown.{read_append}
+use Rattle.devices.specs.Tree.{IsBlock, block, digest_at, fan}
+use Rattle.devices.specs.File.{blocks_of, filled}
+use Rattle.devices.specs.Vouched.{Vouches}
 use Rattle.romfs_seal.proofs.Levels.{index-block}
-use Rattle.romfs_seal.proofs.Filled.{length-block, length-filled, filled-is, index-filled, block-filled}
-use Rattle.romfs_seal.specs.Seal.{Seal, IsGiven}
-use Rattle.romfs_seal.specs.Read.{IsUnmatched, IsReadAt, AreRead}
+use Rattle.romfs_seal.proofs.Filled.{length-block, filled-is, index-filled, block-filled}
+use Rattle.devices.specs.Seal.{Seal, IsGiven}
+use Rattle.devices.specs.Read.{IsUnmatched, IsReadAt, AreRead}
 use Rattle.romfs_seal.specs.Kept.{IsLeaf}
 
 -- what a block has of the file
@@ -64,20 +64,6 @@ read_block s first leaf i b leaf_is from less below g e =
           };
     }
 
-pub read_are : (s : Seal) (place : ℕ) (bytes : List ℕ) → AreRead s place bytes → (xs : List ℕ) → IsUnmatched s xs
-    → bytes ≡ take (length bytes) (drop place xs)
-read_are s place bytes r xs u =
-    let long : length bytes ≤ length (drop place xs) =
-    (elim (cases_lt 0 (length bytes)) [
-      | inr none ↦ omega arith
-      | inl some ↦
-          let last = ((r.each (length bytes - 1) (omega arith)).right xs u).0 in
-          let e = length-drop place xs in omega arith
-    ]) in
-    let size : length (take (length bytes) (drop place xs)) ≡ length bytes = length-take-le (length bytes) (drop place xs) long in
-    ext_get_or 0 bytes (take (length bytes) (drop place xs)) (sym size)
-    (λ k below. ((r.each k below).right xs u).1 ∙ sym (get_or-take (length bytes) (drop place xs) k 0 below ∙ get_or-drop place xs k 0))
-
 -- a part of what was read
 pub read_inside : (s : Seal) (place from count : ℕ) (bytes : List ℕ) → from + count ≤ length bytes → AreRead s place bytes
     → AreRead s (place + from) (take count (drop from bytes))
@@ -94,21 +80,6 @@ read_inside s place from count bytes fits r =
           (subst (λ j. IsReadAt s j (slice_index bytes (from + k))) at (r.each (from + k) (omega arith)));
     }
 
-read-append : (s : Seal) (place : ℕ) (p q : List ℕ) → AreRead s place p → AreRead s (place + length p) q → AreRead s place (p ++ q)
-read-append s place p q v w =
-    let size = length-append p q in
-    record {
-      each = λ k below.
-          elim (cases_lt k (length p)) [
-            | inl less ↦ subst (λ x. IsReadAt s (place + k) x) (sym (get_or_append_left p q 0 k less)) (v.each k less)
-            | inr past ↦
-                let e : get_or (p ++ q) k 0 ≡ get_or q (k - length p) 0 = get_or-append_right p q (length p) k 0 refl past in
-                let at : place + length p + (k - length p) ≡ place + k = omega arith in
-                subst (λ x. IsReadAt s (place + k) x) (sym e)
-                (subst (λ j. IsReadAt s j (get_or q (k - length p) 0)) at (w.each (k - length p) (omega arith)))
-          ];
-    }
-
 read_more : (s : Seal) (place done count k : ℕ) (room part : List ℕ) → done ≤ length room
     → length part ≡ count → AreRead s place (take done room) → AreRead s (place + done) part
     → AreRead s place (take (done + count) (put_mid done k room part))
@@ -117,7 +88,7 @@ read_more s place done count k room part d l v w =
     let size : length (take done room) ≡ done = length-take-le done room d in
     let whole : take count part ≡ part = take_all count part (omega arith) in
     subst (λ r. AreRead s place r) (sym (e ∙ ap (λ r. take done room ++ r) whole))
-    (read-append s place (take done room) part v (subst (λ j. AreRead s (place + j) part) (sym size) w))
+    (read_append s place (take done room) part v (subst (λ j. AreRead s (place + j) part) (sym size) w))
 
 -- the same of a part of the room that was lent
 pub read_lent : (s : Seal) (place done count k : ℕ) (room part : List ℕ) → done + count ≤ length room

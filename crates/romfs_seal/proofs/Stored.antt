@@ -1,12 +1,12 @@
 -- Where the levels of a tree stand as they are stored: the lowest (lowest_stored), and the one above it (upper_stored).
-use Rattle.std.proofs.Common.{◌≡◌, ◌∙◌, sym, ap, subst, ℕ, zero, suc, ◌+◌, ◌-◌, ◌*◌, ◌<◌, ◌≤◌, List, [], ◌++◌, length, take, drop, refl, arith, length-append, length-drop, append_assoc}
-use Rattle.std.proofs.lemmas.List.{take_at, take_all, drop-drop}
+use Rattle.std.proofs.Common.{◌≡◌, ◌∙◌, sym, ap, ℕ, suc, ◌+◌, ◌*◌, List, ◌++◌, length, take, drop, arith, append_assoc}
+use Rattle.std.proofs.lemmas.List.{take_at}
 use Rattle.std.proofs.Math.Seq.{drop-append-add}
-use Rattle.romfs_seal.specs.declared.algorithm.Algorithm.{Algorithm}
-use Rattle.romfs_seal.specs.Tree.{Hash, IsDigest, AreBlocks, block, blocks_above, above, tree, tree_blocks}
+use Rattle.devices.specs.declared.algorithm.Algorithm.{Algorithm}
+use Rattle.devices.specs.Tree.{Hash, IsDigest, block, blocks_above, above, tree, tree_blocks}
 use Rattle.romfs_seal.proofs.Levels.{blocks-above}
 use Rattle.romfs_seal.proofs.Filled.{length-tree}
-use Rattle.romfs_seal.specs.Seal.{lowest_place}
+use Rattle.devices.specs.Seal.{lowest_place}
 
 -- what stands behind this many bytes
 behind : (front rest : List ℕ) (n k m : ℕ) → length front ≡ n → take m (drop (n + k) (front ++ rest)) ≡ take m (drop k rest)

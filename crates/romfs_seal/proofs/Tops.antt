@@ -1,8 +1,8 @@
 -- Levels one above the other, and the digest at the top.
 use Rattle.std.proofs.Common.{◌≡◌, ◌≢◌, ◌∙◌, sym, ap, ℕ, zero, suc, ◌+◌, ◌-◌, ◌*◌, List, [], ◌++◌, length, take, drop, replicate, refl, arith, add-one}
 use Rattle.std.proofs.lemmas.List.{take_all}
-use Rattle.romfs_seal.specs.declared.algorithm.Algorithm.{Algorithm}
-use Rattle.romfs_seal.specs.Tree.{Hash, IsDigest, digest_size, block, digests, blocks_above, above, root, tree_blocks}
+use Rattle.devices.specs.declared.algorithm.Algorithm.{Algorithm}
+use Rattle.devices.specs.Tree.{Hash, IsDigest, digest_size, block, digests, blocks_above, above, root, tree_blocks}
 use Rattle.romfs_seal.proofs.Fans.{above_fits}
 use Rattle.romfs_seal.proofs.Levels.{length-digests}
 

@@ -1,43 +1,37 @@
 -- Honest files: they are unmatched (honest_is), what is kept of them is their tree's (kept_honest), and no read of them fails.
-use Rattle.std.proofs.Common.{◌≡◌, ◌≢◌, ◌∙◌, sym, ap, subst, ℕ, zero, suc, ◌+◌, ◌-◌, ◌*◌, ◌/◌, ◌%◌, ◌^◌, ◌<◌, ◌≤◌, List, [], ◌∷◌, length, take, drop, replicate, min, Option, Some, Result, Ok, Err, IfErr, OnErr, refl, arith}
+use Rattle.std.proofs.Common.{◌≡◌, ◌≢◌, ◌∙◌, sym, ap, subst, ℕ, zero, suc, ◌+◌, ◌-◌, ◌*◌, ◌^◌, ◌<◌, ◌≤◌, List, length, take, drop, replicate, Result, Ok, Err, IfErr, OnErr, refl, arith}
 use Rattle.std.proofs.lemmas.List.{take_all, length-replicate}
-use Rattle.devices.specs.Contents.{IsShort}
-use Rattle.devices.specs.Sources.{Source, MayGive, held}
-use Rattle.devices.proofs.Held.{held_only}
-use Rattle.romfs_seal.specs.declared.algorithm.Algorithm.{Algorithm}
-use Rattle.romfs_seal.specs.Tree.{Hash, AreBytes, IsBlock, IsDigest, HasLevels, digest_size, fan, block, digest_at, blocks_above, above, root, root_hash, tree, tree_blocks}
-use Rattle.romfs_seal.specs.File.{blocks_of, in_blocks, filled, descriptor, file_digest, IsFileDigest}
+use Rattle.devices.specs.Given.{Given, these, Allows, IsShort}
+use Rattle.devices.proofs.Held.{take_self}
+use Rattle.devices.specs.declared.algorithm.Algorithm.{Algorithm}
+use Rattle.devices.specs.Tree.{Hash, IsBlock, IsDigest, HasLevels, digest_size, fan, block, digest_at, blocks_above, above, root, root_hash, tree, tree_blocks}
+use Rattle.devices.specs.File.{blocks_of, in_blocks, filled, descriptor}
 use Rattle.romfs_seal.proofs.Fans.{above_within, one_level_less, one_block, one_count, many_blocks}
 use Rattle.romfs_seal.proofs.Levels.{block-is, block-only, blocks-above}
-use Rattle.romfs_seal.proofs.FileBlocks.{blocks-file, root_some}
+use Rattle.romfs_seal.proofs.FileBlocks.{root_some}
 use Rattle.romfs_seal.proofs.Filled.{filled_whole, filled-is, block-filled, length-block, length-tree, only-filled}
-use Rattle.romfs_seal.specs.Seal.{Seal, lowest_place, kept_len, kept_root, kept_of, IsGiven, MayBeOnly, MayBeKept, IsTop}
-use Rattle.romfs_seal.specs.Read.{IsAloneAt, IsUnmatched}
+use Rattle.devices.specs.Seal.{Seal, lowest_place, kept_len, kept_root, kept_of, IsGiven, MayBeOnly, MayBeKept, IsTop}
+use Rattle.devices.specs.Read.{IsAloneAt, IsUnmatched}
 use Rattle.romfs_seal.specs.Kept.{IsOpened, IsLeaf}
-use Rattle.romfs_seal.specs.Honest.{IsHonest, IsTampered}
+use Rattle.devices.specs.Honest.{IsHonest, IsTampered}
 use Rattle.romfs_seal.proofs.Leaves.{kept_digest}
 use Rattle.romfs_seal.proofs.Parts.{part_of}
 use Rattle.romfs_seal.proofs.Stored.{lowest_stored, upper_stored}
 
 -- ---- what is held is given
 
-take_same : (n : ℕ) (l : List ℕ) → take (length (take n l)) l ≡ take n l
-take_same zero l = refl
-take_same (suc n) [] = refl
-take_same (suc n) (x ∷ l) = ap (λ r. x ∷ r) (take_same n l)
-
-given_is : (source : Source) (ys c : List ℕ) (place size : ℕ) → source ≡ held ys → length c ≡ size → MayGive source place c
+given_is : (source : Given) (ys c : List ℕ) (place size : ℕ) → source ≡ these ys → length c ≡ size → Allows source place c
     → c ≡ take size (drop place ys)
 given_is source ys c place size is long given =
-    held_only ys c place (subst (λ s. MayGive s place c) is given) ∙ ap (λ k. take k (drop place ys)) long
+    subst (λ s. Allows s place c) is given ∙ ap (λ k. take k (drop place ys)) long
 
-alone_held : (source : Source) (ys : List ℕ) (place : ℕ) (h : Hash) (b : List ℕ) → source ≡ held ys → take (length b) (drop place ys) ≡ b
+alone_held : (source : Given) (ys : List ℕ) (place : ℕ) (h : Hash) (b : List ℕ) → source ≡ these ys → take (length b) (drop place ys) ≡ b
     → IsAloneAt source place h b
 alone_held source ys place h b is same = record {
   alone = λ c bytes long given e. given_is source ys c place (length b) is long given ∙ same;
 }
 
-whole_given : (source : Source) (ys b : List ℕ) (place : ℕ) → source ≡ held ys → IsGiven source place 4096 b → b ≡ take 4096 (drop place ys)
+whole_given : (source : Given) (ys b : List ℕ) (place : ℕ) → source ≡ these ys → IsGiven source place 4096 b → b ≡ take 4096 (drop place ys)
 whole_given source ys b place is g = g.is ∙ filled_whole (g.of) (g.long) ∙ given_is source ys (g.of) place 4096 is (g.long) (g.given)
 
 -- ---- what is kept
@@ -48,7 +42,7 @@ unfolding root_hash
 no_bytes xs none a h zero count = refl
 no_bytes xs none a h (suc n) count = absurd (omega arith)
 
-only_honest : (s : Seal) (xs kept : List ℕ) (size : ℕ) → size ≡ length xs → s.image ≡ held xs → blocks_of (length xs) ≤ 1
+only_honest : (s : Seal) (xs kept : List ℕ) (size : ℕ) → size ≡ length xs → s.image ≡ these xs → blocks_of (length xs) ≤ 1
     → MayBeOnly s size kept → kept ≡ root_hash s.algorithm s.hash 0 (in_blocks xs) (blocks_of (length xs))
 unfolding root
 only_honest s xs kept zero told is one may = may ∙ no_bytes xs (sym told) s.algorithm s.hash (blocks_of (length xs)) refl
@@ -81,7 +75,7 @@ kept_honest s sized xs (suc zero) kept o has may =
     let levels : o.of.levels ≡ 1 = one_count a n (o.of.levels) 1 (o.of.has_levels) here in
     let many = many_blocks a n 0 here in
     let upper : blocks_above a n ≤ 1 = one_block a (blocks_above a n) (one_level_less a n 0 (here.enough)) in
-    let held_is : s.tree ≡ held (tree a s.hash 1 bs n) = o.tree_held ∙ ap (λ k. held (tree a s.hash k bs n)) levels in
+    let held_is : s.tree ≡ these (tree a s.hash 1 bs n) = o.tree_held ∙ ap (λ k. these (tree a s.hash k bs n)) levels in
     let found : may.0 ≡ block (above a s.hash bs n) 0 =
     whole_given s.tree (tree a s.hash 1 bs n) (may.0) 0 held_is (may.1) ∙ lowest_stored a s.hash sized 0 bs n 0 in
     may.2 ∙ ap s.hash (found ∙ block-only (above a s.hash bs n) (blocks_above a n) 0 (blocks-above a s.hash sized bs n)
@@ -93,10 +87,10 @@ kept_honest s sized xs (suc (suc below)) kept o has may =
     let count : blocks_of s.size ≡ n = ap (λ k. blocks_of k) (o.size) in
     let here : HasLevels a n (suc (suc below)) = subst (λ k. HasLevels a k (suc (suc below))) count has in
     let levels : o.of.levels ≡ suc (suc below) = one_count a n (o.of.levels) (suc (suc below)) (o.of.has_levels) here in
-    let held_is : s.tree ≡ held (tree a s.hash (suc (suc below)) bs n) = o.tree_held ∙ ap (λ k. held (tree a s.hash k bs n)) levels in
+    let held_is : s.tree ≡ these (tree a s.hash (suc (suc below)) bs n) = o.tree_held ∙ ap (λ k. these (tree a s.hash k bs n)) levels in
     let long : length kept ≡ 4096 * blocks_above a (blocks_above a n) = may.0 ∙ ap (λ k. 4096 * blocks_above a (blocks_above a k)) count in
-    let given : MayGive s.tree (4096 * tree_blocks a below (blocks_above a (blocks_above a n))) kept =
-    subst (λ k. MayGive s.tree (4096 * tree_blocks a below (blocks_above a (blocks_above a k))) kept) count (may.1) in
+    let given : Allows s.tree (4096 * tree_blocks a below (blocks_above a (blocks_above a n))) kept =
+    subst (λ k. Allows s.tree (4096 * tree_blocks a below (blocks_above a (blocks_above a k))) kept) count (may.1) in
     given_is s.tree (tree a s.hash (suc (suc below)) bs n) kept (4096 * tree_blocks a below (blocks_above a (blocks_above a n)))
     (4096 * blocks_above a (blocks_above a n)) held_is long given
     ∙ upper_stored a s.hash sized below bs n
@@ -110,7 +104,7 @@ tree_stored a h sized (suc levels) xs n i some = lowest_stored a h sized levels 
 
 block_held : (xs : List ℕ) (i : ℕ) → take (length (block xs i)) (drop (4096 * i) xs) ≡ block xs i
 unfolding block
-block_held xs i = take_same 4096 (drop (4096 * i) xs)
+block_held xs i = sym (take_self 4096 (drop (4096 * i) xs))
 
 pub honest_is : (s : Seal) (sized : (m : List ℕ) → IsDigest s.algorithm (s.hash m)) (xs : List ℕ) → IsHonest s xs → IsUnmatched s xs
 honest_is s sized xs o =
@@ -166,18 +160,18 @@ too_long s long = record { no = λ xs o. (let small = o.of.small in let e = o.si
 
 -- ---- reads that fall short
 
-short : (known : Option (List ℕ)) (ys : List ℕ) (place size : ℕ) → known ≡ Some ys → place + size ≤ length ys → IsShort known place size → ⊥
+short : (known : Given) (ys : List ℕ) (place size : ℕ) → known ≡ these ys → place + size ≤ length ys → IsShort known place size → ⊥
 short known ys place size is fits lacks = (let less : length ys < place + size = subst (λ k. IsShort k place size) is lacks in omega arith)
 
-pub image_short : (s : Seal) (place count : ℕ) → place + count ≤ s.size → IsShort s.image_bytes place count → IsTampered s
+pub image_short : (s : Seal) (place count : ℕ) → place + count ≤ s.size → IsShort s.image place count → IsTampered s
 image_short s place count fits lacks = record {
-  no = λ xs o. short s.image_bytes xs place count (o.image_is) (let e = o.size in omega (arith, e, fits)) lacks;
+  no = λ xs o. short s.image xs place count (o.image_held) (let e = o.size in omega (arith, e, fits)) lacks;
 }
 
 -- this many blocks of a tree from a place on
 pub tree_short : (s : Seal) (sized : (m : List ℕ) → IsDigest s.algorithm (s.hash m)) (levels place count : ℕ)
     → HasLevels s.algorithm (blocks_of s.size) levels → place + count ≤ 4096 * tree_blocks s.algorithm levels (blocks_of s.size)
-    → IsShort s.tree_bytes place count → IsTampered s
+    → IsShort s.tree place count → IsTampered s
 tree_short s sized levels place count has fits lacks = record {
   no = λ xs o.
       let a = s.algorithm in
@@ -188,7 +182,7 @@ tree_short s sized levels place count has fits lacks = record {
       let long = length-tree a s.hash sized (o.of.levels) (in_blocks xs) n in
       let size : 4096 * tree_blocks a levels (blocks_of s.size) ≡ 4096 * tree_blocks a o.of.levels n =
       ap (λ k. 4096 * tree_blocks a levels k) told ∙ ap (λ k. 4096 * tree_blocks a k n) (sym same) in
-      short s.tree_bytes (tree a s.hash o.of.levels (in_blocks xs) n) place count (o.tree_is) (omega arith) lacks;
+      short s.tree (tree a s.hash o.of.levels (in_blocks xs) n) place count (o.tree_held) (omega arith) lacks;
 }
 
 lowest_in : (a : Algorithm) (levels n index : ℕ) → levels ≢ 0 → index < blocks_above a n
@@ -198,7 +192,7 @@ lowest_in a zero n index some within = absurd (some refl)
 lowest_in a (suc levels) n index some within = omega arith
 
 pub leaf_short : (s : Seal) (levels lowest : ℕ) (kept : List ℕ) (index : ℕ) → levels ≢ 0 → IsOpened s levels lowest kept
-    → index < blocks_above s.algorithm (blocks_of s.size) → IsShort s.tree_bytes (lowest + 4096 * index) 4096 → IsTampered s
+    → index < blocks_above s.algorithm (blocks_of s.size) → IsShort s.tree (lowest + 4096 * index) 4096 → IsTampered s
 leaf_short s levels lowest kept index some o within lacks =
     let inside = lowest_in s.algorithm levels (blocks_of s.size) index some within in
     let place = o.place in
@@ -222,7 +216,7 @@ leaf_other s (suc below) lowest kept leaf index some op within g other = record 
       let inside : index < blocks_above a n = subst (λ k. index < blocks_above a k) count within in
       let place : lowest + 4096 * index ≡ lowest_place a (suc below) n + 4096 * index =
       ap (λ k. k + 4096 * index) (op.place ∙ ap (λ k. lowest_place a (suc below) k) count) in
-      let held_is : s.tree ≡ held (tree a s.hash (suc below) bs n) = o.tree_held ∙ ap (λ k. held (tree a s.hash k bs n)) levels in
+      let held_is : s.tree ≡ these (tree a s.hash (suc below) bs n) = o.tree_held ∙ ap (λ k. these (tree a s.hash k bs n)) levels in
       let found : leaf ≡ block (above a s.hash bs n) index =
       whole_given s.tree (tree a s.hash (suc below) bs n) leaf (lowest_place a (suc below) n + 4096 * index) held_is
       (subst (λ k. IsGiven s.tree k 4096 leaf) place g) ∙ lowest_stored a s.hash (op.sized) below bs n index in
@@ -249,7 +243,7 @@ any_err (Ok x) each = tt
 any_err (Err e) each = each e
 
 pub first_short : (s : Seal) (sized : (m : List ℕ) → IsDigest s.algorithm (s.hash m)) → HasLevels s.algorithm (blocks_of s.size) 1
-    → IsShort s.tree_bytes 0 4096 → IsTampered s
+    → IsShort s.tree 0 4096 → IsTampered s
 unfolding tree_blocks
 first_short s sized has lacks =
     let a = s.algorithm in
@@ -259,7 +253,7 @@ first_short s sized has lacks =
 
 pub upper_short : (s : Seal) (sized : (m : List ℕ) → IsDigest s.algorithm (s.hash m)) (levels : ℕ) → 2 ≤ levels
     → HasLevels s.algorithm (blocks_of s.size) levels
-    → IsShort s.tree_bytes (4096 * tree_blocks s.algorithm (levels - 2) (blocks_above s.algorithm (blocks_above s.algorithm (blocks_of s.size))))
+    → IsShort s.tree (4096 * tree_blocks s.algorithm (levels - 2) (blocks_above s.algorithm (blocks_above s.algorithm (blocks_of s.size))))
     (4096 * blocks_above s.algorithm (blocks_above s.algorithm (blocks_of s.size))) → IsTampered s
 unfolding tree_blocks
 upper_short s sized zero many has lacks = absurd (omega arith)
@@ -269,11 +263,11 @@ upper_short s sized (suc (suc below)) many has lacks =
     let m = blocks_above a (blocks_above a (blocks_of s.size)) in
     let e : suc (suc below) - 2 ≡ below = omega arith in
     tree_short s sized (suc (suc below)) (4096 * tree_blocks a below m) (4096 * m) has (omega arith)
-    (subst (λ k. IsShort s.tree_bytes (4096 * tree_blocks a k m) (4096 * m)) e lacks)
+    (subst (λ k. IsShort s.tree (4096 * tree_blocks a k m) (4096 * m)) e lacks)
 
 pub upper_kept : (s : Seal) (levels : ℕ) (kept : List ℕ) → 2 ≤ levels
     → length kept ≡ 4096 * blocks_above s.algorithm (blocks_above s.algorithm (blocks_of s.size))
-    → MayGive s.tree (4096 * tree_blocks s.algorithm (levels - 2) (blocks_above s.algorithm (blocks_above s.algorithm (blocks_of s.size)))) kept
+    → Allows s.tree (4096 * tree_blocks s.algorithm (levels - 2) (blocks_above s.algorithm (blocks_above s.algorithm (blocks_of s.size)))) kept
     → MayBeKept s levels kept
 upper_kept s zero kept many long given = absurd (omega arith)
 upper_kept s (suc zero) kept many long given = absurd (omega arith)
@@ -282,7 +276,7 @@ upper_kept s (suc (suc below)) kept many long given =
     let m = blocks_above a (blocks_above a (blocks_of s.size)) in
     let e : suc (suc below) - 2 ≡ below = omega arith in (
       long,
-      subst (λ k. MayGive s.tree (4096 * tree_blocks a k m) kept) e given,
+      subst (λ k. Allows s.tree (4096 * tree_blocks a k m) kept) e given,
     )
 
 only_long : (s : Seal) (sized : (m : List ℕ) → IsDigest s.algorithm (s.hash m)) (size : ℕ) (kept : List ℕ)
@@ -300,5 +294,5 @@ pub any_on : {X E T : Type 0} (r : Result X E) → T → OnErr r T
 any_on (Ok x) t = tt
 any_on (Err e) t = t
 
-pub given_block : (source : Source) (place : ℕ) (b : List ℕ) → IsGiven source place 4096 b → IsBlock b
+pub given_block : (source : Given) (place : ℕ) (b : List ℕ) → IsGiven source place 4096 b → IsBlock b
 given_block source place b g = subst IsBlock (sym g.is) (filled-is (g.of) (g.bytes) (let l = g.long in omega (arith, l)))

@@ -7,11 +7,11 @@ use Rattle.sha2.specs.Sha512.{sha512, initial_hash_512}
 use Rattle.sha2.specs.Sha512 as long
 use Rattle.sha2.proofs.Facts256.{length-sha256}
 use Rattle.sha2.proofs.Facts512.{length-sha512}
-use Rattle.romfs_seal.specs.declared.algorithm.Algorithm.{Algorithm}
-use Rattle.romfs_seal.specs.declared.algorithm.Algorithm.TheVariants.{Sha256, Sha512}
+use Rattle.devices.specs.declared.algorithm.Algorithm.{Algorithm}
+use Rattle.devices.specs.declared.algorithm.Algorithm.TheVariants.{Sha256, Sha512}
 use Rattle.romfs_seal.specs.declared.digest.Digest.{Digest}
 use Rattle.romfs_seal.specs.declared.digest.Digest.TheVariants.{Short, Long}
-use Rattle.romfs_seal.specs.Tree.{AreBytes, IsDigest}
+use Rattle.devices.specs.Tree.{AreBytes, IsDigest}
 use Rattle.std.proofs.Common.{◌-◌, get_or, sym, refl, subst, length-append, inl, inr}
 use Rattle.std.proofs.lemmas.List.{get_or_append_left, get_or-append_right}
 use Rattle.std.proofs.lemmas.Bool.{cases_lt}
@@ -20,6 +20,11 @@ use Rattle.std.proofs.lemmas.Bool.{cases_lt}
 abbrev pub digest_bytes : Digest → List ℕ
 digest_bytes (Short bytes) = bytes
 digest_bytes (Long bytes) = bytes
+
+-- the algorithm that makes such digests
+abbrev pub made_by : Digest → Algorithm
+made_by (Short bytes) = Sha256
+made_by (Long bytes) = Sha512
 
 -- the digest by an algorithm
 abbrev pub sha : Algorithm → List ℕ → List ℕ

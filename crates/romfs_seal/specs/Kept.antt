@@ -1,11 +1,11 @@
 -- What is held in memory of a tree, and what one of its lowest hash blocks is good for.
 use Rattle.std.specs.Prelude.{◌≡◌, ℕ, ◌+◌, ◌-◌, ◌*◌, ◌/◌, ◌^◌, ◌<◌, ◌≤◌, List, length}
-use Rattle.romfs_seal.specs.declared.algorithm.Algorithm.{Algorithm}
-use Rattle.romfs_seal.specs.Tree.{AreBytes, IsDigest, HasLevels, fan, block, digest_at}
-use Rattle.romfs_seal.specs.File.{blocks_of, in_blocks, descriptor}
-use Rattle.romfs_seal.specs.Vouched.{Vouches}
-use Rattle.romfs_seal.specs.Seal.{Seal, lowest_place, kept_len, kept_of, IsTop}
-use Rattle.romfs_seal.specs.Read.{IsUnmatched}
+use Rattle.devices.specs.declared.algorithm.Algorithm.{Algorithm}
+use Rattle.devices.specs.Tree.{AreBytes, IsDigest, HasLevels, fan, block, digest_at}
+use Rattle.devices.specs.File.{blocks_of, in_blocks, descriptor}
+use Rattle.devices.specs.Vouched.{Vouches}
+use Rattle.devices.specs.Seal.{Seal, lowest_place, kept_len, kept_of, IsTop}
+use Rattle.devices.specs.Read.{IsUnmatched}
 
 -- what is held of the tree: the digest is that of its descriptor, and it is that of unmatched bytes
 pub record IsOpened (s : Seal) (levels lowest : ℕ) (kept : List ℕ) : Type 0 where

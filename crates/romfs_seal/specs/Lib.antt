@@ -1,9 +1,4 @@
-pub mod Tree
-pub mod File
-pub mod Vouched
 pub mod Twins
 pub mod Digests
-pub mod Seal
-pub mod Read
+pub mod Named
 pub mod Kept
-pub mod Honest

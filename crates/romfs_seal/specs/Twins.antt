@@ -1,9 +1,9 @@
 -- Second preimages: where bytes that are not a file's pass for them, here they are.
 use Rattle.std.specs.Prelude.{◌≡◌, ◌≢◌, ◌⊎◌, ℕ, zero, suc, ◌/◌, ◌<◌, List, length}
-use Rattle.romfs_seal.specs.declared.algorithm.Algorithm.{Algorithm}
-use Rattle.romfs_seal.specs.Tree.{Hash, fan, block, blocks_above, above}
-use Rattle.romfs_seal.specs.File.{descriptor, in_blocks, blocks_of, root_of}
-use Rattle.romfs_seal.specs.Vouched.{Vouches}
+use Rattle.devices.specs.declared.algorithm.Algorithm.{Algorithm}
+use Rattle.devices.specs.Tree.{Hash, fan, block, blocks_above, above}
+use Rattle.devices.specs.File.{descriptor, in_blocks, blocks_of, root_of}
+use Rattle.devices.specs.Vouched.{Vouches}
 
 -- two lists are not one, and have one digest
 pub record AreTwins (h : Hash) (b c : List ℕ) : Type 0 where

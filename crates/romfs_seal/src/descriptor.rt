@@ -1,9 +1,9 @@
 //! The descriptor of a file.
 
 ghost use Rattle.std.specs.Prelude.{◌≡◌, ◌≤◌, length, IfOk};
-ghost use Rattle.romfs_seal.specs.File.{descriptor};
+ghost use Rattle.devices.specs.File.{descriptor};
 
-use crate::algorithm::Algorithm;
+use devices::Algorithm;
 use std::alloc::{AllocError, Allocator};
 
 /// The bytes of a descriptor.

@@ -1,9 +1,9 @@
 //! Digests that `fsverity digest` printed, computed from the definitions.
 
 ghost use Rattle.std.specs.Prelude.{◌≡◌, ◌++◌, [], ◌∷◌, replicate};
-ghost use Rattle.romfs_seal.specs.declared.algorithm.Algorithm.TheVariants.{Sha256, Sha512};
+ghost use Rattle.devices.specs.declared.algorithm.Algorithm.TheVariants.{Sha256, Sha512};
 ghost use Rattle.romfs_seal.specs.Digests.{sha};
-ghost use Rattle.romfs_seal.specs.File.{file_digest};
+ghost use Rattle.devices.specs.File.{file_digest};
 
 /// Of no bytes: the root hash is zeros.
 pub fn no_bytes()

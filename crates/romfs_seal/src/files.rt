@@ -1,19 +1,18 @@
 //! A file, the file of its tree, and the digest that they should have.
 
 ghost use Rattle.std.specs.Prelude.{◌≡◌, ◌≢◌, false, ◌+◌, ◌*◌, ◌<◌, ◌≤◌, ◌^◌, ℕ, List, length, take, drop, IsTrue, OnOk, OnErr};
-ghost use Rattle.devices.specs.Contents.{IsShort};
-ghost use Rattle.devices.specs.Sources.{MayGive};
-ghost use Rattle.romfs_seal.specs.Tree.{AreBytes, IsDigest, digest_at, digest_size};
+ghost use Rattle.devices.specs.Given.{Allows, IsShort};
+ghost use Rattle.devices.specs.Tree.{AreBytes, IsDigest, digest_at, digest_size};
 ghost use Rattle.romfs_seal.specs.Digests.{digest_bytes};
-ghost use Rattle.romfs_seal.specs.Seal.{Seal, IsGiven};
+ghost use Rattle.devices.specs.Seal.{Seal, IsGiven};
 
-use crate::filling::fill_block;
-use crate::{Algorithm, BlockHash, Digest};
-use devices::{Contents, Unread, fill};
+use crate::filling::{fill_block, fill_bytes};
+use crate::{BlockHash, Digest};
+use devices::{Algorithm, Contents, Unread};
 
 /// A file and the file of its tree, with the size and the digest that are reported of it.
 pub trait NamedFiles {
-    // What is known of the files, what reads of them may give, and how they are hashed.
+    // What reads of the files may give, and how they are hashed.
     ghost seal: { Self → Seal };
 
     /// The size that is reported.
@@ -39,20 +38,20 @@ pub trait NamedFiles {
         requires fits { count ≤ 4096 }
         requires near { place + count < 2 ^ 64 }
         ensures ok { OnOk result (IsGiven (seal self.now).image place count block.new) }
-        ensures err { OnErr result (IsShort (seal self.now).image_bytes place count) };
+        ensures err { OnErr result (IsShort (seal self.now).image place count) };
 
     /// Reads a block of the tree.
     fn fill_tree(&self, block: &mut [u8], place: u64) -> Result<(), Unread>
         requires long { length block.old ≡ 4096 }
         requires near { place ≤ 2 ^ 63 }
         ensures ok { OnOk result (IsGiven (seal self.now).tree place 4096 block.new) }
-        ensures err { OnErr result (IsShort (seal self.now).tree_bytes place 4096) };
+        ensures err { OnErr result (IsShort (seal self.now).tree place 4096) };
 
     /// Reads a part of the tree.
     fn read_tree(&self, room: &mut [u8], place: u64) -> Result<(), Unread>
         requires { place + length room.old < 2 ^ 64 }
-        ensures ok { OnOk result (MayGive (seal self.now).tree place room.new) }
-        ensures err { OnErr result (IsShort (seal self.now).tree_bytes place (length room.old)) };
+        ensures ok { OnOk result (Allows (seal self.now).tree place room.new) }
+        ensures err { OnErr result (IsShort (seal self.now).tree place (length room.old)) };
 
     ghost sized: { (files : Self) (bytes : List ℕ) →
         IsDigest (seal files).algorithm ((seal files).hash bytes) };
@@ -108,13 +107,12 @@ pub struct Files<C: Contents, D: Contents, H: BlockHash> {
 }
 
 impl<C: Contents, D: Contents, H: BlockHash> NamedFiles for Files<C, D, H> {
+    ghost use Rattle.devices.specs.Sources.{given_of};
     ghost use Rattle.romfs_seal.specs.Digests.{digest_bytes};
 
     ghost seal = { λ files. record {
-      image_bytes = C.contents files.image;
-      image = C.source files.image;
-      tree_bytes = D.contents files.tree;
-      tree = D.source files.tree;
+      image = given_of (C.source files.image);
+      tree = given_of (D.source files.tree);
       algorithm = H.algorithm_of files.hash;
       hash = H.digest_of files.hash;
       size = files.size;
@@ -148,6 +146,6 @@ impl<C: Contents, D: Contents, H: BlockHash> NamedFiles for Files<C, D, H> {
     }
 
     fn read_tree(&self, room: &mut [u8], place: u64) -> Result<(), Unread> {
-        fill(&self.tree, room, place)
+        fill_bytes(&self.tree, room, place)
     }
 }

@@ -1,10 +1,10 @@
 //! Blocks that are filled from a file.
 
 ghost use Rattle.std.specs.Prelude.{◌≡◌, ◌+◌, ◌<◌, ◌≤◌, ◌^◌, length, replicate, OnOk, OnErr};
-ghost use Rattle.devices.specs.Contents.{IsShort};
-ghost use Rattle.devices.specs.Sources.{MayGive};
-ghost use Rattle.romfs_seal.specs.Tree.{AreBytes};
-ghost use Rattle.romfs_seal.specs.Seal.{IsGiven};
+ghost use Rattle.devices.specs.Given.{Allows, IsShort};
+ghost use Rattle.devices.specs.Sources.{given_of};
+ghost use Rattle.devices.specs.Tree.{AreBytes};
+ghost use Rattle.devices.specs.Seal.{IsGiven};
 
 use devices::{Contents, Unread, fill};
 
@@ -21,8 +21,8 @@ pub(crate) fn fill_block<S: Contents>(
     requires long { length block.old ≡ 4096 }
     requires fits { count ≤ 4096 }
     requires near { place + count < 2 ^ 64 }
-    ensures ok { OnOk result (IsGiven (S.source source.now) place count block.new) }
-    ensures err { OnErr result (IsShort (S.contents source.now) place count) }
+    ensures ok { OnOk result (IsGiven (given_of (S.source source.now)) place count block.new) }
+    ensures err { OnErr result (IsShort (given_of (S.source source.now)) place count) }
 {
     fill_bytes(source, &mut block[..count], place)?;
     clear(&mut block[count..]);
@@ -30,11 +30,11 @@ pub(crate) fn fill_block<S: Contents>(
 }
 
 /// Fills a room with bytes of a file.
-fn fill_bytes<S: Contents>(source: &S, room: &mut [u8], place: u64) -> Result<(), Unread>
+pub(crate) fn fill_bytes<S: Contents>(source: &S, room: &mut [u8], place: u64) -> Result<(), Unread>
     requires { place + length room.old < 2 ^ 64 }
-    ensures ok { OnOk result (MayGive (S.source source.now) place room.new) }
+    ensures ok { OnOk result (Allows (given_of (S.source source.now)) place room.new) }
     ensures bytes { AreBytes room.new }
-    ensures err { OnErr result (IsShort (S.contents source.now) place (length room.old)) }
+    ensures err { OnErr result (IsShort (given_of (S.source source.now)) place (length room.old)) }
 {
     fill(source, room, place)
 }

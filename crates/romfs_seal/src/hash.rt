@@ -1,12 +1,12 @@
 //! The hash of a block.
 
 ghost use Rattle.std.specs.Prelude.{◌≡◌, ℕ, List};
-ghost use Rattle.romfs_seal.specs.declared.algorithm.Algorithm.{Algorithm};
-ghost use Rattle.romfs_seal.specs.Tree.{IsDigest};
+ghost use Rattle.devices.specs.declared.algorithm.Algorithm.{Algorithm};
+ghost use Rattle.devices.specs.Tree.{IsDigest};
 ghost use Rattle.romfs_seal.specs.Digests.{digest_bytes};
 
-use crate::algorithm::Algorithm;
 use crate::digest::Digest;
+use devices::Algorithm;
 use sha2::{Digest as Hasher, Sha256, Sha512};
 
 /// A hash: it takes bytes to a digest.

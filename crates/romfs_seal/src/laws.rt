@@ -1,10 +1,10 @@
 //! That the premise is met.
 
 ghost use Rattle.std.specs.Prelude.{List, ℕ};
-ghost use Rattle.romfs_seal.specs.Tree.{IsDigest};
-ghost use Rattle.romfs_seal.specs.Seal.{Seal};
-ghost use Rattle.romfs_seal.specs.Read.{IsUnmatched};
-ghost use Rattle.romfs_seal.specs.Honest.{IsHonest};
+ghost use Rattle.devices.specs.Tree.{IsDigest};
+ghost use Rattle.devices.specs.Seal.{Seal};
+ghost use Rattle.devices.specs.Read.{IsUnmatched};
+ghost use Rattle.devices.specs.Honest.{IsHonest};
 
 /// It is met by any bytes that are held with their tree, under any hash. So of these what is read is
 /// right, and no premise is left.

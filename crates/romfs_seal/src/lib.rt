@@ -8,34 +8,34 @@
 //!   not.
 //! - [`BlockHash`] is a hash of blocks, [`Algorithm`] fs-verity's two, and [`Digest`] what they
 //!   give. [`descriptor_of`] makes the descriptor of a file, whose digest is the file's.
-//! - `specs/Tree` defines the tree over whole blocks, `specs/File` the descriptor and the digest of
-//!   a file; [`examples`] computes digests that `fsverity digest` printed.
-//! - `specs/Vouched` says what a digest says of blocks that were read, by the blocks of digests on
-//!   the way to it; [`tree_laws`] says what follows.
+//! - The definitions are of `devices`: `Tree` has the tree over whole blocks, `File` the descriptor
+//!   and the digest of a file; [`examples`] computes digests that `fsverity digest` printed.
+//!   `Vouched` says what a digest says of blocks that were read, by the blocks of digests on the way
+//!   to it; [`tree_laws`] says what follows.
+//! - [`SealedImage`] is what others see of a file that was opened, its seal alone.
 //!
 //! What is read is right, unless a read gives, in place of a block of the file or of its tree,
-//! another block with that block's digest (`specs/Read`). Nothing is assumed of the hash alone.
+//! another block with that block's digest (`Read` of `devices`). Nothing is assumed of the hash alone.
 //! [`laws`] says that this holds of bytes in memory.
-//!
-//! The program does not use this crate yet.
 #![tactic(auto)]
 
-mod algorithm;
 mod descriptor;
 mod digest;
 pub mod examples;
 mod files;
 mod filling;
 mod hash;
+mod image;
 pub mod laws;
 mod opening;
 mod sealed;
 pub mod tree_laws;
 
-pub use algorithm::Algorithm;
 pub use descriptor::descriptor_of;
+pub use devices::Algorithm;
 pub use digest::Digest;
 pub use files::{Files, NamedFiles};
 pub use hash::BlockHash;
+pub use image::SealedImage;
 pub use opening::SealFault;
 pub use sealed::Sealed;

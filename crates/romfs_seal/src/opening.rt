@@ -1,18 +1,18 @@
 //! What is kept of a tree is read, and held against the digest.
 
 ghost use Rattle.std.specs.Prelude.{◌≡◌, ◌⊎◌, ◌+◌, ◌*◌, ◌<◌, ◌≤◌, ◌^◌, false, length, IfOk, IfErr, IsTrue};
-ghost use Rattle.romfs_seal.specs.Tree.{AreBytes, HasLevels, blocks_above, above, root, tree_blocks};
-ghost use Rattle.romfs_seal.specs.File.{blocks_of};
+ghost use Rattle.devices.specs.Tree.{AreBytes, HasLevels, blocks_above, above, root, tree_blocks};
+ghost use Rattle.devices.specs.File.{blocks_of};
 ghost use Rattle.romfs_seal.specs.Digests.{digest_bytes};
 ghost use Rattle.romfs_seal.specs.declared.opening.SealFault.TheVariants.{Memory, Unread as NotRead};
-ghost use Rattle.romfs_seal.specs.Seal.{IsTop, MayBeFirst, MayBeKept, MayBeOnly, kept_len, lowest_place};
-ghost use Rattle.romfs_seal.specs.Honest.{IsTampered};
+ghost use Rattle.devices.specs.Seal.{IsTop, MayBeFirst, MayBeKept, MayBeOnly, kept_len, lowest_place};
+ghost use Rattle.devices.specs.Honest.{IsTampered};
 
 use crate::files::NamedFiles;
 use crate::filling::BLOCK;
 use crate::sealed::Sealed;
-use crate::{Algorithm, Digest, descriptor_of};
-use devices::Unread;
+use crate::{Digest, descriptor_of};
+use devices::{Algorithm, Unread};
 use std::alloc::{AllocError, AllocFailed, Allocator};
 
 /// The size that no file reaches.

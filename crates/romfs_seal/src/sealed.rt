@@ -1,16 +1,15 @@
 //! Reading under a digest.
 
 ghost use Rattle.std.specs.Prelude.{◌≡◌, ◌+◌, ◌-◌, ◌*◌, ◌/◌, ◌%◌, ◌<◌, ◌≤◌, ◌^◌, ◌++◌, ℕ, List, length, take, drop, min, IfOk, OnOk, OnErr};
-ghost use Rattle.romfs_seal.specs.Tree.{fan};
-ghost use Rattle.romfs_seal.specs.File.{blocks_of};
-ghost use Rattle.romfs_seal.specs.Read.{IsUnmatched, AreRead};
+ghost use Rattle.devices.specs.Tree.{fan};
+ghost use Rattle.devices.specs.File.{blocks_of};
+ghost use Rattle.devices.specs.Read.{IsUnmatched, AreRead};
 ghost use Rattle.romfs_seal.specs.Kept.{IsOpened, IsLeaf, first_under, run_end};
-ghost use Rattle.romfs_seal.specs.Honest.{IsTampered};
+ghost use Rattle.devices.specs.Honest.{IsTampered};
 
-use crate::Algorithm;
 use crate::files::{NamedFiles, has_digest};
 use crate::filling::BLOCK;
-use devices::Unread;
+use devices::{Algorithm, Contents, Unread};
 use std::alloc::Allocator;
 
 /// A file whose digest is known. Of its tree the digests of the lowest hash blocks are kept; those
@@ -161,13 +160,6 @@ impl<F: NamedFiles, A: Allocator> Sealed<F, A> {
         Ok(())
     }
 
-    /// How many bytes there are.
-    pub fn size(&self) -> u64
-        ensures { result ≡ (F.seal self.now.files).size }
-    {
-        self.files.size()
-    }
-
     /// Puts the bytes from an offset on at the front of the room, and says how many: all that there
     /// is room for, or all up to the end. `Unread` comes where a read failed or was short, and where
     /// a block or the hash block over it has not the digest that it should have; what the room holds
@@ -190,6 +182,23 @@ impl<F: NamedFiles, A: Allocator> Sealed<F, A> {
         let count = room.len().min((size - offset) as usize);
         self.read_all(offset, &mut room[..count])?;
         Ok(count)
+    }
+}
+
+/// What is shown is the file that has the digest, if no read gives, in the place of a block,
+/// another with its digest; what is given are bytes for which the digest vouches. A read fails only
+/// if the files are not the named ones.
+impl<F: NamedFiles, A: Allocator> Contents for Sealed<F, A> {
+    ghost use Rattle.devices.specs.Sources.{sealed};
+
+    ghost source = { λ image. sealed (F.seal image.files) };
+
+    fn size(&self) -> u64 {
+        self.files.size()
+    }
+
+    fn read_at(&self, room: &mut [u8], offset: u64) -> Result<usize, Unread> {
+        self.read_at(room, offset)
     }
 }
 

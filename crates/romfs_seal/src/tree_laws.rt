@@ -1,9 +1,9 @@
 //! What follows of a digest.
 
 ghost use Rattle.std.specs.Prelude.{◌≡◌, ◌⊎◌, ◌<◌, ℕ, List};
-ghost use Rattle.romfs_seal.specs.Tree.{AreBlocks, HasLevels, block, root};
-ghost use Rattle.romfs_seal.specs.File.{IsFileDigest};
-ghost use Rattle.romfs_seal.specs.Vouched.{Vouches};
+ghost use Rattle.devices.specs.Tree.{AreBlocks, HasLevels, block, root};
+ghost use Rattle.devices.specs.File.{IsFileDigest};
+ghost use Rattle.devices.specs.Vouched.{Vouches};
 ghost use Rattle.romfs_seal.specs.Twins.{IsForged, AreForged};
 
 use crate::hash::BlockHash;

@@ -1,5 +1,6 @@
 -- Over what was gathered from images, with sources that hold them, a request may get the reply that is defined over the images
--- (told_alike), and no other (told_too), and moves the same lookups (moved_alike). From any sources it gets that reply, if it is no READ
+-- (told_alike, told_same), and no other (told_too), and moves the same lookups (moved_alike). From sources that show them it gets that reply, or EIO
+-- (told_right). From any sources it gets that reply, if it is no READ
 -- (told_others), and else one as long after its header, or EIO (told_front).
 use Rattle.std.proofs.Common.{◌≡◌, ◌≢◌, ◌⊎◌, ◌∙◌, sym, ap, subst, ℕ, List, map, Option, Some, None, refl}
 use Rattle.std.specs.Prelude.{slice_get}
@@ -15,7 +16,9 @@ use Rattle.stack_model.specs.Numbers.{Place}
 use Rattle.stack_model.proofs.Listings.{one_listing}
 use Rattle.reply_model.specs.declared.session.Session.{Session}
 use Rattle.reply_model.specs.Moves.{moves}
-use Rattle.reply_model.specs.Readings.{sourced, IsReplyOver}
+use Rattle.reply_model.specs.Holding.{AreHeldBy}
+use Rattle.reply_model.proofs.HeldData.{are_held}
+use Rattle.reply_model.specs.Readings.{sourced, AreShown, IsReplyOver, IsRightOver}
 use Rattle.reply_model.specs.Replies.{reply}
 use Rattle.serve_core.specs.Kept.{AreStacksOf}
 use Rattle.serve_core.proofs.Layers.{LookSame, look_back, listing_goes, entry_pair}
@@ -23,7 +26,7 @@ use Rattle.serve_core.proofs.Moving.{moves_same}
 use Rattle.serve_core.proofs.Nodes.{IsNode}
 use Rattle.serve_core.proofs.Places.{IsSamePlace, place_same, blocks_same}
 use Rattle.serve_core.proofs.Stacking.{look_all, rows_all}
-use Rattle.serve_core.proofs.Telling.{HasFront, told_of, told_back, others_of, front_of}
+use Rattle.serve_core.proofs.Telling.{HasFront, told_of, told_back, right_of, others_of, front_of}
 
 some_of : (o : Option (List ℕ)) (y : List ℕ) → option_map image o ≡ Some y → (b : List ℕ) × (o ≡ Some b)
 some_of None y i = absurd (cc)
@@ -76,12 +79,25 @@ module _ (images : List (List ℕ)) (a b : Stacked) (k : AreStacksOf images a b)
       subst (λ (r : Place). (c : List ℕ) × (slice_get images r.0 ≡ Some c)) i
       (some_of (slice_get images e.layer) q.b (sym (slice_get-map image images e.layer) ∙ q.b_is))
 
-  pub told_alike : (s : Session) (q : Asked) (bytes : List ℕ) → IsReplyOver (sourced a (map held images)) s q bytes → bytes ≡ reply b s q
-  told_alike s q bytes t =
-      told_of (map image kept) images b.entries b.rows b.owner a.whole b.whole same there
-      (blocks_same (map image kept) (map image images) looks) s q.unique q.node bytes q.op
-      (subst (λ st. IsReplyOver (sourced st (map held images)) s q bytes) a_is t)
+  pub told_same : (sources : List Source) → AreHeldBy sources images → (s : Session) (q : Asked) (bytes : List ℕ)
+      → IsReplyOver (sourced a sources) s q bytes → bytes ≡ reply b s q
+  told_same sources kept s q bytes t =
+      told_of (map image k.kept) images b.entries b.rows b.owner a.whole b.whole same there
+      (blocks_same (map image k.kept) (map image images) looks) s q.unique q.node bytes sources kept q.op
+      (subst (λ st. IsReplyOver (sourced st sources) s q bytes) a_is t)
       ∙ sym (ap (λ st. reply st s q) b_is)
+
+  pub told_alike : (s : Session) (q : Asked) (bytes : List ℕ) → IsReplyOver (sourced a (map held images)) s q bytes → bytes ≡ reply b s q
+  told_alike s q bytes t = told_same (map held images) (are_held images) s q bytes t
+
+  pub told_right : (sources : List Source) → AreShown sources images → (s : Session) (q : Asked) (bytes : List ℕ)
+      → IsReplyOver (sourced a sources) s q bytes → IsRightOver (sourced a sources) (reply b s q) q bytes
+  told_right sources shown s q bytes t =
+      subst (λ st. IsRightOver (sourced st sources) (reply b s q) q bytes) (sym a_is)
+      (subst (λ d. IsRightOver (sourced kept_stack sources) d q bytes) (sym (ap (λ st. reply st s q) b_is))
+      (right_of (map image kept) images b.entries b.rows b.owner a.whole b.whole same there
+      (blocks_same (map image kept) (map image images) looks) s q.unique q.node bytes sources shown q.op
+      (subst (λ st. IsReplyOver (sourced st sources) s q bytes) a_is t)))
 
   pub told_too : (s : Session) (q : Asked) (bytes : List ℕ) → bytes ≡ reply b s q → IsReplyOver (sourced a (map held images)) s q bytes
   told_too s q bytes t =

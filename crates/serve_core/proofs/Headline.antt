@@ -1,6 +1,6 @@
 -- The result of serving over images, in the terms of the headline: served over good images, or refused, for a wrong number or a broken
 -- layer. Each is what `serve` promises, with its other cases ruled out.
-use Rattle.std.proofs.Common.{◌≡◌, ◌∙◌, sym, ap, subst, length, ℕ, List, map, inl, inr, Result, Ok, Err, IfOk, IsErrAnd, refl}
+use Rattle.std.proofs.Common.{◌≡◌, ◌∙◌, sym, ap, subst, length, ℕ, List, [], ◌∷◌, map, inl, inr, Result, Ok, Err, IfOk, IsErrAnd, refl}
 use Rattle.devices.specs.States.{Devices}
 use Rattle.romfs_format.specs.declared.rule.ImageFault.{ImageFault}
 use Rattle.stack_model.specs.Numbers.{nodes}
@@ -11,12 +11,13 @@ use Rattle.stack_prepare.specs.Layers.{AreRefused}
 use Rattle.stack_prepare.specs.Preparing.{AreStacked}
 use Rattle.reply_model.specs.declared.session.Session.{Session}
 use Rattle.reply_model.specs.Replies.{reply}
-use Rattle.reply_model.specs.Streams.{replies}
-use Rattle.reply_model.specs.Readings.{Sourced, in_memory, sourced}
+use Rattle.reply_model.specs.Sessions.{session_after}
+use Rattle.reply_model.specs.Streams.{AreReplies, replies}
+use Rattle.reply_model.specs.Readings.{Sourced, in_memory, sourced, AreShown, IsRightOver}
 use Rattle.reply_model.proofs.Following.{as_defined}
-use Rattle.reply_model.proofs.HeldData.{held_layers_told}
-use Rattle.devices.specs.Sources.{held}
-use Rattle.fuse_wire.specs.Requests.{asked}
+use Rattle.reply_model.proofs.HeldData.{held_layers_told, shown_layers_told}
+use Rattle.devices.specs.Sources.{Source, held}
+use Rattle.fuse_wire.specs.Requests.{Asked, asked}
 use Rattle.serve_loop.specs.Rounds.{IsReply}
 use Rattle.serve_loop.specs.Laws.{HasServed}
 use Rattle.reply_pool.specs.Answers.{answering, answering_from}
@@ -29,7 +30,7 @@ use Rattle.serve_core.specs.declared.terms.Counted.TheVariants.{AllNodes}
 use Rattle.serve_core.specs.declared.stop.Stop.{Stop}
 use Rattle.serve_core.specs.declared.stop.Stop.TheVariants.{Layer, Layers}
 use Rattle.serve_core.specs.Stops.{IsRefusal, stop_of_refusal}
-use Rattle.serve_core.specs.Headline.{Call, HasServedAll, HasServedOver, IsAtOnce, IsNotBegun, IsRefusedFor, RunsWithin, ServesBetween, bounds_over}
+use Rattle.serve_core.specs.Headline.{AreRightReplies, Call, HasServedAll, HasServedOver, IsAtOnce, IsNotBegun, IsRefusedFor, RunsWithin, ServesBetween, bounds_over}
 use Rattle.serve_core.proofs.Stops.{broken_told, ended_well, many_told, never_broken, never_many, same_stop}
 
 -- what workers gave back over one stack answers the stream of any other that is the same
@@ -58,6 +59,21 @@ pub as_replied_from : (first : Session) (stack : Stacked) (messages : List (List
 as_replied_from first stack messages bytes are =
     let by = sourced stack (map held stack.layers) in
     as_defined (IsReply (answering_from first by)) (reply stack) (held_layers_told stack) first (map asked messages) bytes are
+
+-- what may be replied to each request goes for those one after another
+pub replies_go : (P Q : Session → Asked → List ℕ → Type 0) → ((s : Session) (q : Asked) (x : List ℕ) → P s q x → Q s q x) → (s : Session)
+    (qs : List Asked) (bytes : List ℕ) → AreReplies P s qs bytes → AreReplies Q s qs bytes
+replies_go P Q f s [] bytes r = r
+replies_go P Q f s (q ∷ qs) bytes (one, rest, e, x, r) = (one, rest, e, f s q one x, replies_go P Q f (session_after s q.op) qs rest r)
+
+-- possible replies from sources that show the layers are right
+pub right_replies : (first : Session) (stack : Stacked) (sources : List Source) → AreShown sources stack.layers
+    → (messages : List (List ℕ)) (bytes : List ℕ) → AreRepliesTo (answering_from first (sourced stack sources)) messages bytes
+    → AreRightReplies first (sourced stack sources) stack messages bytes
+right_replies first stack sources shown messages bytes are =
+    replies_go (IsReply (answering_from first (sourced stack sources)))
+    (λ s q told. IsRightOver (sourced stack sources) (reply stack s q) q told) (shown_layers_told stack sources shown) first
+    (map asked messages) bytes are
 
 all_served : {A : Type 0} (first : Session) (stack : Stacked) (done : Done A) (t : Trace)
     → HasServed (answering first stack) (length (nodes stack.entries)) t done → HasServedOver first stack done t

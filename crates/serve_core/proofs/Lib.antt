@@ -13,5 +13,6 @@ pub mod Refused
 pub mod Stacking
 pub mod Answered
 pub mod Streams
+pub mod Shown
 pub mod Themselves
 pub mod WorkedTrailer

@@ -1,12 +1,12 @@
--- Possible replies over what was gathered from images: if data are read from sources that hold exactly the images' bytes, the reply that is
--- defined over the images (told_of), and no other (told_back). From any sources, that reply, if it is to no READ (others_of); and to a READ
--- one as long after its header, or EIO (front_of).
-use Rattle.std.proofs.Common.{◌⊎◌, ◌≡◌, ◌≢◌, ◌∙◌, sym, ap, subst, ℕ, ◌+◌, ◌-◌, ◌<◌, List, [], ◌∷◌, Bool, length, take, drop, map, min, inl, inr, Option, Some, None, refl, arith, length-take, length-drop, if◌then◌else◌}
+-- Possible replies over what was gathered from images: if data are read from sources that hold the images' bytes, the reply that is
+-- defined over the images (told_of), and no other (told_back); from sources that show them that reply, or EIO (right_of). From any sources,
+-- that reply, if it is to no READ (others_of); and to a READ one as long after its header, or EIO (front_of).
+use Rattle.std.proofs.Common.{◌⊎◌, ◌≡◌, ◌≢◌, ◌∙◌, sym, ap, subst, ℕ, zero, suc, ◌+◌, ◌-◌, ◌<◌, List, [], ◌∷◌, Bool, length, take, drop, map, min, inl, inr, Option, Some, None, refl, arith, length-take, length-drop, if◌then◌else◌}
 use Rattle.std.specs.Prelude.{slice_get}
 use Rattle.std.specs.Option.{option_map, option_map_or, option_and_then}
 use Rattle.std.proofs.lemmas.List.{take_at}
 use Rattle.std.proofs.lemmas.Option.{slice_get-map, get_or_from_slice_get}
-use Rattle.devices.specs.Sources.{Source, held, MayLack, MayGive}
+use Rattle.devices.specs.Sources.{Source, held, MayLack, MayGive, Shows}
 use Rattle.devices.proofs.Held.{held_may}
 use Rattle.stack_model.specs.declared.owner.Owner.{Owner}
 use Rattle.romfs_format.specs.declared.attribute_row.AttributeRow.{AttributeRow}
@@ -17,9 +17,8 @@ use Rattle.fuse_wire.specs.declared.errno.Errno.TheVariants.{EIO}
 use Rattle.fuse_wire.specs.Requests.{NodeOp, Op, read, at_node, statfs}
 use Rattle.fuse_wire.specs.Replies.{reply_head, reply_with, error_reply}
 use Rattle.fuse_wire.specs.Structures.{statfs_out}
-use Rattle.fuse_wire.specs.Told.{IsTold, Reading}
+use Rattle.fuse_wire.specs.Told.{IsTold, IsRight, Reading}
 use Rattle.fuse_wire.proofs.Sizes.{length-head, length-reply_with}
-use Rattle.fuse_wire.proofs.Telling.{held_told}
 use Rattle.stack_model.specs.Listing.{Entry, Stacked}
 use Rattle.stack_model.specs.Numbers.{Place, node_of, nodes}
 use Rattle.stack_model.specs.Attributes.{layer_of, size_at, data_start, data_of, blocks_all}
@@ -27,8 +26,9 @@ use Rattle.reply_model.specs.declared.session.Session.{Session}
 use Rattle.reply_model.specs.Sessions.{agreement_of}
 use Rattle.reply_model.specs.Refusals.{first_refusal, refusal}
 use Rattle.reply_model.specs.Replies.{answer, answer_at, reply, is_silent}
-use Rattle.reply_model.specs.Readings.{Sourced, sourced, reading_at, reading_in, IsReplyOver}
-use Rattle.reply_model.proofs.HeldData.{reading_is, window, stands, data_there, data_behind, none_behind}
+use Rattle.reply_model.specs.Holding.{Holds, AreHeldBy}
+use Rattle.reply_model.specs.Readings.{Sourced, sourced, reading_at, reading_in, AreShown, IsReplyOver, IsRightOver}
+use Rattle.reply_model.proofs.HeldData.{AreFrom, reading_is, right_from, same_from, window, stands, data_there, data_behind, none_behind}
 use Rattle.serve_core.proofs.Places.{IsSamePlace}
 use Rattle.serve_core.proofs.Nodes.{IsNode, used_node}
 use Rattle.serve_core.proofs.Replied.{refusal_same, node_answer_same}
@@ -62,6 +62,30 @@ head_before unique bytes = take_at (reply_head unique (length bytes)) bytes OUT_
 image_is : (c : List ℕ) → image c ≡ take (word c 8) c
 unfolding image
 image_is c = refl
+
+-- each of the images has a source that has its bytes, in this sense
+abbrev pub AllHave : (Source → List ℕ → Type 0) → List Source → List (List ℕ) → Type 0
+AllHave P sources images =
+    (k : ℕ) (xs : List ℕ) → slice_get images k ≡ Some xs → (source : Source) × (slice_get sources k ≡ Some source) × P source xs
+
+all_held : (images : List (List ℕ)) → AllHave (λ source xs. source ≡ held xs) (map held images) images
+all_held images k xs is = (held xs, slice_get-map held images k ∙ ap (option_map held) is, refl)
+
+all_kept : (sources : List Source) (images : List (List ℕ)) → AreHeldBy sources images → AllHave Holds sources images
+all_kept [] [] s k xs is = absurd (cc)
+all_kept (x ∷ sources) (ys ∷ images) s zero xs is =
+    (x, refl, subst (λ (l : List ℕ). Holds x l) (let e : ys ≡ xs = cc in e) s.0)
+all_kept (x ∷ sources) (ys ∷ images) s (suc k) xs is = all_kept sources images s.1 k xs is
+all_kept [] (ys ∷ images) s k xs is = absurd s
+all_kept (x ∷ sources) [] s k xs is = absurd s
+
+all_shown : (sources : List Source) (images : List (List ℕ)) → AreShown sources images → AllHave Shows sources images
+all_shown [] [] s k xs is = absurd (cc)
+all_shown (x ∷ sources) (ys ∷ images) s zero xs is =
+    (x, refl, subst (λ (l : List ℕ). Shows x l) (let e : ys ≡ xs = cc in e) s.0)
+all_shown (x ∷ sources) (ys ∷ images) s (suc k) xs is = all_shown sources images s.1 k xs is
+all_shown [] (ys ∷ images) s k xs is = absurd s
+all_shown (x ∷ sources) [] s k xs is = absurd s
 
 -- as long as a reply, and behind the same header
 abbrev pub HasFront : List ℕ → List ℕ → Type 0
@@ -205,16 +229,6 @@ module _ (la bs : List (List ℕ)) (es : List Entry) (rs : List (List AttributeR
     its_image : (c : List ℕ) × (slice_get bs p.0 ≡ Some c)
     its_image = there p (used_node es node p at)
 
-    abbrev reading : Reading
-    reading = record { source = held (its_image.0); place = data_start la p + offset }
-
-    reading_same : reading_in (by (map held bs)) node op ≡ Some reading
-    reading_same =
-        ap (reading_in (by (map held bs)) node) is
-        ∙ ap (λ (o : Option Place). option_and_then (reading_at (by (map held bs)) (read offset size)) o) at
-        ∙ ap (option_map (λ source. record { source = source; place = data_start la p + offset }))
-        (slice_get-map held bs p.0 ∙ ap (option_map held) its_image.1)
-
     in_image : drop OUT_HEADER_SIZE (defined b op)
         ≡ take (length (drop OUT_HEADER_SIZE (defined b op))) (drop (data_start la p + offset) its_image.0)
     in_image =
@@ -226,18 +240,43 @@ module _ (la bs : List (List ℕ)) (es : List Entry) (rs : List (List AttributeR
         (read_there offset size p its_image.0 at its_image.1 (refusal b s node (at_node (read offset size)))
         (defined b (at_node (read offset size))) refl))
 
-    read_told : IsTold (reading_in (by (map held bs)) node op) unique (defined a op) bytes → bytes ≡ defined b op
-    read_told t = held_told its_image.0 (data_start la p + offset) unique (defined b op) bytes in_image
-        (told_goes reading unique (defined a op) (defined b op) bytes fronts
-        (subst (λ (o : Option Reading). IsTold o unique (defined a op) bytes) reading_same t))
+    -- each image has a source that has its bytes, in this sense
+    module _ (P : Source → List ℕ → Type 0) (sources : List Source) (all : AllHave P sources bs) where
+      its_source : (source : Source) × (slice_get sources p.0 ≡ Some source) × P source its_image.0
+      its_source = all p.0 its_image.0 its_image.1
+
+      abbrev reading : Reading
+      reading = record { source = its_source.0; place = data_start la p + offset }
+
+      reading_same : reading_in (by sources) node op ≡ Some reading
+      reading_same =
+          ap (reading_in (by sources) node) is
+          ∙ ap (λ (o : Option Place). option_and_then (reading_at (by sources) (read offset size)) o) at
+          ∙ ap (option_map (λ source. record { source = source; place = data_start la p + offset })) its_source.1
+
+      read_from_it : AreFrom P (reading_in (by sources) node op) (defined b op)
+      read_from_it = subst (λ (o : Option Reading). AreFrom P o (defined b op)) (sym reading_same) (its_image.0, its_source.2, in_image)
+
+      read_goes : IsTold (reading_in (by sources) node op) unique (defined a op) bytes
+          → IsTold (reading_in (by sources) node op) unique (defined b op) bytes
+      read_goes t = subst (λ (o : Option Reading). IsTold o unique (defined b op) bytes) (sym reading_same)
+          (told_goes reading unique (defined a op) (defined b op) bytes fronts
+          (subst (λ (o : Option Reading). IsTold o unique (defined a op) bytes) reading_same t))
 
     read_back : bytes ≡ defined b op → IsTold (reading_in (by (map held bs)) node op) unique (defined a op) bytes
-    read_back e = subst (λ (o : Option Reading). IsTold o unique (defined a op) bytes) (sym reading_same) (inl (record {
-      long = ap length e ∙ sym fronts.long;
-      head = ap (take OUT_HEADER_SIZE) e ∙ sym fronts.head;
-      given = subst (λ xs. MayGive (held its_image.0) (data_start la p + offset) xs) (sym in_image ∙ sym (ap (drop OUT_HEADER_SIZE) e))
-          (held_may its_image.0 (data_start la p + offset) (length (drop OUT_HEADER_SIZE (defined b op))));
-    }))
+    read_back e =
+        let P : Source → List ℕ → Type 0 = λ source xs. source ≡ held xs in
+        let from : Source = (its_source P (map held bs) (all_held bs)).0 in
+        let holds : from ≡ held its_image.0 = (its_source P (map held bs) (all_held bs)).2 in
+        let place : ℕ = data_start la p + offset in
+        let there = sym (reading_same P (map held bs) (all_held bs)) in
+        subst (λ (o : Option Reading). IsTold o unique (defined a op) bytes) there (inl (record {
+          long = ap length e ∙ sym fronts.long;
+          head = ap (take OUT_HEADER_SIZE) e ∙ sym fronts.head;
+          given = subst (λ (z : Source). MayGive z place (drop OUT_HEADER_SIZE bytes)) (sym holds)
+              (subst (λ xs. MayGive (held its_image.0) place xs) (sym in_image ∙ sym (ap (drop OUT_HEADER_SIZE) e))
+              (held_may its_image.0 place (length (drop OUT_HEADER_SIZE (defined b op)))));
+        }))
 
     front_told : (o : Option Reading) → IsTold o unique (defined a op) bytes
         → HasFront (defined b op) bytes ⊎ (bytes ≡ error_reply unique EIO)
@@ -247,11 +286,36 @@ module _ (la bs : List (List ℕ)) (es : List Entry) (rs : List (List AttributeR
 
   -- ---- each request
 
-  told_by : (op : Op) → IsPlain op ⊎ IsReadOf op → IsTold (reading_in (by (map held bs)) node op) unique (defined a op) bytes
-      → bytes ≡ defined b op
-  unfolding IsPlain IsReadOf
-  told_by op (inl k) t = subst (λ (o : Option Reading). IsTold o unique (defined a op) bytes) (k.0 (map held bs)) t ∙ k.1
-  told_by op (inr (offset, size, p, is, at)) t = read_told op offset size p is at t
+  -- what may be told over what was gathered may be told over the images, and stands in them
+  module _ (P : Source → List ℕ → Type 0) (sources : List Source) (all : AllHave P sources bs) where
+    GoesOver : Op → Type 0
+    GoesOver op = AreFrom P (reading_in (by sources) node op) (defined b op)
+        × IsTold (reading_in (by sources) node op) unique (defined b op) bytes
+
+    goes_by : (op : Op) → IsPlain op ⊎ IsReadOf op → IsTold (reading_in (by sources) node op) unique (defined a op) bytes → GoesOver op
+    unfolding IsPlain IsReadOf GoesOver
+    goes_by op (inl k) t = (
+      subst (λ (o : Option Reading). AreFrom P o (defined b op)) (sym (k.0 sources)) tt,
+      subst (λ (o : Option Reading). IsTold o unique (defined b op) bytes) (sym (k.0 sources))
+          (subst (λ (o : Option Reading). IsTold o unique (defined a op) bytes) (k.0 sources) t ∙ k.1),
+    )
+    goes_by op (inr (offset, size, p, is, at)) t =
+        (read_from_it op offset size p is at P sources all, read_goes op offset size p is at P sources all t)
+
+  told_by : (sources : List Source) → AreHeldBy sources bs → (op : Op) → IsPlain op ⊎ IsReadOf op
+      → IsTold (reading_in (by sources) node op) unique (defined a op) bytes → bytes ≡ defined b op
+  unfolding GoesOver
+  told_by sources kept op k t =
+      let g = goes_by Holds sources (all_kept sources bs kept) op k t in
+      same_from (reading_in (by sources) node op) unique (defined b op) bytes g.0 g.1
+
+  right_by : (sources : List Source) → AreShown sources bs → (op : Op) → IsPlain op ⊎ IsReadOf op
+      → IsTold (reading_in (by sources) node op) unique (defined a op) bytes
+      → IsRight (reading_in (by sources) node op) unique (defined b op) bytes
+  unfolding GoesOver
+  right_by sources shown op k t =
+      let g = goes_by Shows sources (all_shown sources bs shown) op k t in
+      right_from (reading_in (by sources) node op) unique (defined b op) bytes g.0 g.1
 
   back_by : (op : Op) → IsPlain op ⊎ IsReadOf op → bytes ≡ defined b op
       → IsTold (reading_in (by (map held bs)) node op) unique (defined a op) bytes
@@ -280,8 +344,9 @@ module _ (la bs : List (List ℕ)) (es : List Entry) (rs : List (List AttributeR
   reads sources op t = subst (λ (o : Option Reading). IsTold o unique (defined a op) bytes)
       (reading_is a sources (record { unique = unique; node = node; op = op })) t
 
-  pub told_of : (op : Op) → IsReplyOver (by (map held bs)) s (record { unique = unique; node = node; op = op }) bytes → bytes ≡ defined b op
-  told_of op t = told_by op (kind_of op) (reads (map held bs) op t)
+  pub told_of : (sources : List Source) → AreHeldBy sources bs → (op : Op)
+      → IsReplyOver (by sources) s (record { unique = unique; node = node; op = op }) bytes → bytes ≡ defined b op
+  told_of sources kept op t = told_by sources kept op (kind_of op) (reads sources op t)
 
   pub told_back : (op : Op) → bytes ≡ defined b op
       → IsReplyOver (by (map held bs)) s (record { unique = unique; node = node; op = op }) bytes
@@ -295,3 +360,11 @@ module _ (la bs : List (List ℕ)) (es : List Entry) (rs : List (List AttributeR
   pub front_of : (sources : List Source) (op : Op) → IsReplyOver (by sources) s (record { unique = unique; node = node; op = op }) bytes
       → HasFront (defined b op) bytes ⊎ (bytes ≡ error_reply unique EIO)
   front_of sources op t = front_by sources op (kind_of op) (reads sources op t)
+
+  pub right_of : (sources : List Source) → AreShown sources bs → (op : Op)
+      → IsReplyOver (by sources) s (record { unique = unique; node = node; op = op }) bytes
+      → IsRightOver (by sources) (defined b op) (record { unique = unique; node = node; op = op }) bytes
+  right_of sources shown op t =
+      subst (λ (o : Option Reading). IsRight o unique (defined b op) bytes)
+      (sym (reading_is a sources (record { unique = unique; node = node; op = op })))
+      (right_by sources shown op (kind_of op) (reads sources op t))

@@ -1,7 +1,8 @@
 -- What serving a stream of requests over images promises: prepare, then run.
-use Rattle.std.specs.Prelude.{◌≡◌, ℕ, ◌⊎◌, List, length, Result, Err, OnOk}
+use Rattle.std.specs.Prelude.{◌≡◌, ℕ, ◌⊎◌, List, length, map, Result, Err, OnOk}
 use Rattle.std.specs.Io.KnownBytes.{IsAtEnd}
 use Rattle.devices.specs.States.{Devices}
+use Rattle.fuse_wire.specs.Requests.{asked}
 use Rattle.romfs_format.specs.declared.rule.Profile.{Profile}
 use Rattle.stack_model.specs.declared.owner.Owner.{Owner}
 use Rattle.stack_model.specs.declared.owner.TheConstants.Owner.{ROOT}
@@ -11,12 +12,13 @@ use Rattle.stack_prepare.specs.declared.refusal.Refusal.{Refusal}
 use Rattle.stack_prepare.specs.Layers.{AreRefused}
 use Rattle.stack_prepare.specs.Preparing.{AreStacked}
 use Rattle.reply_model.specs.declared.session.Session.{Session}
-use Rattle.reply_model.specs.Readings.{Sourced, in_memory}
-use Rattle.reply_model.specs.Streams.{replies}
+use Rattle.reply_model.specs.Readings.{Sourced, in_memory, IsRightOver}
+use Rattle.reply_model.specs.Replies.{reply}
+use Rattle.reply_model.specs.Streams.{AreReplies, replies}
 use Rattle.reply_pool.specs.Answers.{answering, answering_from}
 use Rattle.serve_loop.specs.declared.done.Done.{Done}
 use Rattle.serve_loop.specs.declared.stream_fault.StreamFault.{StreamFault}
-use Rattle.serve_loop.specs.Serving.{Trace, Does, IsRun}
+use Rattle.serve_loop.specs.Serving.{AreBalances, Trace, Does, IsRun, moves_of}
 use Rattle.serve_loop.specs.Laws.{HasServed}
 use Rattle.serve_core.specs.declared.terms.Counted.{Counted}
 use Rattle.serve_core.specs.declared.terms.Counted.TheVariants.{AllNodes, NoNodes}
@@ -128,6 +130,23 @@ pub record HasServedOver {A : Type 0} (first : Session) (stack : Stacked) (done 
     (t : Trace) : Type 0 where
   pub served : HasServed (answering first stack) (length (nodes stack.entries)) t done
   pub told : t.put ≡ replies stack first served.messages
+
+-- these bytes are replies to messages, one after another: each is the one that is defined over a
+-- stack; or EIO, if its data are read from a source that may lack them
+abbrev pub AreRightReplies : Session → Sourced → Stacked → List (List ℕ) → List ℕ → Type 0
+AreRightReplies first by stack messages bytes =
+    AreReplies (λ s q told. IsRightOver by (reply stack s q) q told) first (map asked messages)
+    bytes
+
+-- a stream was served to its end from sources, and what was put are such replies to all of its
+-- messages; and lookups are counted as over that stack
+pub record HasServedRight {A : Type 0} (first : Session) (by : Sourced) (stack : Stacked)
+    (done : Done A) (t : Trace) : Type 0 where
+  pub served : HasServed (answering_from first by) (length (nodes stack.entries)) t done
+  pub told : AreRightReplies first by stack served.messages t.put
+  pub balanced :
+      AreBalances (moves_of (answering first stack) served.messages) (length (nodes stack.entries))
+      done.balances.items
 
 -- the images are good, and all messages of the stream were answered over their stack, to its end
 pub record HasServedAll {A : Type 0} (call : Call) (done : Done A) (old new : Devices)

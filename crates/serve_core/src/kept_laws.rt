@@ -19,14 +19,15 @@ ghost use Rattle.stack_prepare.specs.Preparing.{AreStacked};
 ghost use Rattle.reply_model.specs.declared.session.Session.{Session};
 ghost use Rattle.reply_model.specs.Replies.{reply};
 ghost use Rattle.reply_model.specs.Moves.{moves};
-ghost use Rattle.reply_model.specs.Readings.{sourced, IsReplyOver};
+ghost use Rattle.reply_model.specs.Holding.{AreHeldBy};
+ghost use Rattle.reply_model.specs.Readings.{Sourced, sourced, AreShown, IsReplyOver, IsRightOver};
 ghost use Rattle.reply_model.specs.Streams.{replies};
 ghost use Rattle.reply_rounds.specs.Answers.{answering_from};
 ghost use Rattle.serve_loop.specs.declared.done.Done.{Done};
 ghost use Rattle.serve_loop.specs.Serving.{AreRepliesTo, Trace};
 ghost use Rattle.serve_loop.specs.Laws.{HasServed};
-ghost use Rattle.serve_core.specs.Headline.{HasServedOver};
-ghost use Rattle.serve_core.specs.Kept.{WereGatheredFor, AreStacksOf, over};
+ghost use Rattle.serve_core.specs.Headline.{AreRightReplies, HasServedOver, HasServedRight};
+ghost use Rattle.serve_core.specs.Kept.{WereGatheredFor, WereGatheredFrom, AreStacksOf, AreServedAs, over};
 
 use std::alloc::Allocator;
 
@@ -56,12 +57,23 @@ pub fn stacked_as_they_are()
         AreStacked profile owner kept stack → AreStacked profile owner images (over images stack) }
 {}
 
-/// Over what was gathered, with data read from sources that hold the images, a request may only get
-/// the reply that is defined over the images; and it moves the same lookups.
+/// Over what was gathered, with data read from memory that has the images, a request may get the
+/// reply that is defined over the images, and no other; from any sources that hold them that one
+/// alone; from sources that show them that one, or EIO where the source may lack its data. And it
+/// moves the same lookups.
 pub fn answered_as_they_are()
     ensures told { (images : List (List ℕ)) (gathered whole : Stacked) →
         AreStacksOf images gathered whole → (s : Session) (q : Asked) (bytes : List ℕ) →
         (IsReplyOver (sourced gathered (map held images)) s q bytes ↔ (bytes ≡ reply whole s q)) }
+    ensures same { (images : List (List ℕ)) (gathered whole : Stacked) →
+        AreStacksOf images gathered whole → (sources : List Source) → AreHeldBy sources images →
+        (s : Session) (q : Asked) (bytes : List ℕ) →
+        IsReplyOver (sourced gathered sources) s q bytes → bytes ≡ reply whole s q }
+    ensures right { (images : List (List ℕ)) (gathered whole : Stacked) →
+        AreStacksOf images gathered whole → (sources : List Source) → AreShown sources images →
+        (s : Session) (q : Asked) (bytes : List ℕ) →
+        IsReplyOver (sourced gathered sources) s q bytes →
+        IsRightOver (sourced gathered sources) (reply whole s q) q bytes }
     ensures moved { (images : List (List ℕ)) (gathered whole : Stacked) →
         AreStacksOf images gathered whole → (s : Session) (q : Asked) →
         moves gathered s q ≡ moves whole s q }
@@ -82,15 +94,45 @@ pub fn only_data_are_read()
         ⊎ (bytes ≡ error_reply q.unique EIO) }
 {}
 
-/// A stream is served as over the images, to its end.
+/// From sources that hold the images a stream is served as over the images, to its end; from
+/// sources that show them with EIO in place of data that may be lacking.
 pub fn streams_are_served_as_over_them<A: Allocator>()
     ensures told { (images : List (List ℕ)) (gathered whole : Stacked) →
-        AreStacksOf images gathered whole →
+        AreStacksOf images gathered whole → (sources : List Source) → AreHeldBy sources images →
         (first : Session) (messages : List (List ℕ)) (bytes : List ℕ) →
-        AreRepliesTo (answering_from first (sourced gathered (map held images))) messages bytes →
+        AreRepliesTo (answering_from first (sourced gathered sources)) messages bytes →
         bytes ≡ replies whole first messages }
     ensures served { (images : List (List ℕ)) (gathered whole : Stacked) →
-        AreStacksOf images gathered whole → (first : Session) (t : Trace) (done : Done A) →
-        HasServed (answering_from first (sourced gathered (map held images)))
+        AreStacksOf images gathered whole → (sources : List Source) → AreHeldBy sources images →
+        (first : Session) (t : Trace) (done : Done A) →
+        HasServed (answering_from first (sourced gathered sources))
         (length (nodes gathered.entries)) t done → HasServedOver first whole done t }
+    ensures right { (images : List (List ℕ)) (gathered whole : Stacked) →
+        AreStacksOf images gathered whole → (sources : List Source) → AreShown sources images →
+        (first : Session) (messages : List (List ℕ)) (bytes : List ℕ) →
+        AreRepliesTo (answering_from first (sourced gathered sources)) messages bytes →
+        AreRightReplies first (sourced gathered sources) whole messages bytes }
+    ensures served_right { (images : List (List ℕ)) (gathered whole : Stacked) →
+        AreStacksOf images gathered whole → (sources : List Source) → AreShown sources images →
+        (first : Session) (t : Trace) (done : Done A) →
+        HasServed (answering_from first (sourced gathered sources))
+        (length (nodes gathered.entries)) t done →
+        HasServedRight first (sourced gathered sources) whole done t }
+{}
+
+/// What was gathered from sources is served as any images are that the sources show: it is refused
+/// for what they are refused for; and once it is stacked they are good, each reply is the one that
+/// is defined over them, or EIO in place of data, and the same lookups are moved. A sealed source
+/// shows any bytes with its digest, unless a read gives, in the place of a block of theirs or of
+/// their tree, another block with that block's digest.
+pub fn shown_images_are_served()
+    ensures refused { (profile : Profile) (sources : List Source) (images kept : List (List ℕ)) →
+        WereGatheredFrom profile sources kept → AreShown sources images → (r : Refusal) →
+        (AreRefused profile kept r ↔ AreRefused profile images r) }
+    ensures served { (profile : Profile) (owner : Owner) (by : Sourced)
+        (images kept : List (List ℕ)) → WereGatheredFrom profile by.sources kept → AreStacked profile owner kept by.stack →
+        AreShown by.sources images → AreServedAs profile owner by images }
+    ensures stacks { (profile : Profile) (owner : Owner) (by : Sourced)
+        (images kept : List (List ℕ)) → WereGatheredFrom profile by.sources kept → AreStacked profile owner kept by.stack →
+        AreShown by.sources images → AreStacksOf images by.stack (over images by.stack) }
 {}

@@ -14,20 +14,21 @@ ghost use Rattle.serve_loop.specs.declared.done.Done.{Done};
 ghost use Rattle.serve_loop.specs.Serving.{AreRepliesTo};
 ghost use Rattle.stack_model.specs.Listing.{Stacked};
 ghost use Rattle.reply_model.specs.declared.session.Session.{Session};
-ghost use Rattle.devices.specs.Sources.{held};
-ghost use Rattle.reply_model.specs.Readings.{in_memory, sourced};
+ghost use Rattle.devices.specs.Sources.{Source, held};
+ghost use Rattle.reply_model.specs.Readings.{in_memory, sourced, AreShown};
 ghost use Rattle.reply_model.specs.Streams.{replies};
 ghost use Rattle.reply_pool.specs.Answers.{answering, answering_from};
 ghost use Rattle.serve_core.specs.declared.stop.Stop.{Stop};
 ghost use Rattle.serve_core.specs.declared.stop.Stop.TheVariants.{Layer, Layers};
 ghost use Rattle.serve_core.specs.declared.terms.Counted.TheVariants.{AllNodes};
 ghost use Rattle.serve_core.specs.Stops.{stop_of_refusal};
-ghost use Rattle.serve_core.specs.Headline.{Call, ServesBetween, HasServedAll, IsRefusedFor, IsAtOnce, RunsWithin, bounds_over};
+ghost use Rattle.serve_core.specs.Headline.{Call, ServesBetween, AreRightReplies, HasServedAll, IsRefusedFor, IsAtOnce, RunsWithin, bounds_over};
 
 use std::alloc::Allocator;
 
 /// If layers are held in memory, messages may only be answered with their defined replies, one
 /// after another; the same if their data are read from sources that hold exactly the layers' bytes.
+/// From sources that show these bytes a READ of data may be answered with EIO instead.
 #[tactic(auto, using(crate::proofs::Headline::as_replied))]
 pub fn replies_are_those_defined()
     ensures held { (first : Session) (stack : Stacked) (messages : List (List ℕ))
@@ -38,6 +39,10 @@ pub fn replies_are_those_defined()
         (bytes : List ℕ) →
         AreRepliesTo (answering_from first (sourced stack (map held stack.layers))) messages bytes →
         bytes ≡ replies stack first messages }
+    ensures shown { (first : Session) (stack : Stacked) (sources : List Source) →
+        AreShown sources stack.layers → (messages : List (List ℕ)) (bytes : List ℕ) →
+        AreRepliesTo (answering_from first (sourced stack sources)) messages bytes →
+        AreRightReplies first (sourced stack sources) stack messages bytes }
 {}
 
 /// Over images, in any session that a stream begins in, `Ok` means that they are good, that the

@@ -10,9 +10,9 @@ ghost use Rattle.serve_core.specs.declared.stop.Stop.TheVariants.{Read, Write};
 ghost use Rattle.strata.specs.Ending.{EndsWith, IsServedWhole, IsFileFault, IsDoneOver, first_of};
 ghost use Rattle.reply_model.specs.declared.session.Session.{Session};
 ghost use Rattle.reply_model.specs.declared.session.Session.TheVariants.{Fresh, LastingFresh};
-ghost use Rattle.reply_model.specs.Readings.{Sourced, sourced, IsReplyOver};
+ghost use Rattle.reply_model.specs.Readings.{Sourced, sourced, AreShown, IsReplyOver};
 ghost use Rattle.reply_model.specs.Replies.{reply};
-ghost use Rattle.serve_core.specs.Kept.{WereGatheredFor, over};
+ghost use Rattle.serve_core.specs.Kept.{WereGatheredFor, AreServedAs, over};
 ghost use Rattle.devices.specs.Sources.{held};
 ghost use Rattle.fuse_wire.specs.Requests.{Asked, at_node, read};
 ghost use Rattle.stack_model.specs.Listing.{Stacked};
@@ -31,6 +31,7 @@ ghost use Rattle.strata.specs.Laws.{AreToBlame, HasMetItsEnd, HasStatusOf, IsOfF
 ghost use Rattle.strata.specs.Mounts.{is_taken_away, status_on_device, IsRunOnDevice, IsTakenAway, StopsWhere};
 
 use std::alloc::Allocator;
+use std::os::unix::fs::FileExt;
 
 /// A status other than 0 is one of 1 to 5. With 2 the arguments are no command of the program, or
 /// have a malformed number or one out of range, or name a file beside the device, and no device was
@@ -100,7 +101,8 @@ pub fn devices_are_served_lastingly()
 
 /// If this was gathered from images for a line, and its data are read from sources that hold
 /// exactly these images, they are good, and a request may only get the reply that is defined over
-/// them. And this was gathered so if the line was prepared over such sources.
+/// them. This was gathered so from whatever images the sources of the line show; and these are good,
+/// and served as they are, or with EIO where data may be lacking.
 pub fn lines_are_served_as_over_their_files()
     ensures good { (line : Line) (kept images : List (List ℕ)) (by : Sourced) →
         ArePrepared line kept by → WereGatheredFor (profile_of line) images kept →
@@ -111,8 +113,11 @@ pub fn lines_are_served_as_over_their_files()
         (s : Session) (q : Asked) (bytes : List ℕ) →
         (IsReplyOver (sourced by.stack (map held images)) s q bytes ↔ (bytes ≡ reply whole s q)) }
     ensures gathered { (line : Line) (kept images : List (List ℕ)) (by : Sourced) →
-        ArePrepared line kept by → 1 ≤ length images → by.sources ≡ map held images →
+        ArePrepared line kept by → 1 ≤ length images → AreShown by.sources images →
         WereGatheredFor (profile_of line) images kept }
+    ensures shown { (line : Line) (kept images : List (List ℕ)) (by : Sourced) →
+        ArePrepared line kept by → 1 ≤ length images → AreShown by.sources images →
+        AreServedAs (profile_of line) line.owner by images }
 {}
 
 /// Whatever is read from the files later: a request that is no READ gets the reply that is defined

@@ -8,12 +8,11 @@ use Rattle.std.proofs.lemmas.List.{length-map}
 use Rattle.std.proofs.lemmas.List.Elements.{All-map, All-weaker, recursion_from_All}
 use Rattle.devices.specs.Sources.{Source}
 use Rattle.romfs_files.specs.declared.image_data.ImageData.{ImageData}
-use Rattle.romfs_files.specs.declared.image_data.ImageData.TheVariants.{File, Memory}
 use Rattle.romfs_files.specs.declared.loaded.LoadedImage.{LoadedImage}
 use Rattle.romfs_files.specs.declared.loaded.Loading.{Loading}
 use Rattle.romfs_files.specs.declared.loaded.Loading.TheVariants as how
 use Rattle.romfs_files.specs.declared.loaded.Trailers.{Trailers}
-use Rattle.romfs_files.specs.Data.{known_bytes, source_of}
+use Rattle.romfs_files.specs.Data.{source_of}
 use Rattle.romfs_held.specs.declared.image.HeldImage.{HeldImage}
 use Rattle.romfs_held.specs.declared.image.HeldImage.TheVariants.{Kept, Whole}
 use Rattle.romfs_held.specs.Images.{held_bytes, is_whole}
@@ -26,10 +25,9 @@ use Rattle.strata_images.specs.Images.{AreDataOf, AreHeldFor, AreHeldWhole, AreP
 
 -- the data of an image that is open
 is_data : {F A : Type 0} (trailers : Trailers) (held : HeldImage A) (source : ImageData F A)
-    → IsKeptWith (known_bytes source) trailers held → IsDataOf trailers (held_bytes held) (source_of source)
+    → IsKeptWith (source_of source) trailers held → IsDataOf trailers (held_bytes held) (source_of source)
 is_data trailers (Whole bytes) source h = absurd h
-is_data trailers (Kept kept) (File file) h = inl refl
-is_data trailers (Kept kept) (Memory bytes) h = inr (bytes.items, refl, h)
+is_data trailers (Kept kept) source h = h
 
 abbrev held_of : {F A : Type 0} → List (LoadedImage F A) → List (HeldImage A)
 held_of {F} {A} images = map (λ (image : LoadedImage F A). image.held) images

@@ -6,6 +6,7 @@ use Rattle.romfs_format.specs.Rules.{IsSound}
 use Rattle.romfs_image.specs.declared.refusal.CheckFault.{CheckFault}
 use Rattle.romfs_image.specs.Refusals.{IsRefusal}
 use Rattle.romfs_image.proofs.Gathered.{judged_alike, judged_with_trailer}
+use Rattle.devices.specs.Sources.{Source, Shows}
 use Rattle.romfs_files.specs.declared.loaded.Trailers.TheVariants.{Read, Left}
 use Rattle.romfs_files.specs.declared.loaded.LoadedImage.{LoadedImage}
 use Rattle.romfs_held.specs.declared.image.HeldImage.{HeldImage}
@@ -40,16 +41,17 @@ IsJudged profile bytes image =
     (IsSound profile image ↔ IsSound profile bytes)
     × ((fault : CheckFault) → IsRefusal profile image fault ↔ IsRefusal profile bytes fault)
 
-judged_by : (sums attributes : Bool) (bytes image : List ℕ) → WasGathered (if attributes then Read else Left) (Some bytes) image
-    → IsJudged (profile_with sums attributes) bytes image
-judged_by sums true bytes image g = (let j = judged_with_trailer (profile_with sums true) bytes image g in (j.0, j.1))
-judged_by sums false bytes image g =
-    judged_alike (profile_with sums false) (λ yes. true≢false (sym (yes) ∙ attributes_of sums false)) bytes image g
+judged_by : (sums attributes : Bool) (source : Source) (bytes image : List ℕ) → Shows source bytes
+    → WasGathered (if attributes then Read else Left) source image → IsJudged (profile_with sums attributes) bytes image
+judged_by sums true source bytes image shown g =
+    (let j = judged_with_trailer (profile_with sums true) bytes image (g.each bytes shown) in (j.0, j.1))
+judged_by sums false source bytes image shown g =
+    judged_alike (profile_with sums false) (λ yes. true≢false (sym (yes) ∙ attributes_of sums false)) bytes image (g.each bytes shown)
 
 -- what is kept of an image is judged as its data are
-pub judged : (line : Line) (bytes image : List ℕ) → WasGathered (trailers_of line) (Some bytes) image
+pub judged : (line : Line) (source : Source) (bytes image : List ℕ) → Shows source bytes → WasGathered (trailers_of line) source image
     → IsJudged (profile_of line) bytes image
-judged line bytes image g = judged_by line.strict line.attributes bytes image g
+judged line source bytes image shown g = judged_by line.strict line.attributes source bytes image shown g
 
 -- an image that is held whole is judged as its file is
 judged_held : {A : Type 0} (line : Line) (bytes : List ℕ) (held : HeldImage A) → IsWholeOf (Some bytes) held

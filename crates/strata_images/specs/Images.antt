@@ -4,7 +4,7 @@ use Rattle.std.specs.Prelude.{◌≡◌, ◌≤◌, ◌^◌, ◌⊎◌, ◌||◌
 use Rattle.std.specs.declared.vec.Vec.{Vec}
 use Rattle.romfs_format.specs.declared.rule.Profile.{Profile}
 use Rattle.romfs_format.specs.Profiles.{profile_with}
-use Rattle.devices.specs.Sources.{Source, held, unknown}
+use Rattle.devices.specs.Sources.{Source}
 use Rattle.romfs_files.specs.declared.image_data.ImageData.{ImageData}
 use Rattle.romfs_files.specs.declared.loaded.LoadedImage.{LoadedImage}
 use Rattle.romfs_files.specs.declared.loaded.Loading.{Loading}
@@ -55,12 +55,9 @@ are_whole images = all_held_whole images.items
 abbrev pub sources_of : {F A B : Type 0} → Vec (ImageData F A) B → List Source
 sources_of files = map source_of files.items
 
--- the data of an image of which this is held are read from its file, of which nothing is known; or
--- from bytes from which exactly this was gathered
+-- the data of an image of which this is held are read from where it was gathered
 abbrev pub IsDataOf : Trailers → List ℕ → Source → Type 0
-IsDataOf trailers image source =
-    (source ≡ unknown)
-    ⊎ ((bytes : List ℕ) × (source ≡ held bytes) × WasGathered trailers (Some bytes) image)
+IsDataOf trailers image source = WasGathered trailers source image
 
 -- those of each image are so
 abbrev pub AreDataOf : Trailers → List (List ℕ) → List Source → Type 0

@@ -14,10 +14,11 @@ use romfs_files::LoadedImage;
 use romfs_image::{CheckFault, Profile, check_held};
 use std::alloc::{AllocError, Allocator};
 use std::io::Write;
+use std::os::unix::fs::FileExt;
 
 /// Checks the images in order, by what is held of them, and puts a line for each if all are good.
 /// Else nothing is put.
-pub fn check<F: Drop, A: Allocator + Copy, K: Sink>(
+pub fn check<F: FileExt + Drop, A: Allocator + Copy, K: Sink>(
     alloc: A,
     images: Vec<LoadedImage<F, A>, A>,
     profile: Profile,
@@ -47,7 +48,7 @@ fn lines_of<A: Allocator>(alloc: A, sizes: &[u32]) -> Result<String<A>, AllocErr
 
 // How many bytes of each image are accessible, if all are good. Else it names the fault of the
 // first that is not.
-fn checked_sizes<F: Drop, A: Allocator + Copy>(
+fn checked_sizes<F: FileExt + Drop, A: Allocator + Copy>(
     alloc: A,
     images: Vec<LoadedImage<F, A>, A>,
     profile: Profile,
@@ -64,7 +65,7 @@ fn checked_sizes<F: Drop, A: Allocator + Copy>(
 }
 
 // How many bytes of the image of this number are accessible.
-fn checked_size<F: Drop, A: Allocator + Copy>(
+fn checked_size<F: FileExt + Drop, A: Allocator + Copy>(
     alloc: A,
     number: u64,
     loaded: LoadedImage<F, A>,

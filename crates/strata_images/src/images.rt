@@ -21,7 +21,7 @@ const SMALL_STACK: u64 = 32 << 20;
 /// The images of a line, the lowest layer first: what is held of them, and what the data of each
 /// are read from, where they are not held whole.
 #[derive(Drop)]
-pub struct LineImages<F, A: Allocator> {
+pub struct LineImages<F: FileExt, A: Allocator> {
     pub held: Vec<HeldImage<A>, A>,
     pub files: Vec<ImageData<F, A>, A>,
 }

@@ -5,6 +5,7 @@ ghost use Rattle.romfs_format.specs.Profiles.{asks_sums, reads_attributes};
 ghost use Rattle.romfs_format.specs.Rules.{IsSound};
 ghost use Rattle.romfs_image.specs.declared.refusal.CheckFault.{CheckFault};
 ghost use Rattle.romfs_image.specs.Refusals.{IsRefusal};
+ghost use Rattle.devices.specs.Sources.{Source, Shows};
 ghost use Rattle.romfs_files.specs.Loaded.{WasGathered};
 ghost use Rattle.romfs_files.specs.Opening.{IsHeldWhole, loaded_bytes};
 ghost use Rattle.romfs_files.specs.declared.loaded.LoadedImage.{LoadedImage};
@@ -13,6 +14,7 @@ ghost use Rattle.strata_words.specs.declared.options.Line.{Line};
 ghost use Rattle.strata_images.specs.Images.{ArePrepared, AreReadWhole, profile_of, trailers_of};
 
 use std::alloc::Allocator;
+use std::os::unix::fs::FileExt;
 
 /// The data of images that are read in full are read from nothing, as with `--whole`: what is
 /// promised over their stack is what is promised over a held stack, and a READ is answered with
@@ -40,12 +42,12 @@ pub fn images_stay_in_their_files()
         length by.sources ≡ length images }
 {}
 
-/// What is kept of an image besides its data is judged by the rules of a line as these are, with
-/// attributes and without.
+/// What is kept of an image besides its data is judged by the rules of a line as whatever bytes
+/// these show, with attributes and without.
 #[tactic(auto, using(crate::proofs::Rules::judged))]
 pub fn opened_images_are_judged_as_their_data()
-    ensures { (line : Line) (bytes image : List ℕ) →
-        WasGathered (trailers_of line) (Some bytes) image →
+    ensures { (line : Line) (source : Source) (bytes image : List ℕ) →
+        Shows source bytes → WasGathered (trailers_of line) source image →
         (IsSound (profile_of line) image ↔ IsSound (profile_of line) bytes)
         × ((fault : CheckFault) → IsRefusal (profile_of line) image fault
         ↔ IsRefusal (profile_of line) bytes fault) }
@@ -54,7 +56,7 @@ pub fn opened_images_are_judged_as_their_data()
 /// An image held in full, such as one from a pipe, is judged as all bytes of its file are, if these
 /// are known.
 #[tactic(auto, using(crate::proofs::Rules::judged_whole))]
-pub fn whole_images_are_judged_as_their_files<F, A: Allocator>()
+pub fn whole_images_are_judged_as_their_files<F: FileExt, A: Allocator>()
     ensures { (line : Line) (bytes : List ℕ) (image : LoadedImage F A) →
         IsHeldWhole (Some bytes) image →
         (IsSound (profile_of line) (loaded_bytes image) ↔ IsSound (profile_of line) bytes)

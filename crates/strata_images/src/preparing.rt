@@ -10,12 +10,13 @@ use crate::profile::profile_of;
 use romfs_files::ImageData;
 use stack_prepare::{FreePass, Table};
 use std::alloc::Allocator;
+use std::os::unix::fs::FileExt;
 use std::thread::Threads;
 use strata_words::Line;
 
 /// The table of the images of a line, checked by its rules, and what the data of its layers are
 /// read from that it does not hold.
-pub fn prepare<R: Threads + Sync, F: Drop, A: Allocator + Copy + Send + Sync>(
+pub fn prepare<R: Threads + Sync, F: FileExt + Drop, A: Allocator + Copy + Send + Sync>(
     rt: &R,
     alloc: A,
     line: &Line<'_>,

@@ -22,10 +22,7 @@ struct Slow<'a> {
 }
 
 impl Contents for Slow<'_> {
-    ghost use Rattle.std.specs.Prelude.{None};
     ghost use Rattle.devices.specs.Sources.{unknown};
-
-    ghost contents = { λ _. None };
 
     ghost source = { λ _. unknown };
 

@@ -1,8 +1,9 @@
 //! The table of the sample image.
 
-ghost use Rattle.std.specs.Prelude.{◌≡◌, true, IfSome};
+ghost use Rattle.std.specs.Prelude.{◌≡◌, true, IfOk, IfSome};
 
 use node_table::{OfTree, Table};
+use romfs_image::sample::BuildFault;
 use stack_core::{FreePass, stack};
 use std::alloc::Allocator;
 use std::thread::Threads;
@@ -15,10 +16,19 @@ pub fn sample_table<R: Threads + Sync, A: Allocator + Copy + Send + Sync>(
 ) -> Option<Table<A>>
     ensures { IfSome result (λ table. table.whole ≡ true) }
 {
-    let images = layers(alloc, SAMPLE).ok()?;
+    table(rt, alloc).ok()
+}
+
+fn table<R: Threads + Sync, A: Allocator + Copy + Send + Sync>(
+    rt: &R,
+    alloc: A,
+) -> Result<Table<A>, BuildFault>
+    ensures { IfOk result (λ table. table.whole ≡ true) }
+{
+    let images = layers(alloc, SAMPLE)?;
     if images.is_empty() || 128 < images.len() {
-        return None;
+        return Err(BuildFault::Listing);
     }
-    let tree = stack(rt, alloc, &images, &FreePass).ok()?;
-    Table::of(rt, alloc, tree, images).ok()
+    let tree = stack(rt, alloc, &images, &FreePass)?;
+    Ok(Table::of(rt, alloc, tree, images)?)
 }

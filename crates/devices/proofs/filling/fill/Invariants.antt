@@ -1,5 +1,4 @@
 use Rattle.std.proofs.Common.{◌≤◌, ◌-◌, length, take}
-use Rattle.devices.specs.Contents.{AreAt}
 use Rattle.devices.specs.Sources.{MayGive}
 use Rattle.devices.proofs.filling.fill.Given as goal
 
@@ -7,7 +6,6 @@ use Rattle.devices.proofs.filling.fill.Given as goal
 abbrev pub invariant-loop-done : goal.invariant-loop-done
 invariant-loop-done g l = record {
   within : l.done ≤ length l.room;
-  at : AreAt (g.S.Contents.contents l.source) l.offset (take l.done l.room);
   given : MayGive (g.S.Contents.source l.source) l.offset (take l.done l.room);
 }
 

@@ -10,7 +10,8 @@ loop-done-preserved c =
     let e = filled_long c.args.size c.args.blocks.now.all.now c.args.bytes.now in
     record {
       within = omega arith;
-      sum = sum_goes_on a c.args.at c.args.len (omega arith) _ _ _ (omega arith) (omega arith) c.loop-done.invariant.sum;
+      sum = sum_goes_on a c.args.at c.args.len (omega arith) _ _ _ _ _ c.loop-done.invariant.within c.sum_of_some-some.ensures
+          (omega arith) c.loop-done.invariant.sum;
     }
 
 pub returns : goal.returns

@@ -24,7 +24,7 @@ loop-at-init g c =
 
 pub loop-at-preserved : goal.loop-at-preserved
 loop-at-preserved g c =
-    let known = g.S.Contents.contents c.args.source.now in
+    let known = g.S.Contents.source c.args.source.now in
     let next : IsPlace c.cleared-next.result =
     subst (λ n. IsPlace n) (sym c.cleared-next.ensures) (cleared_place c.in_ok-words.words.first (omega arith)) in
     let down : IsPlace c.cleared.result =

@@ -10,8 +10,8 @@ use Rattle.romfs_kept.proofs.gathering.walk.Given as goal
 -- the walk is under way, over places alone
 abbrev pub invariant-loop-at : goal.invariant-loop-at
 invariant-loop-at g l = record {
-  held : IsHeld (g.S.Contents.contents l.source) l.window.start l.window.bytes.items;
-  walk : IsUnderWay (g.S.Contents.contents l.source) l.size l.root l.pieces.items l.todo.items (contains nat_cmp l.noted);
+  held : IsHeld (g.S.Contents.source l.source) l.window.start l.window.bytes.items;
+  walk : IsUnderWay (g.S.Contents.source l.source) l.size l.root l.pieces.items l.todo.items (contains nat_cmp l.noted);
   ordered : IsOrdered nat_cmp l.noted;
   places : (h : ℕ) → IsTrue (contains nat_cmp l.noted h) → IsPlace h;
   waiting : (h : ℕ) → Contains l.todo.items h → IsPlace h;

@@ -5,8 +5,8 @@ use Rattle.romfs_kept.proofs.trailer.read_trailer.Goals as goal
 
 pub returns-clause-ok : goal.returns-clause-ok
 returns-clause-ok g c =
-    tail_read (g.S.Contents.contents c.args.source.now) c.padded-place.result c.saturating_sub-room.result _ c.in_ok-end.end _
+    tail_read (g.S.Contents.source c.args.source.now) c.padded-place.result c.saturating_sub-room.result _ c.in_ok-end.end _
     c.padded-place.ensures.value (room_is _ _ _ _ c.size.ensures.size c.saturating_sub-room.ensures)
-    (subst (λ x. BeginsTrailer (g.S.Contents.contents c.args.source.now) c.padded-place.result x) c.if-not-branch.false
+    (subst (λ x. BeginsTrailer (g.S.Contents.source c.args.source.now) c.padded-place.result x) c.if-not-branch.false
     c.in_ok-begins_trailer.ensures.ok)
     c.in_ok-end.ensures.ok c.in_ok-read_tail.ensures.held (c.in_ok-read_tail.ensures.long ∙ c.min.ensures)

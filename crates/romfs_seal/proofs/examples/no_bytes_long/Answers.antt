@@ -1,7 +1,7 @@
 use Rattle.std.proofs.Common.{refl}
 use Rattle.sha2.specs.Sha512.{compress, digest_bytes, first_words, hash_after, rounds, schedule, sha512}
-use Rattle.romfs_seal.specs.Tree.{above, block, digests, root, root_hash}
-use Rattle.romfs_seal.specs.File.{descriptor, field, in_blocks}
+use Rattle.devices.specs.Tree.{above, block, digests, root, root_hash}
+use Rattle.devices.specs.File.{descriptor, field, in_blocks}
 use Rattle.romfs_seal.proofs.examples.no_bytes_long.Goals as goal
 
 pub returns : goal.returns

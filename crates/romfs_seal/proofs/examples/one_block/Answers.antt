@@ -1,7 +1,7 @@
 use Rattle.std.proofs.Common.{refl}
 use Rattle.sha2.specs.Sha256.{compress, digest_bytes, first_words, hash_after, rounds, schedule, sha256}
-use Rattle.romfs_seal.specs.Tree.{above, block, digests, root, root_hash}
-use Rattle.romfs_seal.specs.File.{descriptor, field, in_blocks}
+use Rattle.devices.specs.Tree.{above, block, digests, root, root_hash}
+use Rattle.devices.specs.File.{descriptor, field, in_blocks}
 use Rattle.romfs_seal.proofs.examples.one_block.Goals as goal
 
 pub returns : goal.returns

@@ -1,5 +1,5 @@
-use Rattle.std.proofs.Common.{◌≡◌, ◌∙◌, sym, ap}
-use Rattle.romfs_seal.specs.Tree.{digest_at, digest_size}
+use Rattle.std.proofs.Common.{◌∙◌, sym, ap}
+use Rattle.devices.specs.Tree.{digest_size}
 use Rattle.romfs_seal.proofs.Blocks.{digest_is}
 use Rattle.romfs_seal.proofs.files.has_digest.Goals as goal
 

@@ -1,5 +1,5 @@
 use Rattle.std.proofs.Common.{◌≡◌, subst, suc, ◌+◌, arith}
-use Rattle.romfs_seal.specs.Tree.{HasLevels}
+use Rattle.devices.specs.Tree.{HasLevels}
 use Rattle.romfs_seal.proofs.Fans.{levels_more, nine_levels}
 use Rattle.romfs_seal.proofs.opening.+level_count.Goals as goal
 

@@ -1,5 +1,5 @@
 use Rattle.std.proofs.Common.{◌≡◌, ◌∙◌, ap, subst, IfOk}
-use Rattle.romfs_seal.specs.Tree.{blocks_above}
+use Rattle.devices.specs.Tree.{blocks_above}
 use Rattle.romfs_seal.specs.Digests.{digest_bytes}
 use Rattle.romfs_seal.proofs.Tops.{root_none, root_up}
 use Rattle.romfs_seal.proofs.opening.+root_over.Goals as goal

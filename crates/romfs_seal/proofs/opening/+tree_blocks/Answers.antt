@@ -1,5 +1,5 @@
-use Rattle.std.proofs.Common.{◌≡◌, ◌∙◌, ap, ◌+◌, ◌-◌}
-use Rattle.romfs_seal.specs.Tree.{blocks_above, tree_blocks}
+use Rattle.std.proofs.Common.{◌∙◌, ap, ◌+◌, ◌-◌}
+use Rattle.devices.specs.Tree.{tree_blocks}
 use Rattle.romfs_seal.proofs.Tops.{tree_none, tree_some}
 use Rattle.romfs_seal.proofs.opening.+tree_blocks.Goals as goal
 

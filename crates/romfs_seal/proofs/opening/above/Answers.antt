@@ -1,5 +1,5 @@
 use Rattle.std.proofs.Common.{◌≡◌, ◌∙◌, sym, ap, ◌++◌, ◌*◌, ◌+◌, ◌-◌, length, take, drop, arith}
-use Rattle.romfs_seal.specs.Tree.{digests, blocks_above}
+use Rattle.devices.specs.Tree.{digests, blocks_above}
 use Rattle.romfs_seal.proofs.Levels.{blocks-above}
 use Rattle.romfs_seal.proofs.Tops.{digests_more, no_digests, above_is}
 use Rattle.romfs_seal.proofs.opening.above.Goals as goal

@@ -1,5 +1,5 @@
 use Rattle.std.proofs.Common.{◌≡◌}
-use Rattle.romfs_seal.specs.Tree.{digests}
+use Rattle.devices.specs.Tree.{digests}
 use Rattle.romfs_seal.proofs.opening.above.Given as goal
 
 -- the digests so far

@@ -1,7 +1,7 @@
-use Rattle.std.proofs.Common.{◌≡◌, ◌∙◌, ap, subst, inr, ◌-◌, ◌+◌, ◌*◌, ◌/◌, length, arith, rules}
-use Rattle.romfs_seal.specs.Tree.{blocks_above, tree_blocks}
-use Rattle.romfs_seal.specs.File.{blocks_of}
-use Rattle.devices.specs.Contents.{IsShort}
+use Rattle.std.proofs.Common.{◌≡◌, ◌∙◌, ap, subst, inr, ◌-◌, ◌*◌, length, arith, rules}
+use Rattle.devices.specs.Tree.{blocks_above, tree_blocks}
+use Rattle.devices.specs.File.{blocks_of}
+use Rattle.devices.specs.Given.{IsShort}
 use Rattle.romfs_seal.proofs.Whole.{any_err, upper_short}
 use Rattle.romfs_seal.proofs.opening.upper_level.Goals as goal
 
@@ -22,5 +22,5 @@ returns-in_err-read_tree-clause-err g c =
     let size : length c.deref_mut.result.now ≡ 4096 * m = omega (arith, long, two) in
     any_err c.from_residual-in_err-read_tree.result
     (λ fault. inr (upper_short s (g.met.F.NamedFiles.sized c.args.files.now) c.args.levels c.requires.many c.requires.has
-    (subst (λ k. IsShort s.tree_bytes k (4096 * m)) place
-    (subst (λ k. IsShort s.tree_bytes (4096 * c.tree_blocks.result) k) size c.in_err-read_tree.ensures.err))))
+    (subst (λ k. IsShort s.tree k (4096 * m)) place
+    (subst (λ k. IsShort s.tree (4096 * c.tree_blocks.result) k) size c.in_err-read_tree.ensures.err))))

@@ -1,5 +1,5 @@
 use Rattle.std.proofs.Common.{refl}
-use Rattle.romfs_seal.specs.Tree.{root}
+use Rattle.devices.specs.Tree.{root}
 use Rattle.romfs_seal.proofs.Binding.{bound_or_forged}
 use Rattle.romfs_seal.proofs.tree_laws.vouched_is_right_or_forged.Goals as goal
 

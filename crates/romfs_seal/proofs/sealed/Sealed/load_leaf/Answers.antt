@@ -1,10 +1,9 @@
-use Rattle.std.proofs.Common.{◌≡◌, ◌≢◌, ◌∙◌, sym, ap, subst, refl, ◌+◌, ◌*◌, ◌/◌, ◌<◌, ◌++◌, length, drop, ℕ, arith}
-use Rattle.std.proofs.lemmas.Bool.{cases_lt}
-use Rattle.romfs_seal.specs.Tree.{fan, digest_at, digest_size, blocks_above}
-use Rattle.romfs_seal.specs.File.{blocks_of}
+use Rattle.std.proofs.Common.{◌≡◌, ◌∙◌, sym, ap, subst, refl, ◌+◌, ◌*◌, ◌/◌, ◌++◌, length, drop}
+use Rattle.devices.specs.Tree.{fan, digest_at}
+use Rattle.devices.specs.File.{blocks_of}
 use Rattle.romfs_seal.proofs.Fans.{above_within, small_digest}
-use Rattle.devices.specs.Contents.{IsShort}
-use Rattle.romfs_seal.specs.Seal.{IsGiven}
+use Rattle.devices.specs.Given.{IsShort}
+use Rattle.devices.specs.Seal.{IsGiven}
 use Rattle.romfs_seal.specs.Kept.{IsLeaf, first_under}
 use Rattle.romfs_seal.proofs.Leaves.{leaf_none, leaf_kept}
 use Rattle.romfs_seal.proofs.Whole.{any_on, leaf_short, leaf_other, given_block}
@@ -23,8 +22,8 @@ pub returns-in_err-fill_tree-clause-err : goal.returns-in_err-fill_tree-clause-e
 returns-in_err-fill_tree-clause-err g c =
     let s = g.F.NamedFiles.seal c.args.self.now.files in
     let by : c.fan.result ≡ fan s.algorithm = c.fan.ensures.count ∙ ap fan c.algorithm.ensures in
-    let lacks : IsShort s.tree_bytes (c.args.self.now.lowest + 4096 * (c.args.block / fan s.algorithm)) 4096 =
-    subst (λ k. IsShort s.tree_bytes (c.args.self.now.lowest + 4096 * (c.args.block / k)) 4096) by c.in_err-fill_tree.ensures.err in
+    let lacks : IsShort s.tree (c.args.self.now.lowest + 4096 * (c.args.block / fan s.algorithm)) 4096 =
+    subst (λ k. IsShort s.tree (c.args.self.now.lowest + 4096 * (c.args.block / k)) 4096) by c.in_err-fill_tree.ensures.err in
     any_on c.from_residual.result
     (leaf_short s c.args.self.now.levels c.args.self.now.lowest c.args.self.now.kept.items (c.args.block / fan s.algorithm)
     c.if-self-eq0.false c.args.self.now.opened (above_within s.algorithm (blocks_of s.size) c.args.block c.requires.within) lacks)

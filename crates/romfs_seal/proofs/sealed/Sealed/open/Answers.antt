@@ -1,7 +1,7 @@
-use Rattle.std.proofs.Common.{◌≡◌, ◌∙◌, ap, subst, sym, inr, false, IsTrue, ◌+◌, ◌/◌, ◌<◌, ◌^◌, arith, rules, refl}
-use Rattle.romfs_seal.specs.Tree.{AreBytes, HasLevels}
-use Rattle.romfs_seal.specs.File.{blocks_of}
-use Rattle.romfs_seal.specs.Seal.{lowest_place, MayBeKept, IsTop}
+use Rattle.std.proofs.Common.{◌≡◌, ◌∙◌, ap, subst, sym, inr, false, IsTrue, ◌<◌, ◌^◌, arith, rules}
+use Rattle.devices.specs.Tree.{AreBytes, HasLevels}
+use Rattle.devices.specs.File.{blocks_of}
+use Rattle.devices.specs.Seal.{lowest_place, MayBeKept, IsTop}
 use Rattle.romfs_seal.proofs.Whole.{kept_other, kept_long}
 use Rattle.romfs_seal.proofs.sealed.Sealed.open.Goals as goal
 

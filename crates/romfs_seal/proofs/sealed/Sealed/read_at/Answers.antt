@@ -1,6 +1,6 @@
 use Rattle.std.proofs.Common.{◌≡◌, ◌∙◌, ap, take, drop, length, arith, length-take-le}
 use Rattle.std.proofs.lemmas.List.{take_at}
-use Rattle.romfs_seal.proofs.Parts.{read_are}
+use Rattle.devices.proofs.Shown.{read_are}
 use Rattle.romfs_seal.proofs.sealed.Sealed.read_at.Goals as goal
 
 pub returns-clause-unmatched : goal.returns-clause-unmatched

@@ -1,6 +1,6 @@
-use Rattle.std.proofs.Common.{◌≡◌, ◌∙◌, sym, ap, subst, ◌+◌, ◌-◌, ◌*◌, ◌/◌, ◌%◌, length, take, drop, min, arith, ◌≤◌}
+use Rattle.std.proofs.Common.{◌≡◌, ◌∙◌, sym, subst, ◌+◌, ◌*◌, ◌/◌, ◌%◌, length, take, drop, arith, ◌≤◌}
 use Rattle.romfs_seal.proofs.Levels.{part-part}
-use Rattle.romfs_seal.specs.Read.{AreRead}
+use Rattle.devices.specs.Read.{AreRead}
 use Rattle.romfs_seal.proofs.Parts.{part_of, read_inside}
 use Rattle.std.proofs.lemmas.List.{length-take}
 use Rattle.romfs_seal.proofs.sealed.Sealed.read_part.Goals as goal

@@ -1,5 +1,5 @@
 use Rattle.std.proofs.Common.{◌≤◌, ◌-◌, length, take}
-use Rattle.romfs_seal.specs.Read.{AreRead}
+use Rattle.devices.specs.Read.{AreRead}
 use Rattle.romfs_seal.proofs.sealed.Sealed.read_run.Given as goal
 
 -- what was read so far

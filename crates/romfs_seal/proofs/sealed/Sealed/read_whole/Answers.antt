@@ -1,5 +1,5 @@
-use Rattle.std.proofs.Common.{◌≡◌, refl, ◌∙◌, ap, subst, ◌*◌, ◌-◌, min, arith}
-use Rattle.romfs_seal.specs.Seal.{IsGiven}
+use Rattle.std.proofs.Common.{◌≡◌, refl, ◌∙◌, ap, subst, ◌*◌}
+use Rattle.devices.specs.Seal.{IsGiven}
 use Rattle.romfs_seal.proofs.Parts.{part_of, read_block}
 use Rattle.romfs_seal.proofs.Whole.{block_other}
 use Rattle.romfs_seal.proofs.sealed.Sealed.read_whole.Goals as goal
