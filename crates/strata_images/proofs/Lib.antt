@@ -5,3 +5,4 @@ pub mod Small
 pub mod Rules
 pub mod Listed
 pub mod Told
+pub mod ByDigest

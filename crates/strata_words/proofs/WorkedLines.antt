@@ -1,10 +1,10 @@
 -- The worked command lines, by computation. The result of words is one value (`told`), so each example computes once: what is wrong with
 -- them, the command that they name, and its rows. The numbers of a line are tested by a function that computes (`is_numbered`).
-use Rattle.std.proofs.Common.{◌≡◌, ◌∙◌, ◌&&◌, ◌==◌, ◌^◌, eqb-refl, eqb-true, is_some, ℕ, Bool, codes, refl, ap, sym, subst, true, false, true≢false, nat_lt, nat_le, length, unwrap_or, option_map, List, [], ◌∷◌, Option, Some, None, IfSome}
+use Rattle.std.proofs.Common.{◌≡◌, ◌∙◌, ◌&&◌, ◌==◌, ◌^◌, eqb-true, is_some, ℕ, Bool, codes, refl, ap, sym, subst, true, false, true≢false, nat_lt, nat_le, length, unwrap_or, option_map, List, [], ◌∷◌, Option, Some, None, IfSome}
 use Rattle.std.specs.Char.{digit_value}
 use Rattle.std.specs.List.{All, list_all}
 use Rattle.std.specs.Str.Parse.{AllDigits, digits_value}
-use Rattle.std.proofs.lemmas.Bool.{le-leb, leb-true, lt-ltb, ltb-true}
+use Rattle.std.proofs.lemmas.Bool.{eq-eqb, le-leb, leb-true, lt-ltb, ltb-true}
 use Rattle.std.proofs.lemmas.List.Elements.{All-cons, All-head, All-nil, All-tail}
 use Rattle.clap.specs.Kinds.{Kinds}
 use Rattle.clap.specs.Walk.{Row, Text, all_of, first_of}
@@ -157,7 +157,7 @@ are_digests count (Some texts) = (length texts == count) && are_named texts
 digests_pass : (count : ℕ) (given : Option (List Text)) → AreDigests count given → are_digests count given ≡ true
 digests_pass count None are = refl
 digests_pass count (Some texts) are =
-    rw (ap (λ n. n == count) are.each ∙ eqb-refl count, names_pass texts are.named) refl
+    rw (eq-eqb (length texts) count are.each, names_pass texts are.named) refl
 
 digests_passed : (count : ℕ) (given : Option (List Text)) → are_digests count given ≡ true → AreDigests count given
 digests_passed count None e = record { named = tt; each = tt }

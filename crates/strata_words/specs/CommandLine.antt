@@ -323,16 +323,13 @@ pub record IsLineOf (words : List Text) (line : Line) : Type 0 where
   pub command : command_in words ≡ Some (verb_word line.verb, rows)
   pub holds : HoldsRows rows line
 
--- the numbers of a line are in their ranges
+-- the numbers of a line are in their ranges, and each of its images has a digest, or none
 pub record IsInLimits (line : Line) : Type 0 where
   pub workers : IsInRange 1 MAX_WORKERS line.workers
   pub batch : IsInRange 1 MAX_BATCH line.batch
   pub readers : IsInRange 1 MAX_READERS line.readers
   pub sessions : IsInRange 1 MAX_SESSIONS line.sessions
-
--- a line has as many digests as images, if some are none
-abbrev pub HasDigests : Line → Type 0
-HasDigests line = vec_len line.digests ≡ vec_len line.images
+  pub digests : vec_len line.digests ≡ vec_len line.images
 
 -- a line of the command `socket` has the path of the socket
 abbrev pub NamesSocket : Line → Type 0
@@ -348,7 +345,6 @@ pub record IsReadFrom (verb : Verb) (rows : List Row) (line : Line) : Type 0 whe
   pub holds : HoldsRows rows line
   pub limits : IsInLimits line
   pub some_image : 1 ≤ vec_len line.images
-  pub digests : HasDigests line
   pub socket : NamesSocket line
 
 -- the arguments are a command of the program, except for a malformed number, or one out of range

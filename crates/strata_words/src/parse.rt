@@ -12,7 +12,7 @@ ghost use Rattle.strata_words.specs.CommandLine.{IsLineOf, IsNoLine, IsTaken, Te
 ghost use Rattle.strata_words.specs.CommandLine.{IsFilled, IsInLimits, IsReadFrom, names_both, verb_word};
 ghost use Rattle.strata_words.specs.CommandLine.{AreCrossed, GivesSocket, NamesSocket, is_flag, rows_in};
 ghost use Rattle.strata_words.specs.CommandLine.{HaveNumbersInRange, IsNumberNamed, IsNumberOf};
-ghost use Rattle.strata_words.specs.CommandLine.{HasDigests, HaveDigests, images_in};
+ghost use Rattle.strata_words.specs.CommandLine.{HaveDigests, images_in};
 ghost use Rattle.strata_words.specs.Digests.{AreDigests, digests_for};
 ghost use Rattle.strata_words.specs.Owners.{IsOwnerOf};
 ghost use Rattle.strata_words.specs.declared.options.LineFault.TheVariants.{Memory};
@@ -64,7 +64,6 @@ pub fn line<'a, S: AsStr>(alloc: Global, words: &'a [S]) -> Result<Line<'a>, NoL
     ensures ok { IfOk result (λ line. IsLineOf (map S.text words.now) line) }
     ensures limits { IfOk result (λ line. IsInLimits line) }
     ensures some_image { IfOk result (λ line. 1 ≤ vec_len line.images) }
-    ensures digests { IfOk result (λ line. HasDigests line) }
     ensures socket { IfOk result (λ line. NamesSocket line) }
     ensures err { IfErr result (λ no_line. IsNoLine (map S.text words.now) no_line) }
 {

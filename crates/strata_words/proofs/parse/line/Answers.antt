@@ -52,6 +52,3 @@ pub returns-clause-err : goal.returns-clause-err
 returns-clause-err g c =
     fault_is _ _ _ c.in-Err.fault c.in_ok-matches.ensures.taken (met g (goal.at.returns-clause-err g c).After-unwrap)
     c.in-Err.ensures.err
-
-pub returns-in-Ok-clause-digests : goal.returns-in-Ok-clause-digests
-returns-in-Ok-clause-digests g c = c.in-Ok.ensures.ok.digests
