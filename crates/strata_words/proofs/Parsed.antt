@@ -228,7 +228,7 @@ pub all_read : {X : Type 0} (items : X → List (Option Digest)) (count : ℕ) (
 all_read items count given texts (Ok x) is many ok named err =
     (ok ∙ ap (λ o. digests_for count o) (sym is), subst (AreDigests count) (sym is) (record { named = named; each = many }), tt)
 all_read items count given texts (Err fault) is many ok named err =
-    (tt, tt, elim err [ | inl memory ↦ inl memory | inr wrong ↦ inr (λ are. wrong ((subst (AreDigests count) is are).named)) ])
+    (tt, tt, elim err [ inl memory ↦ inl memory | inr wrong ↦ inr (λ are. wrong ((subst (AreDigests count) is are).named)) ])
 
 -- digests that are none, or not one for each image, are a fault of the rows
 pub digest_fault : (rows : List Row) (count : ℕ) (fault : LineFault) → count ≡ length (images_in rows)

@@ -30,7 +30,8 @@ returns-clause-read g t c =
     let as_many : length lows.now ≡ length low_digests.now = omega (arith, c.split_at.ensures.front_len, parts.front_len) in
     both_loaded g.R.File.Read.remaining c.args.loading c.args.first low_digests.now high_digests.now c.args.digests.now low.images.items
     high.images.items c.both.result.images.items low.end (halves _ low_digests.now high_digests.now c.args.digests.now parts.front parts.back)
-    (subst (λ n. IsReadUpTo c.args.first n (vec_len low.images) low.end) as_many c.join-high.ensures.second.0)
+    (subst (λ m. IsReadUpTo c.args.first (length low_digests.now) m low.end) low.images.ok.0
+    (subst (λ n. IsReadUpTo c.args.first n (vec_len low.images) low.end) as_many c.join-high.ensures.second.0))
     c.both.ensures.either c.join-high.ensures.second.1 c.join-high.ensures.first.1
 
 pub overflow_sub-less : goal.overflow_sub-less

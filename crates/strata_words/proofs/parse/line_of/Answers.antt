@@ -58,7 +58,7 @@ returns-in_err-digests-clause-ok c = IfOk-from_err c.from_residual-in_err-digest
 pub returns-in_err-digests-clause-err : goal.returns-in_err-digests-clause-err
 returns-in_err-digests-clause-err c =
     let failed = err_from_is_err_and c.from_residual-in_err-digests.result c.from_residual-in_err-digests.ensures.1 in
-    rw (failed.1, failed.2) (digest_fault (rows_in c.args.found.now) c.len.result c.in_err-digests.field-0
+    rw (failed.1, failed.2) (digest_fault (rows_in c.args.found.now) c.len.result _
     (c.len.ensures ∙ c.in_ok-images.ensures.count) c.in_err-digests.ensures.err)
 
 pub returns-in_err-crossed-in-Some-clause-ok : goal.returns-in_err-crossed-in-Some-clause-ok
