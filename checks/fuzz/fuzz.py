@@ -33,6 +33,7 @@ import time
 from checks.fuzz.fuzz_runs import Difference, Running, TooSlow, Wanted
 from checks.fuzz.mutations import Made, demo_images, has_genromfs, mutated_image, mutated_stream, recorded
 from checks.plain import plain
+from checks.plain.plain_attributes import trailer
 from checks.shared.build import init
 from checks.shared.clients import Client
 from checks.shared.images import EMPTY
@@ -56,6 +57,9 @@ class Profile:
     def __init__(self, rng, strictly):
         self.strict, self.attributes = rng.random() < strictly, rng.random() < 0.4
         self.words = ["--strict"] * self.strict + ["--attributes"] * self.attributes + ["--whole"] * (rng.random() < 0.3)
+        self.checked = self.words + ["--as-mounted"] * (self.attributes and rng.random() < 0.5)
+        if "--as-mounted" in self.checked and rng.random() < 0.5:
+            self.checked.remove("--attributes")
         self.served = self.words + ["--in-files"] * (rng.random() < 0.5)
         self.rules = self.strict, self.attributes
 
@@ -64,10 +68,16 @@ class Profile:
         return [with_trailer(rng, data) if rng.random() < (0.7 if self.attributes else 0.1) else data for data in images]
 
 
+def unread(images, profile):
+    """What is printed of images whose trailer is not asked for."""
+    return "" if profile.attributes else "".join("layer %d: attributes not read\n" % number
+                                                 for number, data in enumerate(images) if trailer(data) is not None)
+
+
 def lines_or_stop(lines, images, profile):
     """What must come of a command that prints lines."""
     try:
-        return Wanted(0, "".join(line + "\n" for line in lines(images, *profile.rules)).encode(), "", {})
+        return Wanted(0, "".join(line + "\n" for line in lines(images, *profile.rules)).encode(), unread(images, profile), {})
     except plain.Stop as stop:
         return Wanted(stop.args[1], b"", stop.args[0] + "\n", {})
 
@@ -75,22 +85,22 @@ def lines_or_stop(lines, images, profile):
 def hold_lines(running, images, profile):
     """Holds `check` and `list` of these images; how `list` must end."""
     names = [running.write("image-%d" % number, data) for number, data in enumerate(images)]
-    running.hold(["check", *profile.words, *names], lines_or_stop(plain.check, images, profile))
+    running.hold(["check", *profile.checked, *names], lines_or_stop(plain.check, images, profile))
     want = lines_or_stop(plain.list_, images, profile)
-    running.hold(["list", *names, *profile.words], want)
+    running.hold(["list", *names, *profile.checked], want)
     return want
 
 
-def rule_of(line):
-    """The broken rule that a line tells."""
-    return line[line.find(": ") + 2:].strip() or "no fault"
+def rule_of(want):
+    """The broken rule that a command must tell."""
+    return want.line[want.line.find(": ") + 2:].strip() if want.status else "no fault"
 
 
 def try_image(running, rng, seen):
     """Holds a single image."""
     profile = Profile(rng, 0.3)
     want = hold_lines(running, profile.images(rng, [mutated(rng, random_image(rng))]), profile)
-    seen[rule_of(want.line)] += 1
+    seen[rule_of(want)] += 1
 
 
 def try_stack(running, rng, seen):
@@ -278,7 +288,7 @@ def try_made(running, rng, seen):
     profile = Profile(rng, 0.3)
     images = profile.images(rng, images)
     want = hold_lines(running, images, profile)
-    seen[rule_of(want.line)] += 1
+    seen[rule_of(want)] += 1
     if rng.random() < 0.3:
         inputs = Inputs(running, rng, images)
         rng.choice([serve, serve_clients, serve_device])(inputs, lambda: random_stream(rng, inputs.stack), seen)

@@ -69,8 +69,10 @@ def alone(root):
     hold_stack(root, "/mnt/alone")
     server, = servers()
     with open("/proc/%d/environ" % server, "rb") as it:
-        names = [part.partition(b"=")[0] for part in it.read().split(b"\0")]
-        hold("the server's environment", [b"MALLOC_MMAP_THRESHOLD_", b"PATH", b""], names)
+        # older loaders cut GLIBC_TUNABLES in place
+        parts = [part for part in it.read().split(b"\0") if not part.startswith(b"glibc.")]
+        names = [part.partition(b"=")[0] for part in parts]
+        hold("the server's environment", [b"MALLOC_MMAP_THRESHOLD_", b"GLIBC_TUNABLES", b"PATH", b""], names)
     root.good("umount", "/mnt/alone")
     return "modules and programs of strangers in the working folder, PYTHONPATH and PATH are not met" + other_alone(root, words, env)
 

@@ -1,5 +1,6 @@
 """Checks of checks/mounts/mounted.py: images that stay in their files, while something happens to these."""
 import errno
+import mmap
 import os
 import random
 import signal
@@ -93,6 +94,48 @@ def cut(room):
     hold("data behind it", errno.EIO, part(last, 0, PAGE))
     mount.end()
     return "right bytes before the cut, EIO behind it, names and sizes as they were"
+
+
+def signal_at(view, at):
+    """The signal that ends a process which reads a byte of a mapping; None if it reads it."""
+    child = os.fork()
+    if child == 0:
+        os._exit(0 * view[at])
+    status = os.waitpid(child, 0)[1]
+    return os.WTERMSIG(status) if os.WIFSIGNALED(status) else None
+
+
+def mapped_cut(room):
+    """A file that is mapped when its image is cut off: cached pages stay, another ends its reader by SIGBUS."""
+    data = random.Random(5).randbytes(8 * MIB)
+    image = room.write(laid_out(b"v", [file("x", data)]))
+    mount = room.mount([image])
+    with open(mount.path(b"x"), "rb") as it, mmap.mmap(it.fileno(), 0, prot=mmap.PROT_READ) as view:
+        hold("the first page", data[:PAGE], view[:PAGE])
+        os.truncate(image, PAGE)
+        hold("a cached page", None, signal_at(view, 0))
+        hold("a page that is not cached", signal.SIGBUS, signal_at(view, 7 * MIB))
+        hold("the same, read", errno.EIO, part(mount.path(b"x"), 7 * MIB, PAGE))
+    mount.end()
+    return "a mapped page that is cached, SIGBUS at one that is not"
+
+
+def stale(room):
+    """An image that is written over: what the kernel has cached stays old until it is dropped, also for who opens it anew."""
+    old, new = (laid_out(b"v", [file("x", byte * PAGE), file("y", byte * PAGE)]) for byte in (b"o", b"n"))
+    image = room.write(old)
+    mount = room.mount([image])
+
+    def seen(name):
+        with open(mount.path(name), "rb") as it:
+            return it.read(1)
+    hold("before", b"o", seen(b"x"))
+    with open(image, "r+b") as out:
+        out.write(new)
+    hold("cached, and not", (b"o", b"n"), (seen(b"x"), seen(b"y")))
+    hold("past the cache", b"n" * PAGE, part(mount.path(b"x"), 0, PAGE))
+    mount.end()
+    return "old data while they are cached, new data else"
 
 
 def overwritten(room):
@@ -284,7 +327,7 @@ def ahead(room):
     names = [b"%02d" % number for number in range(FILES)]
     data = laid_out(b"v", [file(name.decode(), bytes(MIB)) for name in names])
     places = [data.index(name + b"\0") - 16 for name in names]
-    rows = trailer_of({at: said(0o644, 0, 0, 0, 0) for at in places})
+    rows = trailer_of({at: said(0o644, 0, 0, 0, 0) for at in places}, {})
     image = room.write(data + bytes(-len(data) % 16) + rows)
     number = uncached(image)
     fifo = os.path.join(room.folder, "fifo")
@@ -303,4 +346,4 @@ def ahead(room):
     return "the headers of an image in no cache are asked for, and none of its data"
 
 
-CHECKS = (cut, overwritten, deleted, kept, failing, lying, stalled, fifty, spread, ahead)
+CHECKS = (cut, mapped_cut, overwritten, stale, deleted, kept, failing, lying, stalled, fifty, spread, ahead)

@@ -13,8 +13,7 @@ use Rattle.std.proofs.lemmas.List.{append-nil, drop_more, get_or_at, get_or_defa
 use Rattle.std.proofs.lemmas.List.Edits.{map_over_more}
 use Rattle.std.proofs.lemmas.List.Elements.{All-map, All-push}
 use Rattle.std.proofs.lemmas.List.Prefix.{front_rest}
-use Rattle.romfs_format.specs.declared.head.Head.{Head}
-use Rattle.romfs_format.specs.Heads.{name_of, head_of}
+use Rattle.romfs_format.specs.Heads.{name_of}
 use Rattle.layer_names.specs.Keys.{key, AreBytes}
 use Rattle.layer_names.proofs.Order.{all_bytes, each_byte, bytes-drop, key_order, cmp-front}
 use Rattle.layer_paths.specs.Rows.{name_cmp}
@@ -118,10 +117,6 @@ one_keyed a n old now i k d l m e v =
     let x = slice_index_or now i d in
     let with_key : ℕ → KeyedMember = λ key. record { key = key; offset = x.offset; name_len = x.name_len } in
     ap (λ key. slice_set now i (with_key key)) v ∙ map_over_more (keyed_past a n) old now i x l e (get_or_default now i d x m)
-
--- the name of a header that was read is that of its place
-pub named : (a name : List ℕ) (head : Head) (h : ℕ) → name ≡ name_of a head.offset → head ≡ head_of a h → name ≡ name_of a h
-named a name head h e f = e ∙ ap (λ (x : Head). name_of a x.offset) f
 
 -- a member whose key is not made anew yet is as it was
 pub not_yet : (a : List ℕ) (n : ℕ) (old now : List KeyedMember) (i : ℕ) (d : KeyedMember) → i < length old

@@ -151,12 +151,11 @@ fn branches_below<A: Allocator + Copy>(
     let mut ahead = NamesAhead::new();
     for member in members {
         ahead.pass(layer.image, members);
-        let head = layer.image.given_named(member.offset, member.name_len);
-        let name = layer.image.name(&head);
-        if is_marker(name) {
+        let it = layer.image.given_named(member.offset, member.name_len);
+        if is_marker(it.name) {
             continue;
         }
-        add_branches(layer, ends, name, &head, left - 1, &mut made)?;
+        add_branches(layer, ends, it.name, &it.head, left - 1, &mut made)?;
     }
     Ok(made)
 }

@@ -126,6 +126,18 @@ pub(crate) fn word_in(blocks: &Numbers<'_>, bytes: &[u8], size: u32, at: u32) ->
     if near.len() >= 4 {
         return BigEndian::read_u32(near);
     }
+    word_by_bytes(blocks, bytes, size, at)
+}
+
+/// The same, byte by byte.
+#[inline(never)]
+fn word_by_bytes(blocks: &Numbers<'_>, bytes: &[u8], size: u32, at: u32) -> u32
+    requires kept { IsKept blocks.now.all.now bytes.now }
+    requires at { at + 4 ≤ size }
+    ensures { result ≡ word_of (filled size blocks.now.all.now bytes.now) at }
+{
+    // the size is named by the clauses alone
+    let _ = size;
     BigEndian::read_u32(&[
         byte_in(blocks, bytes, at),
         byte_in(blocks, bytes, at + 1),
@@ -243,6 +255,13 @@ pub(crate) fn byte_of_blocks(blocks: &Numbers<'_>, bytes: &[u8], size: u32, at: 
     byte_in(blocks, bytes, at)
 }
 
+/// A header, and its name: empty if it has no end.
+#[derive(Clone, Copy)]
+pub struct NamedHead<'a> {
+    pub head: Head,
+    pub name: &'a [u8],
+}
+
 /// The header at a place, of an image of this size.
 #[cold]
 pub(crate) fn head_of_blocks(blocks: &Numbers<'_>, bytes: &[u8], size: u32, at: u32) -> Head
@@ -281,6 +300,35 @@ pub(crate) fn head_in_blocks(
     let spec = word_in(blocks, bytes, size, at + 4);
     let data_size = word_in(blocks, bytes, size, at + 8);
     head_with(at, first, spec, data_size, name_len)
+}
+
+/// The same with its name, mostly from one run.
+#[cold]
+pub(crate) fn named_of_blocks<'a>(
+    blocks: &Numbers<'_>,
+    bytes: &'a [u8],
+    size: u32,
+    at: u32,
+    name_len: u32,
+) -> NamedHead<'a>
+    requires kept { IsKept blocks.now.all.now bytes.now }
+    requires inside { at + HEAD_SIZE ≤ size }
+    requires name { name_len ≡ length (name_of (filled size blocks.now.all.now bytes.now) at) }
+    ensures head { result.head ≡ head_of (filled size blocks.now.all.now bytes.now) at }
+    ensures name { result.name.now ≡ name_of (filled size blocks.now.all.now bytes.now) at }
+{
+    let near = run(blocks, bytes, at);
+    if near.len() < HEAD_SIZE + name_len as usize {
+        return NamedHead {
+            head: head_in_blocks(blocks, bytes, size, at, name_len),
+            name: name_of_blocks(blocks, bytes, size, at, name_len),
+        };
+    }
+    let name = &near[HEAD_SIZE..];
+    NamedHead {
+        head: head_with(at, word(near, 0), word(near, 4), word(near, 8), name_len),
+        name: &name[..name_len as usize],
+    }
 }
 
 /// The name whose field begins at a place, of an image of this size.

@@ -20,7 +20,7 @@ mod kept;
 mod numbers;
 pub mod read;
 
-pub use blocks::BLOCK_SIZE;
+pub use blocks::{BLOCK_SIZE, NamedHead};
 pub use held::Held;
 pub use image::HeldImage;
 pub use kept::Kept;

@@ -6,8 +6,8 @@
 //! eight numbers for each. For a part the number of kept ones before it is noted, and a block is
 //! mostly among the first sixteen from there on, which are tried one by one. A note is a guess: for
 //! a block that is not there it is checked against the numbers at its ends and searched by halves,
-//! and if it is wrong, or there is none, all are. Notes take less than two bytes for each block, and
-//! three steps.
+//! and if it is wrong, or there is none, all are. Notes take less than two bytes for each block,
+//! and three steps. A block up to which all are kept is found without: its number is its position.
 
 ghost use Rattle.std.specs.Prelude.{◌≡◌, ◌<◌, ◌≤◌, ◌^◌, length, slice_index, IsTrue, IfSome};
 ghost use Rattle.romfs_held.specs.Blocks.{Rises, IsRank, HoldsRank};
@@ -58,13 +58,17 @@ impl<'a> Numbers<'a> {
         rank_within(self.all, within, block)
     }
 
-    // Where the block stands, if it is among the first of its part.
+    // Where the block stands, if all up to it are there, or it is among the first of its part.
     #[inline(always)]
     fn found_soon(&self, block: u32) -> Option<usize>
         ensures { IfSome result (λ at. (at < length self.now.all.now)
             × (slice_index self.now.all.now at ≡ block)) }
     {
         let all = self.all;
+        let first = block as usize;
+        if first < all.len() && all[first] == block {
+            return Some(first);
+        }
         let part = part_of(self.stretches, self.digits, block)?;
         let low = *self.notes.get(part)? as usize;
         let high = all.len().min(low.saturating_add(NEAR));

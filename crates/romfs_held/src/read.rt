@@ -11,8 +11,8 @@ ghost use Rattle.romfs_format.specs.Trailer.{long_word as long_word_of};
 ghost use Rattle.romfs_held.specs.Blocks.{CopiesSome};
 
 use crate::blocks::{
-    byte_of_blocks, copy_some_of_blocks, head_in_blocks, head_of_blocks, long_word_in,
-    name_of_blocks, slice_of_blocks, sum_in, text_of_blocks, word_in,
+    NamedHead, byte_of_blocks, copy_some_of_blocks, head_of_blocks, long_word_in, name_of_blocks,
+    named_of_blocks, slice_of_blocks, sum_in, text_of_blocks, word_in,
 };
 use crate::held::{Form, Held};
 use romfs_format::limits::HEAD_SIZE;
@@ -154,22 +154,26 @@ pub fn head_at(image: &Held<'_>, at: u32) -> Head
     }
 }
 
-/// The same, with the length of its name, which is known.
+/// The same with its name, whose length is known.
 #[inline(always)]
 #[tactic(auto, using(crate::proofs::Fronts::filled_long))]
-pub fn head_named(image: &Held<'_>, at: u32, name_len: u32) -> Head
+pub fn named_head<'a>(image: &Held<'a>, at: u32, name_len: u32) -> NamedHead<'a>
     requires inside { at + HEAD_SIZE ≤ length image.now }
     requires small { length image.now < 2 ^ 32 }
     requires name { name_len ≡ length (name_of image.now at) }
-    ensures { result ≡ head_of image.now at }
+    ensures head { result.head ≡ head_of image.now at }
+    ensures name { result.name.now ≡ name_of image.now at }
 {
     match image.form {
-        Form::Whole(bytes) => fields::head_named(bytes, at, name_len),
+        Form::Whole(bytes) => NamedHead {
+            head: fields::head_named(bytes, at, name_len),
+            name: name_in_slice(bytes, at, name_len),
+        },
         Form::Sparse {
             size,
             blocks,
             bytes,
-        } => head_in_blocks(&blocks, bytes, size, at, name_len),
+        } => named_of_blocks(&blocks, bytes, size, at, name_len),
     }
 }
 

@@ -5,7 +5,6 @@ pub mod Lent
 pub mod Listing
 pub mod Hops
 pub mod Named
-pub mod Dots
 pub mod Steps
 pub mod Readings
 pub mod Whole

@@ -1,7 +1,9 @@
 -- What the name that was read says about the true one, with the empty name for one that is not ended: a name with bytes is ended
--- (`some_name`), and none is `.` or `..` (`dotted`). Beyond the image there is none (`unnamed`).
-use Rattle.std.proofs.Common.{◌≡◌, ◌≢◌, sym, ℕ, ◌+◌, ◌<◌, List, [], length, Option, Some, None, IsSome, false, refl, arith}
-use Rattle.std.specs.Prelude.{unwrap_or}
+-- (`some_name`), and none is `.` or `..` (`dotted`), as none of more than two bytes is (`no_dots`). Beyond the image there is none (`unnamed`).
+use Rattle.std.proofs.Common.{◌≡◌, ◌≢◌, ◌∙◌, sym, ap, ℕ, ◌+◌, ◌<◌, List, [], length, Option, Some, None, IsSome, Bool, true, false, refl, arith}
+use Rattle.std.specs.Prelude.{codes, unwrap_or}
+use Rattle.std.specs.Str.{bytes_eq}
+use Rattle.std.proofs.lemmas.Slice.Eq.{bytes_eq-Decides}
 use Rattle.std.specs.Option.{option_map_or}
 use Rattle.romfs_format.specs.Fields.{name, is_dot_name}
 use Rattle.romfs_format.specs.Heads.{name_of}
@@ -22,6 +24,17 @@ dotted_text (Some text) = refl
 -- the name that was read is `.` or `..` exactly where the header has such a name
 pub dotted : (a : List ℕ) (h : ℕ) → is_dot_name (name_of a h) ≡ option_map_or is_dot_name (name a h) false
 dotted a h = dotted_text (name a h)
+
+-- a name that is longer than `..` is neither
+longer : (n m : List ℕ) → length m < length n → bytes_eq n m ≡ false
+longer n m l = pick (bytes_eq n m) refl
+  where
+    pick : (b : Bool) → b ≡ bytes_eq n m → b ≡ false
+    pick false e = refl
+    pick true e = absurd (let same : n ≡ m = (bytes_eq-Decides n m).0 (sym e) in let g = ap length same in omega arith)
+
+pub no_dots : (a : List ℕ) (h : ℕ) → 2 < length (name_of a h) → option_map_or is_dot_name (name a h) false ≡ false
+no_dots a h l = sym (dotted a h) ∙ rw (longer (name_of a h) (codes ".") (omega arith), longer (name_of a h) (codes "..") (omega arith)) refl
 
 -- no name begins beyond the image
 pub unnamed : (a : List ℕ) (h : ℕ) → length a < h + 16 → name_of a h ≡ []

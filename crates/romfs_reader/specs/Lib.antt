@@ -2,4 +2,3 @@ pub mod Readers
 pub mod Walks
 pub mod Ends
 pub mod Images
-pub mod Dots

@@ -1,24 +1,21 @@
 //! The members of a directory, along its chain.
 
-ghost use Rattle.std.specs.Prelude.{◌≡◌, ◌+◌, ◌<◌, ◌≤◌, ◌^◌, length, IsTrue};
+ghost use Rattle.std.specs.Prelude.{◌≡◌, ◌<◌, ◌^◌, length};
 ghost use Rattle.std.specs.Iterator.{YieldsFirst, item_count};
 ghost use Rattle.romfs_format.specs.Fields.{root as root_of, IsInside};
 ghost use Rattle.romfs_format.specs.Heads.{head_of};
-ghost use Rattle.romfs_format.specs.declared.limits.TheConstants.{HEAD_SIZE};
-ghost use Rattle.romfs_reader.specs.Dots.{HasDotName};
 ghost use Rattle.romfs_reader.specs.Readers.{passes_over};
 ghost use Rattle.romfs_reader.specs.Walks.{IsWalk, IsNextMember, members_from};
 
 use crate::parts::name_in;
 use romfs_format::head::Head;
-use romfs_format::limits::HEAD_SIZE;
-use romfs_format::read::{cleared, is_dot_name};
+use romfs_format::read::is_dot_name;
 use romfs_held::Held;
-use romfs_held::read::{byte_at, head_at, word};
+use romfs_held::read::head_at;
 use std::marker::Model;
 
-/// How many bytes a short name takes with its padding.
-const PADDED: usize = 16;
+/// How many bytes `..` has.
+const DOTS: u32 = 2;
 
 /// The members of a directory, in the order of its chain. A clause sees the list of those that are
 /// left, so a loop knows which it has passed.
@@ -81,8 +78,9 @@ impl<'a> Iterator for Members<'a> {
     }
 }
 
-/// Whether a header is passed over in the chain of a directory.
-#[tactic(auto, using(crate::proofs::Named::dotted))]
+/// Whether a header is passed over in the chain of a directory. Most names are longer than `..`,
+/// and need not be found for that.
+#[tactic(auto, using(crate::proofs::Named::dotted, crate::proofs::Named::no_dots))]
 fn is_passed_over(image: &Held<'_>, root: u32, directory: u32, head: &Head) -> bool
     requires root { root ≡ root_of image.now }
     requires small { length image.now < 2 ^ 32 }
@@ -93,28 +91,10 @@ fn is_passed_over(image: &Held<'_>, root: u32, directory: u32, head: &Head) -> b
     if directory == root && head.offset == root {
         return true;
     }
+    if head.name_len > DOTS {
+        return false;
+    }
     is_dot_name(name_in(image, head))
-}
-
-/// Whether the first bytes of a header's name make it `.` or `..`: no end of a name is searched.
-/// Each directory has such members, so a walk meets many.
-fn begins_as_dots(image: &Held<'_>, at: u32) -> bool
-    requires small { length image.now < 2 ^ 32 }
-    requires inside { at + HEAD_SIZE ≤ length image.now }
-    ensures { IsTrue result → HasDotName image.now at }
-{
-    let name = at as usize + HEAD_SIZE;
-    if image.len() < name + PADDED {
-        return false;
-    }
-    if byte_at(image, name) != b'.' {
-        return false;
-    }
-    let second = byte_at(image, name + 1);
-    if second == 0 {
-        return true;
-    }
-    second == b'.' && byte_at(image, name + 2) == 0
 }
 
 /// The first member from a place of a chain on.
@@ -123,10 +103,6 @@ fn member_from(image: &Held<'_>, root: u32, directory: u32, mut at: u32) -> Opti
     ensures { IsNextMember image.now root directory at result }
 {
     while at != 0 {
-        if begins_as_dots(image, at) {
-            at = cleared(word(image, at as usize));
-            continue;
-        }
         let head = head_at(image, at);
         if !is_passed_over(image, root, directory, &head) {
             return Some(head);

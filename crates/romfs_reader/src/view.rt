@@ -15,8 +15,8 @@ use crate::parts::{
 };
 use devices::{Contents, Unread};
 use romfs_format::{Head, Kind};
-use romfs_held::Held;
-use romfs_held::read::{copy_some, head_at, head_named, name_of};
+use romfs_held::read::{copy_some, head_at, name_of, named_head};
+use romfs_held::{Held, NamedHead};
 use std::alloc::{AllocError, Allocator};
 use std::marker::Model;
 
@@ -95,14 +95,15 @@ impl<'a> ImageView<'a> {
         head_at(&self.image, offset)
     }
 
-    /// The same with the known length of its name in bytes, so its end is not searched.
-    pub fn given_named(&self, offset: u32, name_len: u32) -> Head
+    /// The same with its name, whose length in bytes is known, so its end is not searched.
+    pub fn given_named(&self, offset: u32, name_len: u32) -> NamedHead<'a>
         requires head { IsGiven self.now (head_of self.now offset) }
         requires name { name_len ≡ length (name_of self.now offset) }
-        ensures value { result ≡ head_of self.now offset }
-        ensures given { IsGiven self.now result }
+        ensures value { result.head ≡ head_of self.now offset }
+        ensures given { IsGiven self.now result.head }
+        ensures name { result.name.now ≡ name_of self.now offset }
     {
-        head_named(&self.image, offset, name_len)
+        named_head(&self.image, offset, name_len)
     }
 
     /// The byte at an offset in bytes; none beyond the image. It is for whoever reads ahead what

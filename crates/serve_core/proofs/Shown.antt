@@ -1,14 +1,15 @@
--- What was gathered from sources was gathered of the images that they show (gathered_of), so it is refused for what these are refused for
--- (shown_refused), and served as they are (shown_stacks, shown_served).
-use Rattle.std.proofs.Common.{List, [], ◌∷◌, ℕ, ◌↔◌}
-use Rattle.devices.specs.Sources.{Source}
+-- What was gathered from sources was gathered from the images that they show (gathered_of), so it is refused for what these are refused for
+-- (shown_refused), and served as they are (shown_stacks, shown_served). Memory shows what it has (from_held, held_shown).
+use Rattle.std.proofs.Common.{subst, List, [], ◌∷◌, ℕ, ◌↔◌, map}
+use Rattle.devices.specs.Sources.{Source, held}
 use Rattle.romfs_format.specs.declared.rule.Profile.{Profile}
 use Rattle.stack_model.specs.declared.owner.Owner.{Owner}
 use Rattle.stack_prepare.specs.declared.refusal.Refusal.{Refusal}
 use Rattle.stack_prepare.specs.Layers.{AreRefused}
 use Rattle.stack_prepare.specs.Preparing.{AreStacked}
+use Rattle.reply_model.specs.Holding.{AreHeldBy}
 use Rattle.reply_model.specs.Readings.{Sourced, AreShown}
-use Rattle.serve_core.specs.Kept.{WereGatheredFor, WereGatheredFrom, AreStacksOf, AreServedAs, over}
+use Rattle.serve_core.specs.Kept.{WasGatheredFor, WereGatheredFor, WereGatheredFrom, AreStacksOf, AreServedAs, over}
 use Rattle.serve_core.proofs.Answered.{told_right, moved_alike}
 use Rattle.serve_core.proofs.Refused.{refused_alike}
 use Rattle.serve_core.proofs.Stacking.{stacked_back}
@@ -44,3 +45,19 @@ module _ (profile : Profile) (owner : Owner) (by : Sourced) (images kept : List 
     told = told_right images by.stack (over images by.stack) shown_stacks by.sources s;
     moved = moved_alike images by.stack (over images by.stack) shown_stacks;
   }
+
+-- what was gathered from images was gathered so from memory that has them
+pub from_held : (profile : Profile) (images kept : List (List ℕ)) → WereGatheredFor profile images kept
+    → WereGatheredFrom profile (map held images) kept
+from_held profile [] [] g = tt
+from_held profile (b ∷ images) (a ∷ kept) g =
+    (record { each = λ xs is. subst (λ (x : List ℕ). WasGatheredFor profile x a) is g.0 }, from_held profile images kept g.1)
+from_held profile [] (a ∷ kept) g = absurd g
+from_held profile (b ∷ images) [] g = absurd g
+
+-- what is held is shown
+pub held_shown : (sources : List Source) (images : List (List ℕ)) → AreHeldBy sources images → AreShown sources images
+held_shown [] [] h = tt
+held_shown (x ∷ sources) (xs ∷ images) h = (h.0.shows, held_shown sources images h.1)
+held_shown [] (xs ∷ images) h = absurd h
+held_shown (x ∷ sources) [] h = absurd h

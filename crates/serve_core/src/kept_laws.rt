@@ -124,15 +124,21 @@ pub fn streams_are_served_as_over_them<A: Allocator>()
 /// for what they are refused for; and once it is stacked they are good, each reply is the one that
 /// is defined over them, or EIO in place of data, and the same lookups are moved. A sealed source
 /// shows any bytes with its digest, unless a read gives, in the place of a block of theirs or of
-/// their tree, another block with that block's digest.
+/// their tree, another block with that block's digest. Bytes in memory show themselves.
 pub fn shown_images_are_served()
     ensures refused { (profile : Profile) (sources : List Source) (images kept : List (List ℕ)) →
         WereGatheredFrom profile sources kept → AreShown sources images → (r : Refusal) →
         (AreRefused profile kept r ↔ AreRefused profile images r) }
     ensures served { (profile : Profile) (owner : Owner) (by : Sourced)
-        (images kept : List (List ℕ)) → WereGatheredFrom profile by.sources kept → AreStacked profile owner kept by.stack →
+        (images kept : List (List ℕ)) → WereGatheredFrom profile by.sources kept →
+        AreStacked profile owner kept by.stack →
         AreShown by.sources images → AreServedAs profile owner by images }
     ensures stacks { (profile : Profile) (owner : Owner) (by : Sourced)
-        (images kept : List (List ℕ)) → WereGatheredFrom profile by.sources kept → AreStacked profile owner kept by.stack →
+        (images kept : List (List ℕ)) → WereGatheredFrom profile by.sources kept →
+        AreStacked profile owner kept by.stack →
         AreShown by.sources images → AreStacksOf images by.stack (over images by.stack) }
+    ensures held { (profile : Profile) (images kept : List (List ℕ)) →
+        WereGatheredFor profile images kept → WereGatheredFrom profile (map held images) kept }
+    ensures shown { (sources : List Source) (images : List (List ℕ)) →
+        AreHeldBy sources images → AreShown sources images }
 {}

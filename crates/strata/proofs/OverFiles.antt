@@ -1,7 +1,7 @@
 -- What was gathered from images for a line. It was, where the line's sources show images (of_files), and these are served (served_shown).
 -- The images can be stacked (good_of_files), and requests get what is defined over them, if reads give their bytes (told_of_files);
 -- whatever reads give, all but READs do (told_others).
-use Rattle.std.proofs.Common.{◌≡◌, ◌≢◌, ◌∙◌, ◌≤◌, ◌⊎◌, ◌↔◌, sym, ap, subst, ℕ, inl, inr, List, [], ◌∷◌, Bool, true, false, length, map, Some, None, arith, refl, if◌then◌else◌}
+use Rattle.std.proofs.Common.{◌≡◌, ◌≢◌, ◌∙◌, ◌≤◌, ◌⊎◌, ◌↔◌, ◌||◌, sym, ap, subst, ℕ, inl, inr, List, [], ◌∷◌, Bool, true, false, length, map, Some, None, arith, refl, if◌then◌else◌}
 use Rattle.devices.specs.Sources.{Source, IfShown, held}
 use Rattle.romfs_files.specs.declared.loaded.Trailers.{Trailers}
 use Rattle.romfs_files.specs.declared.loaded.Trailers.TheVariants.{Read, Left}
@@ -19,22 +19,23 @@ use Rattle.serve_core.proofs.Answered as answered
 use Rattle.serve_core.proofs.Shown.{gathered_of, shown_served}
 use Rattle.serve_core.proofs.Stacking.{stacked_back}
 use Rattle.strata_words.specs.declared.options.Line.{Line}
-use Rattle.strata_images.specs.Images.{profile_of, trailers_of, IsDataOf, AreDataOf, AreHeldWhole, ArePrepared}
+use Rattle.strata_images.specs.Images.{asks_attributes, profile_of, reports_trailers, trailers_of, IsDataOf, AreDataOf, AreHeldWhole, ArePrepared}
 use Rattle.strata_images.proofs.Rules.{reads}
 
--- with the trailer, where attributes are asked for
-by_trailers : (attributes reads : Bool) (source : Source) (a : List ℕ) → reads ≡ attributes
-    → WasGathered (if attributes then Read else Left) source a
+-- with the trailer, if attributes are asked for or trailers reported
+by_trailers : (attributes reports reads : Bool) (source : Source) (a : List ℕ) → reads ≡ attributes
+    → WasGathered (if attributes || reports then Read else Left) source a
     → IfShown source (λ b. IsGatheredWithTrailerOf b a ⊎ ((reads ≡ false) × IsGatheredOf b a))
-by_trailers true reads source a e g = record { each = λ b v. inl (g.each b v) }
-by_trailers false reads source a e g = record { each = λ b v. inr (e, g.each b v) }
+by_trailers true reports reads source a e g = record { each = λ b v. inl (g.each b v) }
+by_trailers false true reads source a e g = record { each = λ b v. inl (g.each b v) }
+by_trailers false false reads source a e g = record { each = λ b v. inr (e, g.each b v) }
 
 module _ (line : Line) where
   all_gathered : (kept : List (List ℕ)) (sources : List Source) → AreDataOf (trailers_of line) kept sources
       → WereGatheredFrom (profile_of line) sources kept
   all_gathered [] [] d = tt
   all_gathered (a ∷ kept) (source ∷ sources) d = (
-    by_trailers line.attributes (reads_attributes (profile_of line)) source a (reads line) d.0,
+    by_trailers (asks_attributes line) (reports_trailers line.verb) (reads_attributes (profile_of line)) source a (reads line) d.0,
     all_gathered kept sources d.1,
   )
   all_gathered [] (source ∷ sources) d = absurd d

@@ -1,7 +1,7 @@
 -- What the exit statuses of the program mean. `ends_for_words` and `ends_for_images` say what 2 and
 -- 3 tell: each goes over all that can end a command, and rules out what has another status.
 -- `has_done`, `has_stopped` and `has_ended` put a run together by the status of its last step.
-use Rattle.std.proofs.Common.{◌≡◌, ◌≢◌, ◌∙◌, sym, ap, subst, ℕ, ◌≤◌, ◌<◌, ◌⊎◌, inl, inr, List, All, Option, Some, None, Err, refl, arith}
+use Rattle.std.proofs.Common.{◌≡◌, ◌≢◌, ◌∙◌, sym, ap, subst, ℕ, ◌≤◌, ◌<◌, ◌⊎◌, inl, inr, List, length, All, Option, Some, None, Err, refl, arith}
 use Rattle.romfs_format.specs.declared.rule.Profile.{Profile}
 use Rattle.romfs_format.specs.Rules.{IsSound}
 use Rattle.serve_core.specs.declared.stop.Stop.{Stop}
@@ -191,7 +191,7 @@ work_bad A verbs.Check line images fault old new s e =
     let f = s.1 in
     let told : (other : ImagesFault) → f.0 ≡ other → images_status other ≡ 3 = λ other same. sym (ap status_of (f.1 ∙ ap Images same)) ∙ e in
     elim f.2 [
-      | inl g ↦ elim g.0 [
+      | inl (inl g, kept) ↦ elim g [
         | inl r ↦ elim r.refused [
           | inl b ↦ inr (λ sound. none_broken (profile_of line) r.before r.after r.bytes b.0.rule b.0.place
               (subst (All (IsSound (profile_of line))) r.images_are sound) b.2)
@@ -199,12 +199,14 @@ work_bad A verbs.Check line images fault old new s e =
         ]
         | inr m ↦ absurd (five_is_more (told faults.Memory m))
       ]
+      | inl (inr many, kept) ↦ inl (not_few (profile_of line) images (length images) (refl, inr many.many))
       | inr l ↦ absurd (one_is_less (told faults.Write l.told))
     ]
 work_bad A verbs.List line images fault old new s e =
     let f = s.1 in
     elim f.2 [
-      | inl r ↦ unstacked_bad (profile_of line) images fault (f.0, f.1, r.0) e
+      | inl (inl r, kept) ↦ unstacked_bad (profile_of line) images fault (f.0, f.1, r) e
+      | inl (inr m, kept) ↦ absurd (five_is_more (three_of fault (Images faults.Memory) (f.1 ∙ ap Images m) e))
       | inr l ↦ absurd (one_is_less (three_of fault (Images faults.Write) (f.1 ∙ ap Images l.told) e))
     ]
 

@@ -183,7 +183,7 @@ IsDoneOver A verbs.Serve line images old new = IsServedWhole A line images old n
 IsDoneOver A verbs.Socket line images old new =
     (new ≡ old) × IsServedAtSocket A line images None
 IsDoneOver A verbs.Check line images old new =
-    (new.source ≡ old.source) × AreGood (profile_of line) images old.sink new.sink
+    (new.source ≡ old.source) × AreGood line images old.sink new.sink
 IsDoneOver A verbs.List line images old new =
     (new.source ≡ old.source) × IsStackListed (profile_of line) images old.sink new.sink
 
@@ -195,7 +195,7 @@ IsStoppedOver A verbs.Socket line images fault old new =
     (new ≡ old) × IsNotServedAtSocket A line images fault
 IsStoppedOver A verbs.Check line images fault old new =
     (new.source ≡ old.source)
-    × IsOfImages (λ f. AreNotGood (profile_of line) images f old.sink new.sink) fault
+    × IsOfImages (λ f. AreNotGood line images f old.sink new.sink) fault
 IsStoppedOver A verbs.List line images fault old new =
     (new.source ≡ old.source)
     × IsOfImages (λ f. IsNotListed (profile_of line) images f old.sink new.sink) fault

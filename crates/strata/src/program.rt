@@ -30,7 +30,7 @@ use std::io::{Read, Write};
 use std::net::Net;
 use std::os::unix::fs::FileExt;
 use std::thread::Threads;
-use strata_images::{ImagesFault, check, gather_all, list, open_all, profile_of};
+use strata_images::{ImagesFault, check, gather_all, list, open_all};
 use strata_words::{Line, NoLine, Verb, line};
 
 /// Runs the program on the arguments after its name, over a reader and a writer that were not used
@@ -278,11 +278,11 @@ where
         }
         Verb::Check => {
             let images = gather_all(rt, alloc, line)?;
-            as_told(check(alloc, images, profile_of(line), output))
+            as_told(check(alloc, line, images, output, faults))
         }
         Verb::List => {
-            let images = open_all(rt, alloc, line)?;
-            as_told(list(rt, alloc, line, images.held, output))
+            let images = gather_all(rt, alloc, line)?;
+            as_told(list(rt, alloc, line, images, output, faults))
         }
     }
 }

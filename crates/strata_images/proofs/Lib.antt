@@ -6,3 +6,4 @@ pub mod Rules
 pub mod Listed
 pub mod Told
 pub mod ByDigest
+pub mod Noted

@@ -1,6 +1,6 @@
 -- Images that are checked one after another. `one_more` is the step of the loop: the next image is
 -- good, and its size is put behind the others. `all_sized` ends it, or `first_refused`: the next image
--- is not good. `good_put` and `not_good` say how a check ends.
+-- is not good. `good_put` says how a check ends.
 use Rattle.std.proofs.Common.{◌≡◌, ◌∙◌, sym, ap, refl, subst, arith, ℕ, List, [], ◌∷◌, ◌++◌, append_assoc, append-nil, length, map, inl, Result, Ok, Err, IfErr, IsErrAnd}
 use Rattle.std.proofs.lemmas.List.{length-map, map-append}
 use Rattle.std.proofs.lemmas.List.Elements.{All-push}
@@ -8,7 +8,8 @@ use Rattle.romfs_format.specs.declared.rule.Profile.{Profile}
 use Rattle.romfs_format.specs.Fields.{image}
 use Rattle.romfs_format.specs.Rules.{IsSound}
 use Rattle.strata_images.specs.declared.faults.ImagesFault.{ImagesFault}
-use Rattle.strata_images.specs.Checking.{AreGood, AreNotGood, AreSizes, IsFirstFault, IsImageFault}
+use Rattle.strata_words.specs.declared.options.Line.{Line}
+use Rattle.strata_images.specs.Checking.{AreAccepted, AreGood, AreSizes, IsFirstFault, IsImageFault}
 use Rattle.strata_images.specs.Lines.{ArePut}
 use Rattle.strata_images.specs.Texts.{size_lines}
 use Rattle.devices.specs.States.{SinkState}
@@ -69,14 +70,7 @@ first_refused {v = v} {profile} {all} s x rest l n e fault f (Err told) same =
     }))
 
 -- the lines of the sizes of good images are put
-pub good_put : (profile : Profile) (images : List (List ℕ)) (sizes lines : List ℕ) (old new : SinkState) → AreSizes profile images sizes
-    → lines ≡ size_lines 0 sizes → ArePut lines old new → AreGood profile images old new
-good_put profile images sizes lines old new are is put =
-    record { sizes = sizes; sizes_are = are; put = subst (λ xs. ArePut xs old new) is put }
-
--- the fault of the first image that is not good is reported, and nothing is put
-pub not_good : {Y : Type 0} (profile : Profile) (images : List (List ℕ)) (fault : ImagesFault) (state : SinkState) (r : Result Y ImagesFault)
-    → IsFirstFault profile images fault → IsErrAnd r (λ told. told ≡ fault) → IfErr r (λ told. AreNotGood profile images told state state)
-not_good profile images fault state (Ok y) first same = absurd same
-not_good profile images fault state (Err told) first same =
-    subst (λ f. AreNotGood profile images f state state) (sym same) (inl (first, refl))
+pub good_put : (line : Line) (images : List (List ℕ)) (sizes lines : List ℕ) (old new : SinkState) → AreAccepted line images sizes
+    → lines ≡ size_lines 0 sizes → ArePut lines old new → AreGood line images old new
+good_put line images sizes lines old new are is put =
+    record { sizes = sizes; accepted = are; put = subst (λ xs. ArePut xs old new) is put }

@@ -1,13 +1,16 @@
 -- What a check leaves behind: the sizes of good images in the output, or the fault of the first that
 -- is not good.
-use Rattle.std.specs.Prelude.{◌≡◌, ◌⊎◌, ℕ, List, ◌∷◌, ◌++◌, length, map, All}
+use Rattle.std.specs.Prelude.{◌≡◌, ◌<◌, ◌≤◌, ◌⊎◌, ℕ, true, List, ◌∷◌, ◌++◌, length, map, All}
 use Rattle.romfs_format.specs.declared.rule.Profile.{Profile}
 use Rattle.romfs_format.specs.declared.rule.ImageFault.{ImageFault}
 use Rattle.romfs_format.specs.Fields.{image}
 use Rattle.romfs_format.specs.Rules.{IsFault, IsSound}
 use Rattle.devices.specs.States.{SinkState}
+use Rattle.stack_model.specs.declared.limits.TheConstants.{MAX_LAYERS}
+use Rattle.strata_words.specs.declared.options.Line.{Line}
 use Rattle.strata_images.specs.declared.faults.ImagesFault.{ImagesFault}
-use Rattle.strata_images.specs.declared.faults.ImagesFault.TheVariants.{Broken, Write, Memory}
+use Rattle.strata_images.specs.declared.faults.ImagesFault.TheVariants.{Broken, Layers, Write, Memory}
+use Rattle.strata_images.specs.Images.{profile_of}
 use Rattle.strata_images.specs.Lines.{AreLost, ArePut}
 use Rattle.strata_images.specs.Texts.{size_lines}
 
@@ -36,22 +39,38 @@ pub record IsFirstRefused (profile : Profile) (images : List (List ℕ))
 abbrev pub IsFirstFault : Profile → List (List ℕ) → ImagesFault → Type 0
 IsFirstFault profile images fault = IsFirstRefused profile images fault ⊎ (fault ≡ Memory)
 
+-- images keep the rules of a line, and these are their sizes; if the line accepts what a mount does,
+-- there are at most 128
+pub record AreAccepted (line : Line) (images : List (List ℕ)) (sizes : List ℕ) : Type 0 where
+  pub sizes_are : AreSizes (profile_of line) images sizes
+  pub few : line.as_mounted ≡ true → length images ≤ MAX_LAYERS
+
+-- a line accepts what a mount does, and has more images
+pub record AreTooMany (line : Line) (images : List (List ℕ)) (fault : ImagesFault) : Type 0 where
+  pub asked : line.as_mounted ≡ true
+  pub many : MAX_LAYERS < length images
+  pub told : fault ≡ Layers (length images)
+
+-- one of the images is to blame, or their number, or memory ran out
+abbrev pub AreNotAccepted : Line → List (List ℕ) → ImagesFault → Type 0
+AreNotAccepted line images fault =
+    IsFirstFault (profile_of line) images fault ⊎ AreTooMany line images fault
+
 -- these images are good, and the output gained a line with the size of each, and was flushed
-pub record AreGood (profile : Profile) (images : List (List ℕ)) (old new : SinkState) : Type 0 where
+pub record AreGood (line : Line) (images : List (List ℕ)) (old new : SinkState) : Type 0 where
   pub sizes : List ℕ
-  pub sizes_are : AreSizes profile images sizes
+  pub accepted : AreAccepted line images sizes
   pub put : ArePut (size_lines 0 sizes) old new
 
 -- these images are good, but the output failed as it took the lines of their sizes
-pub record AreUntold (profile : Profile) (images : List (List ℕ)) (fault : ImagesFault)
+pub record AreUntold (line : Line) (images : List (List ℕ)) (fault : ImagesFault)
     (old new : SinkState) : Type 0 where
   pub told : fault ≡ Write
   pub sizes : List ℕ
-  pub sizes_are : AreSizes profile images sizes
+  pub accepted : AreAccepted line images sizes
   pub lost : AreLost (size_lines 0 sizes) old new
 
--- a check stopped: one of the images is to blame or memory ran out, and the output is as it was; or
--- the output failed
-abbrev pub AreNotGood : Profile → List (List ℕ) → ImagesFault → SinkState → SinkState → Type 0
-AreNotGood profile images fault old new =
-    (IsFirstFault profile images fault × (new ≡ old)) ⊎ AreUntold profile images fault old new
+-- a check stopped: for the images or memory, and the output is as it was; or the output failed
+abbrev pub AreNotGood : Line → List (List ℕ) → ImagesFault → SinkState → SinkState → Type 0
+AreNotGood line images fault old new =
+    (AreNotAccepted line images fault × (new ≡ old)) ⊎ AreUntold line images fault old new

@@ -24,16 +24,29 @@ use Rattle.stack_prepare.specs.Layers.{AreRefused, held_contents, are_whole as a
 use Rattle.stack_prepare.specs.Preparing.{AreStacked}
 use Rattle.reply_model.specs.Readings.{Sourced}
 use Rattle.strata_words.specs.declared.options.Line.{Line}
+use Rattle.strata_words.specs.declared.options.Verb.{Verb}
+use Rattle.strata_words.specs.declared.options.Verb.TheVariants as verbs
 use Rattle.strata_images.specs.declared.faults.ImagesFault.{ImagesFault}
 use Rattle.strata_images.specs.Faults.{refusal_told_of}
 
+-- whether a line asks for attributes, by themselves or as a mount does
+abbrev pub asks_attributes : Line → Bool
+asks_attributes line = line.attributes || line.as_mounted
+
 -- the rules that a line holds images to, and whether their attributes are read
 abbrev pub profile_of : Line → Profile
-profile_of line = profile_with line.strict line.attributes
+profile_of line = profile_with line.strict (asks_attributes line)
 
--- whether the trailers of its images are read
+-- whether a command reports which images have a trailer
+abbrev pub reports_trailers : Verb → Bool
+reports_trailers verbs.Serve = false
+reports_trailers verbs.Socket = false
+reports_trailers verbs.Check = true
+reports_trailers verbs.List = true
+
+-- whether the trailers of its images are read: if it asks for attributes, or reports them
 abbrev pub trailers_of : Line → Trailers
-trailers_of line = if line.attributes then Read else Left
+trailers_of line = if asks_attributes line || reports_trailers line.verb then Read else Left
 
 -- as many images as the line names
 abbrev pub NamesAsMany : Line → List (List ℕ) → Type 0

@@ -8,7 +8,7 @@ use Rattle.stack_prepare.specs.Preparing.{AreStacked}
 use Rattle.node_list.specs.declared.walk.ListFault.TheVariants as list
 use Rattle.node_list.specs.Faults.{Lists, IsBrokenOff}
 use Rattle.strata_images.specs.declared.faults.ImagesFault.{ImagesFault}
-use Rattle.strata_images.specs.declared.faults.ImagesFault.TheVariants.{Write}
+use Rattle.strata_images.specs.declared.faults.ImagesFault.TheVariants.{Memory, Write}
 use Rattle.strata_images.specs.Images.{AreNotStacked}
 
 -- the images are good, and the output gained a line for each path that their stack shows; none
@@ -27,8 +27,9 @@ pub record IsListLost (profile : Profile) (images : List (List ℕ)) (fault : Im
   pub stacked : AreStacked profile ROOT images stack
   pub broken : IsBrokenOff stack old new list.Write
 
--- a list stopped: the images are not stacked, and the output is as it was; or the output failed
+-- a list stopped: the images are not stacked, or memory ran out, and the output is as it was; or the
+-- output failed
 abbrev pub IsNotListed : Profile → List (List ℕ) → ImagesFault → SinkState → SinkState → Type 0
 IsNotListed profile images fault old new =
-    (AreNotStacked profile images fault × (new ≡ old))
+    ((AreNotStacked profile images fault ⊎ (fault ≡ Memory)) × (new ≡ old))
     ⊎ IsListLost profile images fault old new

@@ -1,8 +1,12 @@
 -- What the program prints about images.
-use Rattle.std.specs.Prelude.{ℕ, ◌+◌, ◌-◌, List, [], ◌∷◌, ◌++◌, length, replicate, codes, false}
+use Rattle.std.specs.Prelude.{ℕ, ◌+◌, ◌-◌, ◌&&◌, Bool, List, [], ◌∷◌, ◌++◌, length, nat_le, replicate, codes, false, if◌then◌else◌}
 use Rattle.std.specs.Fmt.{decimal, digits}
 use Rattle.romfs_format.specs.declared.rule.ImageFault.{ImageFault}
 use Rattle.romfs_format.specs.Texts.{text_of}
+use Rattle.romfs_format.specs.Trailer.{has_trailer}
+use Rattle.romfs_format.specs.declared.limits.TheConstants.{HEAD_SIZE}
+use Rattle.strata_words.specs.declared.options.Line.{Line}
+use Rattle.strata_images.specs.Images.{asks_attributes}
 use Rattle.strata_images.specs.declared.faults.ImagesFault.{ImagesFault}
 use Rattle.strata_images.specs.declared.faults.ImagesFault.TheVariants.{Unread, Unsealed, Broken, Layers, Write, Memory}
 
@@ -38,3 +42,20 @@ size_line layer size =
 -- the lines of images that were checked, numbered from this one on
 abbrev pub size_lines : ℕ → List ℕ → List ℕ
 size_lines = numbered_lines size_line
+
+-- an image has room for a volume header, and has a trailer
+abbrev pub shows_trailer : List ℕ → Bool
+shows_trailer b = nat_le HEAD_SIZE (length b) && has_trailer b
+
+-- the line of an image whose trailer was not asked for; none of an image without one
+abbrev pub trailer_line : ℕ → List ℕ → List ℕ
+trailer_line layer b = if shows_trailer b
+    then codes "layer " ++ (decimal layer ++ codes ": attributes not read\n") else []
+
+-- those of images
+abbrev pub trailer_lines : List (List ℕ) → List ℕ
+trailer_lines = numbered_lines trailer_line 0
+
+-- those of the images of a line: none if it asks for attributes
+abbrev pub unread_lines : Line → List (List ℕ) → List ℕ
+unread_lines line images = if asks_attributes line then [] else trailer_lines images

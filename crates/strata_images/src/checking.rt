@@ -1,36 +1,66 @@
 //! The command `check`.
 
 ghost use Rattle.std.specs.Prelude.{◌≡◌, ◌<◌, ◌^◌, length, string_bytes, OnOk, IfOk, IfErr};
+ghost use Rattle.devices.specs.Pushing.{GainsFront};
 ghost use Rattle.romfs_format.specs.Fields.{image};
 ghost use Rattle.romfs_format.specs.Rules.{IsSound};
 ghost use Rattle.romfs_files.specs.Opening.{loaded_bytes, loaded_contents};
-ghost use Rattle.strata_images.specs.Checking.{AreGood, AreNotGood, AreSizes, IsFirstFault, IsImageFault};
-ghost use Rattle.strata_images.specs.Texts.{size_lines};
+ghost use Rattle.strata_images.specs.Checking.{AreAccepted, AreGood, AreNotAccepted, AreNotGood, AreSizes, IsFirstFault, IsImageFault};
+ghost use Rattle.strata_images.specs.Texts.{size_lines, unread_lines};
 
 use crate::faults::ImagesFault;
-use crate::lines::put_lines;
+use crate::lines::{put_lines, write_bytes};
+use crate::profile::profile_of;
+use crate::trailers::unread_lines;
 use devices::Sink;
 use romfs_files::LoadedImage;
 use romfs_image::{CheckFault, Profile, check_held};
+use stack_model::limits::MAX_LAYERS;
 use std::alloc::{AllocError, Allocator};
-use std::io::Write;
+use std::fmt::Write;
+use std::io;
 use std::os::unix::fs::FileExt;
+use strata_words::Line;
 
-/// Checks the images in order, by what is held of them, and puts a line for each if all are good.
-/// Else nothing is put.
-pub fn check<F: FileExt + Drop, A: Allocator + Copy, K: Sink>(
+/// Checks the images of a line in order, by what is held of them, and puts a line for each if all
+/// are good; with `--as-mounted` there may be at most 128. Then it notes those with a trailer that
+/// the line does not ask for. Otherwise nothing is put.
+pub fn check<F: FileExt + Drop, A: Allocator + Copy, K: Sink, E: io::Write>(
     alloc: A,
+    line: &Line<'_>,
     images: Vec<LoadedImage<F, A>, A>,
-    profile: Profile,
+    output: &mut K,
+    notes: &mut E,
+) -> Result<(), ImagesFault>
+    requires { (K.state output.old).counts.failures < 2 ^ 63 }
+    ensures done { OnOk result (AreGood line.now (loaded_contents images)
+        (K.state output.old) (K.state output.new)) }
+    ensures stopped { IfErr result (λ fault. AreNotGood line.now (loaded_contents images) fault
+        (K.state output.old) (K.state output.new)) }
+    ensures noted { OnOk result (GainsFront (unread_lines line.now (loaded_contents images))
+        (E.contents notes.old) (E.contents notes.new)) }
+    ensures unnoted { IfErr result (λ _. E.contents notes.new ≡ E.contents notes.old) }
+{
+    let unread = unread_lines(alloc, line, images.as_slice())?;
+    put_sizes(alloc, line, images, output)?;
+    let _ = write_bytes(notes, unread.as_bytes());
+    Ok(())
+}
+
+// Checks the images of a line, and puts a line for each if all are good.
+fn put_sizes<F: FileExt + Drop, A: Allocator + Copy, K: Sink>(
+    alloc: A,
+    line: &Line<'_>,
+    images: Vec<LoadedImage<F, A>, A>,
     output: &mut K,
 ) -> Result<(), ImagesFault>
     requires { (K.state output.old).counts.failures < 2 ^ 63 }
-    ensures done { OnOk result (AreGood profile (loaded_contents images)
+    ensures done { OnOk result (AreGood line.now (loaded_contents images)
         (K.state output.old) (K.state output.new)) }
-    ensures stopped { IfErr result (λ fault. AreNotGood profile (loaded_contents images) fault
+    ensures stopped { IfErr result (λ fault. AreNotGood line.now (loaded_contents images) fault
         (K.state output.old) (K.state output.new)) }
 {
-    let sizes = checked_sizes(alloc, images, profile)?;
+    let sizes = accepted_sizes(alloc, line, images)?;
     let lines = lines_of(alloc, sizes.as_slice())?;
     Ok(put_lines(output, lines.as_bytes())?)
 }
@@ -44,6 +74,25 @@ fn lines_of<A: Allocator>(alloc: A, sizes: &[u32]) -> Result<String<A>, AllocErr
         writeln!(lines, "layer {layer}: {size} bytes")?;
     }
     Ok(lines)
+}
+
+// How many bytes of each image of a line are accessible, if all are good, and at most 128 if it
+// accepts what a mount does.
+fn accepted_sizes<F: FileExt + Drop, A: Allocator + Copy>(
+    alloc: A,
+    line: &Line<'_>,
+    images: Vec<LoadedImage<F, A>, A>,
+) -> Result<Vec<u32, A>, ImagesFault>
+    ensures ok { IfOk result (λ sizes.
+        AreAccepted line.now (loaded_contents images) sizes.items) }
+    ensures err { IfErr result (AreNotAccepted line.now (loaded_contents images)) }
+{
+    let count = images.len();
+    if line.as_mounted && MAX_LAYERS < count {
+        let count = count as u64;
+        return Err(ImagesFault::Layers { count });
+    }
+    checked_sizes(alloc, images, profile_of(line))
 }
 
 // How many bytes of each image are accessible, if all are good. Else it names the fault of the

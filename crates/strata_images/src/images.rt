@@ -6,6 +6,7 @@ ghost use Rattle.strata_images.specs.Faults.{AreUnread};
 ghost use Rattle.strata_images.specs.Images.{AreHeldFor, AreReadWhole, AreSmall, IsLoadingOf, NamesAsMany, HaveSources, are_whole, bytes_of, sources_of, trailers_of};
 
 use crate::faults::ImagesFault;
+use crate::profile::asks_attributes;
 use romfs_files::{ImageData, LoadedImage, Loading, Trailers, apart, load};
 use romfs_held::HeldImage;
 use std::alloc::Allocator;
@@ -13,7 +14,7 @@ use std::fs;
 use std::fs::Files;
 use std::os::unix::fs::FileExt;
 use std::thread::Threads;
-use strata_words::Line;
+use strata_words::{Line, Verb};
 
 /// The most bytes, in all, of images that are read in full if no mount is served: to read this many
 /// takes less time than to gather what the rules check.
@@ -27,7 +28,7 @@ pub struct LineImages<F: FileExt, A: Allocator> {
     pub files: Vec<ImageData<F, A>, A>,
 }
 
-/// The images of a line that serves or lists. They are read in full with `--whole`, or if they are
+/// The images of a line that serves. They are read in full with `--whole`, or if they are
 /// regular files of at most [`SMALL_STACK`] bytes together and the line neither has `--in-files`
 /// nor serves a device; otherwise they stay in their files. An image for which the line has a digest is
 /// read under it.
@@ -53,8 +54,8 @@ where
     Ok(LineImages { held, files })
 }
 
-/// What is held of the images of a line that checks, none of which stays open. They are read in
-/// full if those of a line that lists are; otherwise it is what the rules check.
+/// What is held of the images of a line that checks or lists, none of which stays open. They are
+/// read in full as those of a line that serves are; otherwise it is what the rules check.
 pub fn gather_all<R: Files + Threads + Sync, A: Allocator + Copy + Send + Sync>(
     rt: &R,
     alloc: A,
@@ -128,11 +129,13 @@ fn regular_len<R: Files>(rt: &R, path: &str) -> Option<u64> {
     }
 }
 
-// Whether the trailers of a line's images are read: if it has `--attributes`.
+// Whether the trailers of a line's images are read: if it asks for attributes, or reports which
+// images have a trailer.
 fn trailers_of(line: &Line<'_>) -> Trailers
     ensures { result ≡ trailers_of line.now }
 {
-    if line.attributes {
+    let reports = matches!(line.verb, Verb::Check | Verb::List);
+    if asks_attributes(line) || reports {
         Trailers::Read
     } else {
         Trailers::Left

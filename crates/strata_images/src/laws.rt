@@ -1,6 +1,6 @@
 //! What is held of the images of a line, by what loading and preparing promise.
 
-ghost use Rattle.std.specs.Prelude.{◌≡◌, ◌⊎◌, ◌↔◌, ℕ, List, [], true, false, length, Some};
+ghost use Rattle.std.specs.Prelude.{◌≡◌, ◌≤◌, ◌⊎◌, ◌↔◌, ℕ, List, [], true, false, length, Some};
 ghost use Rattle.romfs_format.specs.Profiles.{asks_sums, reads_attributes};
 ghost use Rattle.romfs_format.specs.Rules.{IsSound};
 ghost use Rattle.romfs_image.specs.declared.refusal.CheckFault.{CheckFault};
@@ -13,7 +13,11 @@ ghost use Rattle.romfs_files.specs.Opening.{IsHeldWhole, loaded_bytes};
 ghost use Rattle.romfs_files.specs.declared.loaded.LoadedImage.{LoadedImage};
 ghost use Rattle.reply_model.specs.Readings.{Sourced, AreShown, in_memory};
 ghost use Rattle.strata_words.specs.declared.options.Line.{Line};
-ghost use Rattle.strata_images.specs.Images.{AreEachBy, ArePrepared, AreReadWhole, HasDigest, IsImageBy, profile_of, trailers_of};
+ghost use Rattle.stack_prepare.specs.declared.refusal.Refusal.{Refusal};
+ghost use Rattle.stack_prepare.specs.declared.refusal.Refusal.TheVariants as refused;
+ghost use Rattle.stack_prepare.specs.Layers.{AreRefused};
+ghost use Rattle.strata_images.specs.Checking.{AreAccepted};
+ghost use Rattle.strata_images.specs.Images.{AreEachBy, ArePrepared, AreReadWhole, HasDigest, IsImageBy, asks_attributes, profile_of, trailers_of};
 
 use std::alloc::Allocator;
 use std::os::unix::fs::FileExt;
@@ -46,7 +50,6 @@ pub fn images_stay_in_their_files()
 
 /// What is kept of an image besides its data is judged by the rules of a line as whatever bytes
 /// these show, with attributes and without.
-#[tactic(auto, using(crate::proofs::Rules::judged))]
 pub fn opened_images_are_judged_as_their_data()
     ensures { (line : Line) (source : Source) (bytes image : List ℕ) →
         Shows source bytes → WasGathered (trailers_of line) source image →
@@ -78,11 +81,22 @@ pub fn images_have_their_digests()
         Shows (sealed (seal_by digest by.0)) bytes → image ≡ bytes }
 {}
 
-/// A line has an option each for sums and for attributes, and its stack has its owner.
+/// A line has an option for sums and two for attributes, and its stack has its owner.
 #[tactic(auto, using(crate::proofs::Rules::asks, crate::proofs::Rules::reads))]
 pub fn lines_say_their_rules()
     ensures sums { (line : Line) → asks_sums (profile_of line) ≡ line.strict }
-    ensures attributes { (line : Line) → reads_attributes (profile_of line) ≡ line.attributes }
+    ensures attributes { (line : Line) → reads_attributes (profile_of line) ≡
+        asks_attributes line }
     ensures owner { (line : Line) (images : List (List ℕ)) (by : Sourced) →
         ArePrepared line images by → by.stack.owner ≡ line.owner }
+{}
+
+/// Images that `check --as-mounted` accepts are refused by a mount that is as strict only for lack
+/// of memory.
+#[tactic(auto, using(crate::proofs::Rules::mountable))]
+pub fn accepted_images_are_mounted()
+    ensures { (line mount : Line) (images : List (List ℕ)) (sizes : List ℕ) →
+        AreAccepted line images sizes → line.as_mounted ≡ true → mount.strict ≡ line.strict →
+        asks_attributes mount ≡ true → 1 ≤ length images → (refusal : Refusal) →
+        AreRefused (profile_of mount) images refusal → refusal ≡ refused.Memory }
 {}

@@ -1,10 +1,11 @@
 //! The images of a line: read, checked, stacked, and what the program prints of them.
 //!
-//! [`open_all`] reads the images of a line that serves or lists, [`gather_all`] those of one that
-//! checks. Images stay in their files: what the rules check is read at once, all else on demand.
+//! [`open_all`] reads the images of a line that serves, [`gather_all`] those of one that checks or
+//! lists. Images stay in their files: what the rules check is read at once, all else on demand.
 //! With `--whole`, and for a small stack that no mount shows, all their bytes are read at first,
 //! and held. [`prepare`] makes one table of them, with the files that it reads from; `specs/Images`
-//! says what that is. [`check`] and [`list`] are the two commands that serve nothing.
+//! says what that is. [`check`] and [`list`] are the two commands that serve nothing; they note
+//! images with a trailer that the line does not ask for (`trailers`).
 //! [`ImagesFault`] has a line and an exit status for each thing that can go wrong with images.
 //!
 //! It stands on `strata_words` for the line, `romfs_files` for the files of images,
@@ -21,6 +22,7 @@ mod lines;
 mod listing;
 mod preparing;
 mod profile;
+mod trailers;
 
 pub use checking::check;
 pub use faults::ImagesFault;

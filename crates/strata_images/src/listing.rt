@@ -1,25 +1,65 @@
 //! The command `list`.
 
-ghost use Rattle.std.specs.Prelude.{◌<◌, ◌^◌, ℕ, List, OnOk, IfErr};
+ghost use Rattle.std.specs.Prelude.{◌≡◌, ◌<◌, ◌^◌, ℕ, List, OnOk, IfErr};
+ghost use Rattle.devices.specs.Pushing.{GainsFront};
 ghost use Rattle.stack_model.specs.declared.owner.TheConstants.Owner.{ROOT};
+ghost use Rattle.romfs_files.specs.Opening.{loaded_contents};
 ghost use Rattle.romfs_format.specs.declared.rule.Profile.{Profile};
 ghost use Rattle.node_list.specs.Faults.{Lists};
 ghost use Rattle.stack_prepare.specs.Preparing.{AreStacked};
 ghost use Rattle.strata_images.specs.Images.{bytes_of, profile_of};
 ghost use Rattle.strata_images.specs.Listing.{IsStackListed, IsNotListed};
+ghost use Rattle.strata_images.specs.Texts.{unread_lines};
 
 use crate::faults::ImagesFault;
+use crate::lines::write_bytes;
 use crate::profile::profile_of;
+use crate::trailers::unread_lines;
 use devices::Sink;
 use node_list::write_list;
+use romfs_files::{LoadedImage, apart};
 use stack_prepare::{FreePass, HeldImage, Owner, Table, prepare};
 use std::alloc::Allocator;
+use std::io::Write;
+use std::os::unix::fs::FileExt;
 use std::thread::Threads;
 use strata_words::Line;
 
-/// Checks the images, stacks them, and puts a line for each visible path. If an image is broken
-/// nothing is put.
-pub fn list<R: Threads + Sync, A: Allocator + Copy + Send + Sync, K: Sink>(
+/// Checks the images of a line, stacks them, and puts a line for each visible path. Then it notes
+/// the images with a trailer that the line does not ask for. If an image is broken nothing is put.
+pub fn list<
+    R: Threads + Sync,
+    F: FileExt + Drop,
+    A: Allocator + Copy + Send + Sync,
+    K: Sink,
+    E: Write,
+>(
+    rt: &R,
+    alloc: A,
+    line: &Line<'_>,
+    images: Vec<LoadedImage<F, A>, A>,
+    output: &mut K,
+    notes: &mut E,
+) -> Result<(), ImagesFault>
+    requires { (K.state output.old).counts.failures < 2 ^ 63 }
+    ensures done { OnOk result (IsStackListed (profile_of line.now) (loaded_contents images)
+        (K.state output.old) (K.state output.new)) }
+    ensures stopped { IfErr result (λ fault.
+        IsNotListed (profile_of line.now) (loaded_contents images) fault
+        (K.state output.old) (K.state output.new)) }
+    ensures noted { OnOk result (GainsFront (unread_lines line.now (loaded_contents images))
+        (E.contents notes.old) (E.contents notes.new)) }
+    ensures unnoted { IfErr result (λ _. E.contents notes.new ≡ E.contents notes.old) }
+{
+    let unread = unread_lines(alloc, line, images.as_slice())?;
+    let (held, _files) = apart(alloc, images)?;
+    list_held(rt, alloc, line, held, output)?;
+    let _ = write_bytes(notes, unread.as_bytes());
+    Ok(())
+}
+
+// Checks images and stacks them, by what is held of them, and puts a line for each visible path.
+fn list_held<R: Threads + Sync, A: Allocator + Copy + Send + Sync, K: Sink>(
     rt: &R,
     alloc: A,
     line: &Line<'_>,

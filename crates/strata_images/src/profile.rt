@@ -1,14 +1,21 @@
 //! The rules that a line holds its images to.
 
 ghost use Rattle.std.specs.Prelude.{◌≡◌};
-ghost use Rattle.strata_images.specs.Images.{profile_of};
+ghost use Rattle.strata_images.specs.Images.{asks_attributes, profile_of};
 
 use stack_prepare::Profile;
 use strata_words::Line;
+
+/// Whether the line asks for attributes, by themselves or as a mount does.
+pub fn asks_attributes(line: &Line<'_>) -> bool
+    ensures { result ≡ asks_attributes line.now }
+{
+    line.attributes || line.as_mounted
+}
 
 /// The rules that the line holds images to, and whether their attributes are read.
 pub fn profile_of(line: &Line<'_>) -> Profile
     ensures { result ≡ profile_of line.now }
 {
-    Profile::with(line.strict, line.attributes)
+    Profile::with(line.strict, asks_attributes(line))
 }

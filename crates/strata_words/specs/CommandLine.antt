@@ -104,9 +104,9 @@ abbrev pub socket_command : App
 socket_command = command_with (codes "socket") (plan_options ++ (
     wanted_option (codes "listen") ∷ value_option (codes "sessions") ∷ served_images))
 
--- a command over images, as `check` and `list`
+-- a command over images, as `check` and `list`: it can accept them as a mount does
 abbrev pub images_command : Text → App
-images_command name = command_with name images
+images_command name = command_with name (flag (codes "as-mounted") ∷ images)
 
 -- the command that was made, if there was memory for it, is this one
 abbrev pub IsApp : {E : Type 0} → Result Command E → App → Type 0
@@ -221,6 +221,7 @@ pub record LineParts : Type 0 where
   pub verb : Verb
   pub strict : Bool
   pub attributes : Bool
+  pub as_mounted : Bool
   pub whole : Bool
   pub in_files : Bool
   pub device : Bool
@@ -249,6 +250,7 @@ parts_of verb rows = record {
   verb = verb;
   strict = is_given (codes "strict") rows;
   attributes = is_given (codes "attributes") rows;
+  as_mounted = is_given (codes "as-mounted") rows;
   whole = is_given (codes "whole") rows;
   in_files = is_given (codes "in-files") rows;
   device = is_given (codes "device") rows;
@@ -272,6 +274,7 @@ parts_in line = record {
   verb = line.verb;
   strict = line.strict;
   attributes = line.attributes;
+  as_mounted = line.as_mounted;
   whole = line.whole;
   in_files = line.in_files;
   device = line.device;
@@ -397,8 +400,8 @@ IsFlagFilled id rows = MatchOption (one_of id rows) (is_given id rows ≡ false)
 
 -- the flags of the program
 abbrev pub flags : List Text
-flags = codes "strict" ∷ codes "attributes" ∷ codes "whole" ∷ codes "in-files" ∷ codes "device"
-    ∷ codes "lasting" ∷ []
+flags = codes "strict" ∷ codes "attributes" ∷ codes "as-mounted" ∷ codes "whole"
+    ∷ codes "in-files" ∷ codes "device" ∷ codes "lasting" ∷ []
 
 -- the option of this name is one of them
 abbrev pub is_flag : Text → Bool

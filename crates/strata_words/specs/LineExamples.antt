@@ -25,6 +25,7 @@ plain verb images = record {
   verb = verb;
   strict = false;
   attributes = false;
+  as_mounted = false;
   whole = false;
   in_files = false;
   device = false;
@@ -71,6 +72,8 @@ pub record TakenLines : Type 0 where
       (record (plain verbs.Check (codes "a")) { attributes = true })
   pub check_whole : ReadsAs (codes "check --whole a")
       (record (plain verbs.Check (codes "a")) { whole = true })
+  pub check_as_mounted : ReadsAs (codes "check --as-mounted --strict a")
+      (record (plain verbs.Check (codes "a")) { as_mounted = true; strict = true })
   pub list_one : ReadsAs (codes "list f.img") (plain verbs.List (codes "f.img"))
   pub list_strict : ReadsAs (codes "list a b --strict")
       (record (plain verbs.List (codes "a b")) { strict = true })
@@ -78,6 +81,8 @@ pub record TakenLines : Type 0 where
       (record (plain verbs.List (codes "a b")) { attributes = true })
   pub list_whole : ReadsAs (codes "list a --whole b")
       (record (plain verbs.List (codes "a b")) { whole = true })
+  pub list_as_mounted : ReadsAs (codes "list a b --as-mounted")
+      (record (plain verbs.List (codes "a b")) { as_mounted = true })
   pub serve_one : ReadsAs (codes "serve f.img") (plain verbs.Serve (codes "f.img"))
   pub serve_device : ReadsAs (codes "serve --device --workers 2 f")
       (record (plain verbs.Serve (codes "f")) { device = true; workers = 2 })
@@ -90,6 +95,7 @@ pub record TakenLines : Type 0 where
         verb = verbs.Serve;
         strict = true;
         attributes = true;
+        as_mounted = false;
         whole = true;
         in_files = true;
         device = false;
@@ -190,6 +196,9 @@ pub record RefusedLines : Type 0 where
   pub device_of_check : HasOneFault (codes "check --device a") kind.UnknownArgument
   pub lasting_list : HasOneFault (codes "list --lasting a") kind.UnknownArgument
   pub in_files_of_check : HasOneFault (codes "check --in-files a") kind.UnknownArgument
+  pub serve_as_mounted : HasOneFault (codes "serve --as-mounted a") kind.UnknownArgument
+  pub socket_as_mounted :
+      HasOneFault (codes "socket --as-mounted --listen s a") kind.UnknownArgument
   pub requests_and_device : IsCrossed (words_of (codes "serve --requests q --device a"))
   pub replies_and_device : IsCrossed (words_of (codes "serve --device --replies r a"))
   pub balances_and_device : IsCrossed (words_of (codes "serve a --device --balances b"))

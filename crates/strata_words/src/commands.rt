@@ -111,6 +111,12 @@ const ATTRIBUTES: Argument = Argument {
     help: "Read and show owners, modes and times from attribute trailers",
 };
 
+const AS_MOUNTED: Argument = Argument {
+    name: "as-mounted",
+    form: Form::Flag,
+    help: "Check as a mount does: with --attributes, and at most 128 images",
+};
+
 const WHOLE: Argument = Argument {
     name: "whole",
     form: Form::Flag,
@@ -215,7 +221,7 @@ fn over_images<'a>(alloc: Global, name: &'a str, about: &'a str) -> Result<Comma
         alloc,
         name,
         about,
-        &[STRICT, ATTRIBUTES, WHOLE, DIGEST, IMAGE],
+        &[AS_MOUNTED, STRICT, ATTRIBUTES, WHOLE, DIGEST, IMAGE],
     )
 }
 

@@ -36,6 +36,8 @@ pub struct Line<'a> {
     pub strict: bool,
     /// The attribute trailers of images are read, checked and shown.
     pub attributes: bool,
+    /// Images are accepted as by a mount: at most 128, and their trailers are read and checked.
+    pub as_mounted: bool,
     /// Images are read in full into memory, not left in their files.
     pub whole: bool,
     /// Small images stay in their files, too, unless `whole` is set.

@@ -118,6 +118,7 @@ fn line_of<'a>(alloc: Global, verb: Verb, found: &ArgMatches<'a>) -> Result<Line
         verb,
         strict: flag(found, "strict"),
         attributes: flag(found, "attributes"),
+        as_mounted: flag(found, "as-mounted"),
         whole: flag(found, "whole"),
         in_files: flag(found, "in-files"),
         device: flag(found, "device"),

@@ -10,6 +10,7 @@ complete -c strata -n "__fish_seen_subcommand_from $commands" -l strict -d 'Veri
 complete -c strata -n "__fish_seen_subcommand_from $commands" -l attributes -d 'Read and show owners, modes and times'
 complete -c strata -n "__fish_seen_subcommand_from $commands" -l whole -d 'Read images in full into memory'
 complete -c strata -n "__fish_seen_subcommand_from $commands" -l digest -x -d 'Accept only the image with this fs-verity digest'
+complete -c strata -n "__fish_seen_subcommand_from check list" -l as-mounted -d 'Check as a mount does'
 complete -c strata -n "__fish_seen_subcommand_from serve socket" -l owner -x -d 'Set the owner of files that no trailer describes'
 complete -c strata -n "__fish_seen_subcommand_from serve socket" -l in-files -d 'Leave small images in their files, too'
 complete -c strata -n "__fish_seen_subcommand_from serve socket" -l workers -x -d 'Use at most N threads for long replies'

@@ -4,7 +4,6 @@ use Rattle.romfs_format.specs.declared.head.Head.{Head}
 use Rattle.stack_model.specs.Stack.{IsMarker}
 use Rattle.layer_tree.specs.Members.{NamedMember, members_in}
 use Rattle.layer_tree.proofs.Building.{nowhere_kept, at_index, at_place, name_at_place, as_many, building_begun, some_left, one_less, build_hidden, build_made, building_ended}
-use Rattle.layer_tree.proofs.Keyed.{named}
 use Rattle.layer_tree.proofs.reading.+reading.Goals as goal
 
 pub branches_below-overflow_sub-left : goal.branches_below-overflow_sub-left
@@ -14,8 +13,8 @@ branches_below-overflow_sub-left g t c =
     let lt : c.loop-member.member-index < length (members_in a ms) = rw (as_many a ms) c.loop-member-test.true in
     some_left a c.requires.sound c.args.left (members_in a ms) c.requires.members c.loop-member.member-index lt
 
-pub branches_below-given_named-head-requires : goal.branches_below-given_named-head-requires
-branches_below-given_named-head-requires g t c =
+pub branches_below-given_named-it-requires : goal.branches_below-given_named-it-requires
+branches_below-given_named-it-requires g t c =
     let read = c.requires.read c.loop-member.member-index nowhere_kept c.loop-member-test.true in
     record { head = read.given; name = read.length }
 
@@ -26,11 +25,11 @@ branches_below-add_branches-requires g t c κs within =
     let at = c.loop-member.member-index in
     let lt : at < length (members_in a ms) = rw (as_many a ms) c.loop-member-test.true in
     let some = some_left a c.requires.sound c.args.left (members_in a ms) c.requires.members at lt in
-    let offset : (at_index (members_in a ms) at).head.offset ≡ c.given_named-head.result.offset =
+    let offset : (at_index (members_in a ms) at).head.offset ≡ c.given_named-it.result.head.offset =
     ap (λ (m : NamedMember). m.head.offset) (at_place a ms at c.loop-member-test.true)
-    ∙ sym (ap (λ (x : Head). x.offset) c.given_named-head.ensures.value) in
+    ∙ sym (ap (λ (x : Head). x.offset) c.given_named-it.ensures.value) in
     let less = rw offset at (one_less a c.requires.sound c.args.left (members_in a ms) c.requires.members at lt) in
-    let given = c.given_named-head.ensures.given in
+    let given = c.given_named-it.ensures.given in
     let sound = c.requires.sound in
     let same = c.loop-member.invariant.1 in
     search (rules, some, less, given, sound, same)
@@ -45,8 +44,8 @@ branches_below-loop-member-preserved-then-is_marker g t c =
     let ms = c.args.members.now in
     let at = c.loop-member.member-index in
     let lt : at < length (members_in a ms) = rw (as_many a ms) c.loop-member-test.true in
-    let name = name_at_place a ms at c.name-name.result.now c.loop-member-test.true
-    (named _ _ _ _ c.name-name.ensures c.given_named-head.ensures.value) in (
+    let name = name_at_place a ms at c.given_named-it.result.name.now c.loop-member-test.true
+    c.given_named-it.ensures.name in (
       build_hidden a c.args.layer.now.number (members_in a ms) at c.loop-member.made.entries.items c.loop-member.made.marks.items lt
           c.loop-member.invariant.0 (rw name (sym c.if-is_marker.ensures)),
       c.loop-member.invariant.1,
@@ -59,11 +58,11 @@ branches_below-loop-member-preserved g t c =
     let at = c.loop-member.member-index in
     let lt : at < length (members_in a ms) = rw (as_many a ms) c.loop-member-test.true in
     let here = at_place a ms at c.loop-member-test.true in
-    let value = c.given_named-head.ensures.value in
-    let name = name_at_place a ms at c.name-name.result.now c.loop-member-test.true (named _ _ _ _ c.name-name.ensures value) in
-    let offset : (at_index (members_in a ms) at).head.offset ≡ c.given_named-head.result.offset =
+    let value = c.given_named-it.ensures.value in
+    let name = name_at_place a ms at c.given_named-it.result.name.now c.loop-member-test.true c.given_named-it.ensures.name in
+    let offset : (at_index (members_in a ms) at).head.offset ≡ c.given_named-it.result.head.offset =
     ap (λ (m : NamedMember). m.head.offset) here ∙ sym (ap (λ (x : Head). x.offset) value) in
-    let no_marker : ¬ IsMarker c.name-name.result.now = λ h. (let f = c.if-is_marker.ensures in cc) in
+    let no_marker : ¬ IsMarker c.given_named-it.result.name.now = λ h. (let f = c.if-is_marker.ensures in cc) in
     let adds = c.in_ok-add_branches.ensures.made in (
       build_made a c.args.layer.now.number (members_in a ms) at
           c.loop-member.made.entries.items c.loop-member.made.marks.items lt c.loop-member.invariant.0

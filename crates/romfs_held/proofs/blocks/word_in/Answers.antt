@@ -1,12 +1,7 @@
 use Rattle.std.proofs.Common.{◌∙◌, arith}
-use Rattle.romfs_held.proofs.Fronts.{word_of_run, word_of_bytes}
+use Rattle.romfs_held.proofs.Fronts.{word_of_run}
 use Rattle.romfs_held.proofs.blocks.word_in.Goals as goal
 
 pub returns-then-near-ge4 : goal.returns-then-near-ge4
 returns-then-near-ge4 c =
     c.read_u32.ensures ∙ word_of_run c.args.size _ _ c.args.at _ c.rest_of_block-near.ensures (omega arith) c.requires.at
-
-pub returns : goal.returns
-returns c = c.read_u32-2.ensures
-    ∙ word_of_bytes c.args.size _ _ c.args.at c.requires.at _ _ _ _ c.byte_in.ensures c.byte_in-2.ensures
-    c.byte_in-3.ensures c.byte_in-4.ensures

@@ -1,6 +1,4 @@
-use Rattle.std.proofs.Common.{rules, ◌∙◌, sym, refl}
-use Rattle.std.proofs.lemmas.Bool.{or_right}
-use Rattle.romfs_format.specs.Heads.{head_of}
+use Rattle.std.proofs.Common.{rules, ◌∙◌, sym}
 use Rattle.romfs_reader.proofs.Steps.{takes, goes, falls}
 use Rattle.romfs_reader.proofs.members.member_from.Goals as goal
 
@@ -19,15 +17,3 @@ loop-at-preserved c =
     let t = goes c.args.image.now c.args.root c.args.directory c.loop-at.at c.loop-at.invariant.walk
     c.head_at-head.result c.head_at-head.ensures c.loop-at-test.true (search rules) in
     record { walk = t.1; left = t.0 ∙ c.loop-at.invariant.left }
-
-pub loop-at-smaller-then-begins_as_dots : goal.loop-at-smaller-then-begins_as_dots
-loop-at-smaller-then-begins_as_dots c =
-    rw (c.cleared-at.ensures, c.word.ensures)
-    (falls c.args.image.now c.args.root c.args.directory c.loop-at.at c.loop-at.invariant.walk
-    (head_of c.args.image.now c.loop-at.at) refl c.loop-at-test.true)
-
-pub loop-at-preserved-then-begins_as_dots : goal.loop-at-preserved-then-begins_as_dots
-loop-at-preserved-then-begins_as_dots c =
-    let t = goes c.args.image.now c.args.root c.args.directory c.loop-at.at c.loop-at.invariant.walk
-    (head_of c.args.image.now c.loop-at.at) refl c.loop-at-test.true (or_right _ _ (c.begins_as_dots.ensures (search rules))) in
-    rw (c.cleared-at.ensures, c.word.ensures) (record { walk = t.1; left = t.0 ∙ c.loop-at.invariant.left })

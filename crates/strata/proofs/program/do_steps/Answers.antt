@@ -1,7 +1,5 @@
-use Rattle.std.proofs.Common.{List, ℕ, refl, subst}
+use Rattle.std.proofs.Common.{List, ℕ, refl}
 use Rattle.std.proofs.lemmas.Result.{IfOk-from_err}
-use Rattle.romfs_files.specs.Opening.{loaded_contents}
-use Rattle.strata_images.specs.Checking.{AreGood, AreNotGood}
 use Rattle.strata.specs.declared.faults.Fault.{Fault}
 use Rattle.strata.specs.declared.faults.Fault.TheVariants.{Images}
 use Rattle.strata_words.specs.CommandLine.{IsLineOf}
@@ -74,26 +72,14 @@ returns-in_ok-images-in-Check g c =
     let named = all_held line _ c.in_ok-images-in-Check.images c.in_ok-images-in-Check.ensures.ok in
     ended g.row.A.Denot words line _ verbs.Check _ _ is named c.in-Check.is Images c.check.result
     c.as_told.result c.as_told.ensures
-    c.check.ensures.done c.check.ensures.stopped (λ d. (
-      refl,
-      subst (λ p. AreGood p (loaded_contents c.in_ok-images-in-Check.images) (g.K.Sink.state c.args.output.now)
-          (g.K.Sink.state c.check.new.output)) c.profile_of.ensures d,
-    )) (λ fault s. (
-      refl,
-      (
-        fault,
-        refl,
-        subst (λ p. AreNotGood p (loaded_contents c.in_ok-images-in-Check.images) fault (g.K.Sink.state c.args.output.now)
-            (g.K.Sink.state c.check.new.output)) c.profile_of.ensures s,
-      ),
-    )) in
+    c.check.ensures.done c.check.ensures.stopped (λ d. (refl, d)) (λ fault s. (refl, (fault, refl, s))) in
     record { over = λ words read. (both words read).0; stopped = λ words read. (both words read).1 }
 
 pub returns-in_ok-images-in-List : goal.returns-in_ok-images-in-List
 returns-in_ok-images-in-List g c =
     let line = c.args.line.now in
     let both = λ (words : List (List ℕ)) (is : IsLineOf words c.args.line.now).
-    let named = c.in_ok-images-in-List.ensures.named in
+    let named = all_held line _ c.in_ok-images-in-List.images c.in_ok-images-in-List.ensures.ok in
     ended g.row.A.Denot words line _ verbs.List _ _ is named c.in-List.is Images c.list.result
     c.as_told-in-List.result c.as_told-in-List.ensures
     c.list.ensures.done c.list.ensures.stopped (λ d. (refl, d)) (λ fault s. (refl, (fault, refl, s))) in
