@@ -1,7 +1,7 @@
 -- Digests that are read one by one: `begins`, `goes_on` and `are_named` are the loop, and `not_named` its end at a text that names none.
 use Rattle.std.specs.Borrow.{Bor}
-use Rattle.std.proofs.Common.{◌≡◌, ◌∙◌, ◌<◌, ◌+◌, ℕ, zero, suc, true, true≢false, false, ap, sym, refl, subst, List, [], ◌∷◌, ◌++◌, Option, Some, None, is_some, get_or, length, map, take, arith}
-use Rattle.std.proofs.lemmas.List.{length-map, map-append, take_all, take_more}
+use Rattle.std.proofs.Common.{◌≡◌, ◌∙◌, ◌<◌, ◌+◌, ℕ, zero, suc, true, true≢false, ap, sym, refl, subst, List, [], ◌∷◌, ◌++◌, Option, Some, None, is_some, get_or, length, take, arith}
+use Rattle.std.proofs.lemmas.List.{map-append, take_all, take_more}
 use Rattle.std.proofs.lemmas.List.Elements.{All-append, All-cons, All-head, All-nil, All-tail}
 use Rattle.clap.specs.Walk.{Text, texts}
 use Rattle.romfs_seal.specs.declared.digest.Digest.{Digest}
