@@ -30,8 +30,8 @@ pub struct LineImages<F: FileExt, A: Allocator> {
 
 /// The images of a line that serves. They are read in full with `--whole`, or if they are
 /// regular files of at most [`SMALL_STACK`] bytes together and the line neither has `--in-files`
-/// nor serves a device; otherwise they stay in their files. An image for which the line has a digest is
-/// read under it.
+/// nor serves a device; otherwise they stay in their files. An image for which the line has a
+/// digest is read under it.
 pub fn open_all<R: Files + Threads + Sync, A: Allocator + Copy + Send + Sync>(
     rt: &R,
     alloc: A,
