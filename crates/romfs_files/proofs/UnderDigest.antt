@@ -1,7 +1,6 @@
 -- What is loaded of data that are read under a digest.
-use Rattle.std.proofs.Common.{◌≡◌, sym, subst, ℕ, List, None, Result, Ok, Err, IfOk, length}
-use Rattle.devices.specs.Sources.{Source, IsSizeOf, MayGive, sealed}
-use Rattle.romfs_seal.specs.Named.{seal_of}
+use Rattle.std.proofs.Common.{◌≡◌, sym, subst, ℕ, None, Result, Ok, Err, IfOk, length}
+use Rattle.devices.specs.Sources.{IsSizeOf, MayGive, sealed}
 use Rattle.romfs_seal.specs.declared.digest.Digest.{Digest}
 use Rattle.romfs_held.specs.declared.image.HeldImage.TheVariants as held
 use Rattle.std.specs.declared.vec.Vec.{Vec}

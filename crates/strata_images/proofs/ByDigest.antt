@@ -1,6 +1,6 @@
 -- Images under digests: those that sources show have the digests by which these are read (`shown_have_digests`), and an image that is read
 -- in full is the shown one (`read_is_shown`).
-use Rattle.std.proofs.Common.{◌≡◌, ◌∙◌, sym, ap, subst, ℕ, List, [], ◌∷◌, Option, Some, None, length, take, drop, arith}
+use Rattle.std.proofs.Common.{◌≡◌, ◌∙◌, subst, ℕ, List, [], ◌∷◌, Option, Some, None, length, arith}
 use Rattle.std.proofs.lemmas.List.{take_all}
 use Rattle.devices.specs.Sources.{Source, Shows, sealed}
 use Rattle.devices.proofs.Shown.{shown_given}
