@@ -4,10 +4,11 @@
 //! the results of two halves are joined: a fault of the lower half (memory, or an image that cannot
 //! be read) comes before one of the upper. All images below the reported one were therefore read.
 
-ghost use Rattle.std.specs.Prelude.{◌≡◌, ◌⊎◌, ◌+◌, ◌<◌, ◌^◌, ℕ, ◌++◌, length, vec_len, Ok, IfOk, IfErr, OnOk};
+ghost use Rattle.std.specs.Prelude.{◌≡◌, ◌⊎◌, ◌+◌, ◌<◌, ◌^◌, ℕ, List, ◌++◌, get_or, length, vec_len, Option, None, Some, Ok, IfOk, IfErr, OnOk};
 ghost use Rattle.romfs_files.specs.Sealing.{AreLoadedBy, IsLoadedBy, IsLoadedUnder};
 ghost use Rattle.romfs_files.specs.Unread.{IsReadUpTo, IsUnreadAt};
 ghost use Rattle.romfs_files.specs.declared.images.FilesFault.TheVariants.{Memory};
+ghost use Rattle.romfs_seal.specs.declared.digest.Digest.{Digest};
 ghost use denote.Param.Send.{IsSync, IsSend, Frees};
 
 use crate::loaded::{LoadedImage, Loading};
@@ -85,7 +86,8 @@ where
     ensures loaded { IfOk result (λ images.
         AreLoadedBy R.File.remaining loading digests.now images.items) }
     ensures err { IfErr result (λ fault. (fault ≡ Memory)
-        ⊎ ((image : ℕ) × (image < length paths.now) × IsUnreadAt image fault)) }
+        ⊎ ((image : ℕ) × (image < length paths.now)
+        × IsUnreadAt image (get_or digests.now image None) fault)) }
 {
     let Run { images, end } = load_from(rt, alloc, 0, paths, digests, loading, FORKS);
     end?;
@@ -116,7 +118,7 @@ where
     R::Dir: Send,
     requires few { first + length paths.now < 2 ^ 64 }
     requires each { length digests.now ≡ length paths.now }
-    ensures count { IsReadUpTo first (length paths.now) (vec_len result.images) result.end }
+    ensures count { IsReadUpTo first digests.now (vec_len result.images) result.end }
     ensures read { AreLoadedBy R.File.remaining loading digests.now result.images.items }
 {
     if forks == 0 || paths.len() < MANY {
@@ -134,7 +136,7 @@ where
             requires { IsSync R.row × IsSync A.row × IsSend A.row
                 × Frees A.Allocator A.dealloc_token × (next + length highs.now < 2 ^ 64)
                 × (length high_digests.now ≡ length highs.now) }
-            ensures count { IsReadUpTo next (length highs.entry.now) (vec_len result.images)
+            ensures count { IsReadUpTo next high_digests.entry.now (vec_len result.images)
                 result.end }
             ensures read { AreLoadedBy R.File.remaining loading high_digests.entry.now
                 result.images.items }
@@ -143,7 +145,7 @@ where
             requires { IsSync R.row × IsSync A.row × IsSend A.row
                 × Frees A.Allocator A.dealloc_token × (first + length lows.now < 2 ^ 64)
                 × (length low_digests.now ≡ length lows.now) }
-            ensures count { IsReadUpTo first (length lows.entry.now) (vec_len result.images)
+            ensures count { IsReadUpTo first low_digests.entry.now (vec_len result.images)
                 result.end }
             ensures read { AreLoadedBy R.File.remaining loading low_digests.entry.now
                 result.images.items }
@@ -157,9 +159,10 @@ where
 fn both<T: Drop, A: Allocator>(low: Run<T, A>, high: Run<T, A>) -> Run<T, A>
     ensures order { OnOk result.end (result.images.items
         ≡ low.images.items ++ high.images.items) }
-    ensures read { (first lows highs : ℕ) → IsReadUpTo first lows (vec_len low.images) low.end →
-        IsReadUpTo (first + lows) highs (vec_len high.images) high.end →
-        IsReadUpTo first (lows + highs) (vec_len result.images) result.end }
+    ensures read { (first : ℕ) (lows highs : List (Option Digest)) →
+        IsReadUpTo first lows (vec_len low.images) low.end →
+        IsReadUpTo (first + length lows) highs (vec_len high.images) high.end →
+        IsReadUpTo first (lows ++ highs) (vec_len result.images) result.end }
     ensures either { (result.images.items ≡ low.images.items)
         ⊎ ((low.end ≡ Ok tt) × (result.images.items ≡ low.images.items ++ high.images.items)) }
 {
@@ -197,7 +200,7 @@ where
     R::File: FileExt,
     requires few { first + length paths.now < 2 ^ 64 }
     requires each { length digests.now ≡ length paths.now }
-    ensures count { IsReadUpTo first (length paths.now) (vec_len result.images) result.end }
+    ensures count { IsReadUpTo first digests.now (vec_len result.images) result.end }
     ensures read { AreLoadedBy R.File.remaining loading digests.now result.images.items }
 {
     let mut images = Vec::new(alloc);
@@ -221,7 +224,7 @@ where
     requires empty { vec_len images.old ≡ 0 }
     requires few { first + length paths.now < 2 ^ 64 }
     requires each { length digests.now ≡ length paths.now }
-    ensures count { IsReadUpTo first (length paths.now) (vec_len images.new) result }
+    ensures count { IsReadUpTo first digests.now (vec_len images.new) result }
     ensures read { AreLoadedBy R.File.remaining loading digests.now images.new.items }
 {
     images.reserve_exact(paths.len())?;
@@ -243,7 +246,7 @@ fn load_one<R: Files, A: Allocator + Copy>(
 where
     R::File: FileExt,
     ensures ok { IfOk result (IsLoadedBy R.File.remaining loading digest) }
-    ensures err { IfErr result (λ fault. IsUnreadAt image fault ⊎ (fault ≡ Memory)) }
+    ensures err { IfErr result (λ fault. IsUnreadAt image digest fault ⊎ (fault ≡ Memory)) }
 {
     let file = fs::open(rt, path).map_err(|_| FilesFault::Unread { image })?;
     if let Some(digest) = digest {
@@ -269,7 +272,8 @@ fn load_named<R: Files, A: Allocator + Copy>(
 where
     R::File: FileExt,
     ensures ok { IfOk result (IsLoadedUnder digest loading) }
-    ensures err { IfErr result (λ fault. IsUnreadAt image fault ⊎ (fault ≡ Memory)) }
+    ensures err { IfErr result (λ fault. IsUnreadAt image (Some digest) fault
+        ⊎ (fault ≡ Memory)) }
 {
     match load_with_tree(rt, alloc, path, file, digest, loading) {
         Ok(loaded) => Ok(loaded),

@@ -1,7 +1,7 @@
 -- What the exit statuses of the program mean. `ends_for_words` and `ends_for_images` say what 2 and
 -- 3 tell: each goes over all that can end a command, and rules out what has another status.
 -- `has_done`, `has_stopped` and `has_ended` put a run together by the status of its last step.
-use Rattle.std.proofs.Common.{◌≡◌, ◌≢◌, ◌∙◌, sym, ap, subst, ℕ, ◌≤◌, ◌<◌, ◌⊎◌, inl, inr, List, length, All, Option, Some, None, Err, refl, arith}
+use Rattle.std.proofs.Common.{◌≡◌, ◌≢◌, ◌∙◌, sym, ap, subst, ℕ, ◌≤◌, ◌⊎◌, inl, inr, List, length, All, Option, Some, None, Err, refl, arith}
 use Rattle.romfs_format.specs.declared.rule.Profile.{Profile}
 use Rattle.romfs_format.specs.Rules.{IsSound}
 use Rattle.serve_core.specs.declared.stop.Stop.{Stop}
@@ -25,11 +25,11 @@ use Rattle.strata.specs.declared.faults.Fault.{Fault}
 use Rattle.strata.specs.declared.faults.Fault.TheVariants.{RequestsFile, RepliesFile, BalancesFile, Bind, Accept, Images, InSession, Stopped}
 use Rattle.strata_images.specs.declared.faults.ImagesFault.{ImagesFault}
 use Rattle.strata_images.specs.declared.faults.ImagesFault.TheVariants as faults
-use Rattle.strata_images.specs.Faults.{AreUnread, refusal_told_of, status_of as images_status}
+use Rattle.strata_images.specs.Faults.{refusal_told_of, status_of as images_status}
 use Rattle.strata_images.specs.Images.{AreNotStacked, profile_of}
 use Rattle.strata.specs.Faults.{IsOfImages, status_of, stop_status, out_of_memory, line_told_of}
 use Rattle.serve_core.specs.Headline.{nodes_counted}
-use Rattle.strata.specs.Ending.{counted_of, first_of, IsStoppedOver, IsDone, EndsInFault, EndsWith, IsOver, IsOverWith, IsRunOf}
+use Rattle.strata.specs.Ending.{counted_of, first_of, HasUnreadImage, IsStoppedOver, IsDone, EndsInFault, EndsWith, IsOver, IsOverWith, IsRunOf}
 use Rattle.strata.specs.Laws.{AreBad, AreToBlame, AreUnsealed}
 use Rattle.strata.specs.Sessions.{IsSession, status_at}
 use Rattle.strata.proofs.Blames.{stop_of}
@@ -215,28 +215,33 @@ words_less (lines.Usage text) e = two_is_less e
 words_less lines.Memory e = five_is_more e
 
 -- images that were not read have another status, unless one is not as sealed
-unread_less : {count : ℕ} (fault : Fault) → IsOfImages (AreUnread count) fault → status_of fault ≡ 3
-    → (image : ℕ) × (image < count) × (fault ≡ Images (faults.Unsealed image))
-unread_less fault f e =
+unread_less : {words : List (List ℕ)} (fault : Fault) → HasUnreadImage words fault → status_of fault ≡ 3 → AreUnsealed words fault
+unread_less fault unread e =
+    let f = unread.unread in
     elim f.2 [
       | inl u ↦ elim u.2 [
         | inl gone ↦ absurd (one_is_less (three_of fault (Images (faults.Unread u.0)) (f.1 ∙ ap Images gone) e))
-        | inr unsealed ↦ (u.0, u.1, f.1 ∙ ap Images unsealed)
+        | inr unsealed ↦ record {
+          line = unread.line;
+          line_is = unread.line_is;
+          image = u.0;
+          named = u.1;
+          digested = unsealed.1;
+          told = f.1 ∙ ap Images unsealed.0;
+        }
       ]
       | inr m ↦ absurd (five_is_more (three_of fault (Images faults.Memory) (f.1 ∙ ap Images m) e))
     ]
 
 -- with the status 3 the images are to blame
-pub ends_for_images : (A : Type 0) (words : List (List ℕ)) (old new : Devices) → EndsWith A words 3 old new
-    → AreToBlame words ⊎ ((fault : Fault) × AreUnsealed words fault × (new ≡ old))
+pub ends_for_images : (A : Type 0) (words : List (List ℕ)) (old new : Devices) (e : EndsWith A words 3 old new)
+    → AreToBlame words ⊎ (AreUnsealed words e.fault × (new ≡ old))
 ends_for_images A words old new e =
     let three : status_of e.fault ≡ 3 = sym e.status_is in
     elim e.stopped [
       | inl early ↦ elim early.which [
         | inl taken ↦ absurd (words_less taken.line (three_of e.fault (line_told_of taken.line) taken.told three))
-        | inr unread ↦
-            let u = unread_less e.fault unread.unread three in
-            inr (e.fault, record { line = unread.line; line_is = unread.line_is; image = u.0; named = u.1; told = u.2 }, early.kept)
+        | inr unread ↦ inr (unread_less e.fault unread three, early.kept)
       ]
       | inr off ↦ inl (record {
         line = off.line;

@@ -19,6 +19,7 @@ use Rattle.strata.specs.Faults.{IsOfImages, stop_status, status_of}
 use Rattle.strata.specs.Sessions.{ServedSession}
 use Rattle.strata_images.specs.declared.faults.ImagesFault.{ImagesFault}
 use Rattle.strata_images.specs.declared.faults.ImagesFault.TheVariants as faults
+use Rattle.strata_images.specs.Faults.{HasDigestFor}
 use Rattle.strata_images.specs.Images.{NamesAsMany, profile_of}
 
 -- there are none or too many, or one of them breaks a rule of the profile
@@ -33,12 +34,13 @@ pub record AreToBlame (words : List (List ℕ)) : Type 0 where
   pub named : NamesAsMany line images
   pub bad : AreBad (profile_of line) images
 
--- the arguments name an image with this number, which is not as sealed
+-- the arguments name an image with this number and a digest for it, and it is not as sealed
 pub record AreUnsealed (words : List (List ℕ)) (fault : Fault) : Type 0 where
   pub line : Line
   pub line_is : IsLineOf words line
   pub image : ℕ
   pub named : image < vec_len line.images
+  pub digested : HasDigestFor line image
   pub told : fault ≡ Images (faults.Unsealed image)
 
 -- a session was served to its end

@@ -36,7 +36,7 @@ use std::os::unix::fs::FileExt;
 /// A status other than 0 is one of 1 to 5. With 2 the arguments are no command of the program, or
 /// have a malformed number or digest, a number out of range, or not a digest for each image, or name
 /// a file beside the device, and no device was touched. With 3 the images are none or more than 128,
-/// or one is broken, or not as sealed.
+/// or one is broken, or one that has a digest is not as sealed, which is the fault of the run.
 pub fn statuses_tell<A: Allocator>()
     ensures range { (words : List (List ℕ)) (n : ℕ) (old new : Devices) →
         EndsWith A words n old new → (1 ≤ n) × (n ≤ 5) }
@@ -44,9 +44,8 @@ pub fn statuses_tell<A: Allocator>()
         EndsWith A words 2 old new →
         (IsRefused words ⊎ (IsMisnumbered words ⊎ (IsCrossed words ⊎ IsMissealed words)))
         × (new ≡ old) }
-    ensures images { (words : List (List ℕ)) (old new : Devices) →
-        EndsWith A words 3 old new → AreToBlame words
-        ⊎ ((fault : Fault) × AreUnsealed words fault × (new ≡ old)) }
+    ensures images { (words : List (List ℕ)) (old new : Devices) (e : EndsWith A words 3 old new) →
+        AreToBlame words ⊎ (AreUnsealed words e.fault × (new ≡ old)) }
 {}
 
 /// The status of a fault says what is to blame: 1 files, sockets and streams; 2 the arguments; 3

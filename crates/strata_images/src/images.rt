@@ -45,7 +45,7 @@ where
     ensures sources { IfOk result (λ images.
         HaveSources line.now (are_whole images.held) (bytes_of images.held)
         (sources_of images.files)) }
-    ensures err { IfErr result (AreUnread (vec_len line.now.images)) }
+    ensures err { IfErr result (AreUnread line.now) }
 {
     let loading = loading_of(rt, line, Loading::Open(trailers_of(line)));
     let paths = line.images.as_slice();
@@ -68,7 +68,7 @@ where
     ensures ok { IfOk result (λ images. vec_len images ≡ vec_len line.now.images) }
     ensures held { IfOk result (λ images.
         AreHeldFor line.now R.File.remaining images.items) }
-    ensures err { IfErr result (AreUnread (vec_len line.now.images)) }
+    ensures err { IfErr result (AreUnread line.now) }
 {
     let loading = loading_of(rt, line, Loading::Gather(trailers_of(line)));
     let paths = line.images.as_slice();
