@@ -1,12 +1,12 @@
 -- Why the images of a list were not read, as their caller is reported.
 use Rattle.std.proofs.Common.{◌≡◌, sym, subst, ℕ, ◌+◌, ◌<◌, ◌⊎◌, inl, inr, Result, Ok, Err, IfErr, IsErrAnd, arith}
-use Rattle.romfs_files.specs.Unread.{IsNextUnread, IsReadUpTo}
+use Rattle.romfs_files.specs.Unread.{IsNextUnread, IsReadUpTo, IsUnreadAt}
 use Rattle.romfs_files.specs.declared.images.FilesFault.{FilesFault}
-use Rattle.romfs_files.specs.declared.images.FilesFault.TheVariants.{Unread, Memory}
+use Rattle.romfs_files.specs.declared.images.FilesFault.TheVariants.{Memory}
 
 -- one of so many images was not read, or memory ran out
 abbrev pub IsOneUnread : ℕ → FilesFault → Type 0
-IsOneUnread count fault = (fault ≡ Memory) ⊎ ((image : ℕ) × (image < count) × (fault ≡ Unread image))
+IsOneUnread count fault = (fault ≡ Memory) ⊎ ((image : ℕ) × (image < count) × IsUnreadAt image fault)
 
 one_unread : (count read : ℕ) (fault : FilesFault) → IsNextUnread 0 count read fault → IsOneUnread count fault
 one_unread count read fault (inl memory) = inl memory

@@ -1,13 +1,17 @@
 -- Why images of a list were not read.
 use Rattle.std.specs.Prelude.{◌≡◌, ℕ, ◌+◌, ◌<◌, ◌⊎◌, Result, Ok, Err}
 use Rattle.romfs_files.specs.declared.images.FilesFault.{FilesFault}
-use Rattle.romfs_files.specs.declared.images.FilesFault.TheVariants.{Unread, Memory}
+use Rattle.romfs_files.specs.declared.images.FilesFault.TheVariants.{Unread, Unsealed, Memory}
+
+-- the file of this image cannot be read, or is not as sealed
+abbrev pub IsUnreadAt : ℕ → FilesFault → Type 0
+IsUnreadAt image fault = (fault ≡ Unread image) ⊎ (fault ≡ Unsealed image)
 
 -- this many images from number first on are read, of these many, and the next one could not be; or
 -- memory ran out
 abbrev pub IsNextUnread : ℕ → ℕ → ℕ → FilesFault → Type 0
 IsNextUnread first count read fault =
-    (fault ≡ Memory) ⊎ ((read < count) × (fault ≡ Unread (first + read)))
+    (fault ≡ Memory) ⊎ ((read < count) × IsUnreadAt (first + read) fault)
 
 -- how many of a run of images from number first on were read: all of them, or those below the
 -- reported one, or some if memory ran out

@@ -85,6 +85,7 @@ stop_range stops.Memory = (omega arith, omega arith)
 
 images_range : (fault : ImagesFault) → IsStatus (images_status fault)
 images_range (faults.Unread image) = (omega arith, omega arith)
+images_range (faults.Unsealed image) = (omega arith, omega arith)
 images_range (faults.Broken image fault) = (omega arith, omega arith)
 images_range (faults.Layers count) = (omega arith, omega arith)
 images_range faults.Write = (omega arith, omega arith)

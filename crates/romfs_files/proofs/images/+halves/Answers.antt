@@ -1,6 +1,6 @@
 use Rattle.std.proofs.Common.{◌≡◌, ◌+◌, sym, subst, length, vec_len, arith}
 use Rattle.romfs_files.specs.Unread.{IsReadUpTo}
-use Rattle.romfs_files.proofs.Loads.{both_loaded}
+use Rattle.romfs_files.proofs.Loads.{both_loaded, halves}
 use Rattle.romfs_files.proofs.images.+halves.Goals as goal
 
 pub split_at-requires : goal.split_at-requires
@@ -24,9 +24,15 @@ returns-clause-count g t c =
 pub returns-clause-read : goal.returns-clause-read
 returns-clause-read g t c =
     let (high, low) = c.join-high.result in
-    let upper = c.join-high.ensures.first.1 in
-    let lower = c.join-high.ensures.second.1 in
-    both_loaded _ _ low.images.items high.images.items c.both.result.images.items c.both.ensures.either lower upper
+    let (lows, highs) = c.split_at.result in
+    let (low_digests, high_digests) = c.split_at-2.result in
+    let parts = c.split_at-2.ensures in
+    let as_many : length lows.now ≡ length low_digests.now = omega (arith, c.split_at.ensures.front_len, parts.front_len) in
+    both_loaded g.R.File.Read.remaining c.args.loading c.args.first low_digests.now high_digests.now c.args.digests.now low.images.items
+    high.images.items c.both.result.images.items low.end (halves _ low_digests.now high_digests.now c.args.digests.now parts.front parts.back)
+    (subst (λ m. IsReadUpTo c.args.first (length low_digests.now) m low.end) low.images.ok.0
+    (subst (λ n. IsReadUpTo c.args.first n (vec_len low.images) low.end) as_many c.join-high.ensures.second.0))
+    c.both.ensures.either c.join-high.ensures.second.1 c.join-high.ensures.first.1
 
 pub overflow_sub-less : goal.overflow_sub-less
 overflow_sub-less g t c = omega arith
