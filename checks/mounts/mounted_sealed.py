@@ -19,6 +19,8 @@ from checks.shared.mounting import LeftOut, hold, hold_tree, shown, wait_until
 
 # so many blocks have their digests in one block of the tree
 LEAVES = {"sha256": 128, "sha512": 64}
+# of the pages of a file, each so manyth is read
+APART = 61
 
 
 def sealed(image, algorithm="sha256"):
@@ -53,19 +55,27 @@ def byte_at(path, place):
         return it.read(1)[0]
 
 
+def pages_at(place, data, lost):
+    """Where pages begin that are read: at the ends of what is lost, and some others."""
+    ends = [block * PAGE - place for block in (min(lost), max(lost))] if lost else []
+    near = {at // PAGE + more for at in ends for more in (-1, 0, 1, 2)}
+    last = (len(data) - 1) // PAGE
+    return [page * PAGE for page in sorted({*range(0, last, APART), last, *near}) if 0 <= page <= last]
+
+
 def hold_pages(mount, place, data, lost):
-    """Holds each page of the file `x`: the right bytes, or EIO where it lies in a lost block."""
-    told = {True: 0, False: 0}
-    for at in range(0, len(data), PAGE):
+    """Holds pages of the file `x`: the right bytes, or EIO where one lies in a lost block."""
+    told = 0
+    for at in pages_at(place, data, lost):
         wanted = data[at:at + PAGE]
-        is_lost = any(block in lost for block in {(place + at) // PAGE, (place + at + len(wanted) - 1) // PAGE})
+        is_lost = not lost.isdisjoint({(place + at) // PAGE, (place + at + len(wanted) - 1) // PAGE})
         hold("the page at %d" % at, errno.EIO if is_lost else wanted, part(mount.path(b"x"), at, PAGE))
-        told[is_lost] += 1
-    return told[True]
+        told += is_lost
+    return told
 
 
 def sealed_tree(room):
-    """A mount of sealed images shows what one of unsealed images shows, by --digest and -o digest, read whole or not."""
+    """A mount of sealed images shows what one of unsealed images shows, by --digest and -o digest."""
     stack = [items_of(1), [folder("d"), file("d/00", b"upper"), file("d/new", b"new")], [file("z", b"unsealed")]]
     images = [room.layer(items) for items in stack]
     digests = [sealed(images[0]), sealed(images[1], "sha512"), "-"]
