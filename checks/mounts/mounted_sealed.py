@@ -95,6 +95,8 @@ def sealed_tree(room):
 def sealed_block(room):
     """A block that is changed in the image's file is EIO for the reads that touch it, and right again once it is mended."""
     image, place, data = large(room, 7)
+    with open(image, "rb") as it:
+        whole = it.read()
     lost = 0
     for algorithm in LEAVES:
         mount = room.mount([image], "--digest", sealed(image, algorithm))
@@ -107,7 +109,8 @@ def sealed_block(room):
         os.truncate(image, place + MIB)
         last = (place + len(data) - 1) // PAGE
         hold_pages(mount, place, data, set(range((place + MIB) // PAGE, last + 1)))
-        write_at(image, place + MIB, data[MIB:] + bytes(-(place + len(data)) % 16))
+        write_at(image, 0, whole)
+        hold("pages of a whole image", 0, hold_pages(mount, place, data, set()))
         mount.end()
     return "of six changed bytes %d pages are EIO, all others right, and so is each when it is mended" % lost
 
