@@ -76,6 +76,8 @@ from strata_format.system import called, libc
 
 
 FED = {"fed", "waits", "device"}
+# what the file of an image's fs-verity tree has behind its name
+TREE = ".verity"
 LIMITS = (*FED, "terminal", "room", "disk", "memory", "stack", "files", "pipes", "gone", "closed")
 
 
@@ -110,7 +112,7 @@ class Started:
         self.case, self.line = case, line
 
     def lay_out(self, room):
-        for name in self.names:
+        for name in self.names | {name + TREE for name in self.names}:
             is_there, value = self.case.data_of(name)
             path = os.path.join(room, name)
             if is_there and value is None:

@@ -141,7 +141,7 @@ where
     R::Dir: Send,
 {
     let paths = [low, high, high, other, low, high, other, low, high];
-    let images = load(rt, alloc, &paths, Loading::Open(Trailers::Left))?;
+    let images = load(rt, alloc, &paths, &[None; 9], Loading::Open(Trailers::Left))?;
     let (kept, sources) = apart(alloc, images)?;
     Ok(look_at_all(alloc, &kept, &sources)?)
 }

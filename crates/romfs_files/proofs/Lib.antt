@@ -2,3 +2,4 @@ pub mod TakenApart
 pub mod Files
 pub mod Unread
 pub mod Loads
+pub mod UnderDigest

@@ -1,20 +1,26 @@
 -- Why the images of a list were not read, as their caller is reported.
-use Rattle.std.proofs.Common.{◌≡◌, sym, subst, ℕ, ◌+◌, ◌<◌, ◌⊎◌, inl, inr, Result, Ok, Err, IfErr, IsErrAnd, arith}
-use Rattle.romfs_files.specs.Unread.{IsNextUnread, IsReadUpTo}
+use Rattle.std.proofs.Common.{◌≡◌, sym, subst, ℕ, ◌+◌, ◌<◌, ◌⊎◌, inl, inr, List, length, get_or, Option, None, Result, Ok, Err, IfErr, IsErrAnd, arith}
+use Rattle.romfs_seal.specs.declared.digest.Digest.{Digest}
+use Rattle.romfs_files.specs.Unread.{IsNextUnread, IsReadUpTo, IsUnreadAt}
 use Rattle.romfs_files.specs.declared.images.FilesFault.{FilesFault}
-use Rattle.romfs_files.specs.declared.images.FilesFault.TheVariants.{Unread, Memory}
+use Rattle.romfs_files.specs.declared.images.FilesFault.TheVariants.{Memory}
 
 -- one of so many images was not read, or memory ran out
-abbrev pub IsOneUnread : ℕ → FilesFault → Type 0
-IsOneUnread count fault = (fault ≡ Memory) ⊎ ((image : ℕ) × (image < count) × (fault ≡ Unread image))
+abbrev pub IsOneUnread : ℕ → List (Option Digest) → FilesFault → Type 0
+IsOneUnread count digests fault =
+    (fault ≡ Memory) ⊎ ((image : ℕ) × (image < count) × IsUnreadAt image (get_or digests image None) fault)
 
-one_unread : (count read : ℕ) (fault : FilesFault) → IsNextUnread 0 count read fault → IsOneUnread count fault
-one_unread count read fault (inl memory) = inl memory
-one_unread count read fault (inr (below, is)) = inr (0 + read, omega arith, is)
+one_unread : (count read : ℕ) (digests : List (Option Digest)) (fault : FilesFault) → length digests ≡ count
+    → IsNextUnread 0 digests read fault → IsOneUnread count digests fault
+one_unread count read digests fault each (inl memory) = inl memory
+one_unread count read digests fault each (inr (below, is)) =
+    let same : 0 + read ≡ read = omega arith in
+    inr (read, omega (arith, each, below), subst (λ image. IsUnreadAt image (get_or digests read None) fault) same is)
 
 -- a fault that ended the run is reported
-pub unread_told : {X : Type 0} (count read : ℕ) (end : Result (Unit {0}) FilesFault) (fault : FilesFault) (told : Result X FilesFault)
-    → IsReadUpTo 0 count read end → end ≡ Err fault → IsErrAnd told (λ t. t ≡ fault) → IfErr told (IsOneUnread count)
-unread_told count read end fault (Ok x) run is same = tt
-unread_told count read end fault (Err t) run is same =
-    subst (IsOneUnread count) (sym same) (one_unread count read fault (subst (IsReadUpTo 0 count read) is run))
+pub unread_told : {X : Type 0} (count read : ℕ) (digests : List (Option Digest)) (end : Result (Unit {0}) FilesFault) (fault : FilesFault)
+    (told : Result X FilesFault) → length digests ≡ count → IsReadUpTo 0 digests read end → end ≡ Err fault → IsErrAnd told (λ t. t ≡ fault)
+    → IfErr told (IsOneUnread count digests)
+unread_told count read digests end fault (Ok x) each run is same = tt
+unread_told count read digests end fault (Err t) each run is same =
+    subst (IsOneUnread count digests) (sym same) (one_unread count read digests fault each (subst (IsReadUpTo 0 digests read) is run))

@@ -2,6 +2,6 @@ pub mod Unread
 pub mod Reading
 pub mod Data
 pub mod Loaded
-pub mod Sealing
 pub mod Opening
 pub mod Files
+pub mod Sealing

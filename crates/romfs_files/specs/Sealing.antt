@@ -1,15 +1,20 @@
 -- Images that are read under the digest of their file.
-use Rattle.std.specs.Prelude.{◌≡◌, ℕ}
+use Rattle.std.specs.Prelude.{◌≡◌, ℕ, List, [], ◌∷◌, Option, Some, None, length, ⊤}
 use Rattle.devices.specs.Given.{anything}
 use Rattle.devices.specs.Seal.{Seal}
-use Rattle.devices.specs.Sources.{sealed}
+use Rattle.devices.specs.Sources.{Source, sealed, IsSizeOf, MayGive}
 use Rattle.romfs_seal.specs.declared.digest.Digest.{Digest}
 use Rattle.romfs_seal.specs.Digests.{digest_bytes, made_by, sha}
 use Rattle.romfs_files.specs.declared.image_data.ImageData.{ImageData}
 use Rattle.romfs_files.specs.declared.loaded.LoadedImage.{LoadedImage}
 use Rattle.romfs_files.specs.declared.loaded.Trailers.{Trailers}
 use Rattle.romfs_files.specs.Data.{source_of}
-use Rattle.romfs_files.specs.Loaded.{IsOpenOver}
+use Rattle.romfs_held.specs.declared.image.HeldImage.{HeldImage}
+use Rattle.romfs_held.specs.declared.image.HeldImage.TheVariants as held
+use Rattle.romfs_files.specs.declared.loaded.Loading.{Loading}
+use Rattle.romfs_files.specs.declared.loaded.Loading.TheVariants as how
+use Rattle.romfs_files.specs.Files.{IsLoadedOf, IsOfFile}
+use Rattle.romfs_files.specs.Loaded.{IsKeptOf, IsOpenOver}
 
 -- reads of the files may give anything; this is the file's size, and its digest
 abbrev pub seal_by : Digest → ℕ → Seal
@@ -33,3 +38,42 @@ pub record IsOpenUnder {F A : Type 0} (digest : Digest) (trailers : Trailers)
   pub source : ImageData F A
   pub under : IsUnder digest source
   pub over : IsOpenOver source trailers image
+
+-- all bytes of the source are held, as reads of it may give them
+abbrev pub IsWholeOver : {A : Type 0} → Source → HeldImage A → Type 0
+IsWholeOver source (held.Kept kept) = ⊥
+IsWholeOver source (held.Whole bytes) =
+    MayGive source 0 bytes.items × IsSizeOf source (length bytes.items)
+
+-- all bytes of an image were read under this digest, and its file was let go
+pub record IsWholeUnder {F A : Type 0} (digest : Digest) (image : LoadedImage F A) : Type 0 where
+  pub size : ℕ
+  pub whole : IsWholeOver (sealed (seal_by digest size)) image.held
+  pub let_go : image.source ≡ None
+
+-- what the rules look at was, and its file was let go
+pub record IsHeldUnder {F A : Type 0} (digest : Digest) (trailers : Trailers)
+    (image : LoadedImage F A) : Type 0 where
+  pub size : ℕ
+  pub kept : IsKeptOf (sealed (seal_by digest size)) trailers image
+  pub let_go : image.source ≡ None
+
+-- what is loaded of a file under its digest
+abbrev pub IsLoadedUnder : {F A : Type 0} → Digest → Loading → LoadedImage F A → Type 0
+IsLoadedUnder digest how.Whole image = IsWholeUnder digest image
+IsLoadedUnder digest (how.Open trailers) image = IsOpenUnder digest trailers image
+IsLoadedUnder digest (how.Gather trailers) image = IsHeldUnder digest trailers image
+
+-- what is loaded of a file, of which this is known, or under its digest
+abbrev pub IsLoadedBy : {F A : Type 0} → (F → Option (List ℕ)) → Loading → Option Digest
+    → LoadedImage F A → Type 0
+IsLoadedBy known loading None image = IsOfFile (λ file. IsLoadedOf (known file) loading) image
+IsLoadedBy known loading (Some digest) image = IsLoadedUnder digest loading image
+
+-- the images are those of the first of these digests, in their order
+abbrev pub AreLoadedBy : {F A : Type 0} → (F → Option (List ℕ)) → Loading → List (Option Digest)
+    → List (LoadedImage F A) → Type 0
+AreLoadedBy known loading digests [] = ⊤
+AreLoadedBy known loading [] (image ∷ images) = ⊥
+AreLoadedBy known loading (digest ∷ digests) (image ∷ images) =
+    IsLoadedBy known loading digest image × AreLoadedBy known loading digests images

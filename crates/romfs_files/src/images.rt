@@ -4,15 +4,18 @@
 //! the results of two halves are joined: a fault of the lower half (memory, or an image that cannot
 //! be read) comes before one of the upper. All images below the reported one were therefore read.
 
-ghost use Rattle.std.specs.Prelude.{◌≡◌, ◌⊎◌, ◌+◌, ◌<◌, ◌^◌, ℕ, ◌++◌, length, vec_len, IfOk, IfErr, OnOk};
-ghost use Rattle.romfs_files.specs.Files.{AreLoaded, IsLoadedOf, IsOfFile};
-ghost use Rattle.romfs_files.specs.Unread.{IsReadUpTo};
-ghost use Rattle.romfs_files.specs.declared.images.FilesFault.TheVariants.{Unread, Memory};
+ghost use Rattle.std.specs.Prelude.{◌≡◌, ◌⊎◌, ◌+◌, ◌<◌, ◌^◌, ℕ, List, ◌++◌, get_or, length, vec_len, Option, None, Some, Ok, IfOk, IfErr, OnOk};
+ghost use Rattle.romfs_files.specs.Sealing.{AreLoadedBy, IsLoadedBy, IsLoadedUnder};
+ghost use Rattle.romfs_files.specs.Unread.{IsReadUpTo, IsUnreadAt};
+ghost use Rattle.romfs_files.specs.declared.images.FilesFault.TheVariants.{Memory};
+ghost use Rattle.romfs_seal.specs.declared.digest.Digest.{Digest};
 ghost use denote.Param.Send.{IsSync, IsSend, Frees};
 
 use crate::loaded::{LoadedImage, Loading};
-use crate::opening::load_file;
+use crate::opening::{at_places, load_file};
+use crate::sealing::load_sealed;
 use romfs_kept::GatherFault;
+use romfs_seal::{Digest, SealFault};
 use std::alloc::{AllocError, AllocFailed, Allocator};
 use std::fs;
 use std::fs::Files;
@@ -31,6 +34,8 @@ const MANY: usize = 8;
 pub enum FilesFault {
     /// The file of this image, counted from 0, cannot be read to its end.
     Unread { image: u64 },
+    /// The file of this image, counted from 0, or the file of its tree is not the named one.
+    Unsealed { image: u64 },
     /// Memory ran out.
     Memory,
 }
@@ -56,29 +61,35 @@ impl<T: Drop> From<AllocFailed<T>> for FilesFault {
 /// the rules look at, its first bytes, headers, names and the targets of symbolic links, with the
 /// trailer where trailers are read. Of all other files all bytes are read, and those of an image
 /// that stays open are gathered in the same way. A file that is let go is so before the next one of
-/// its part is opened, so there may be any number of them.
+/// its part is opened, so there may be any number of them. An image for which a digest is given is
+/// read under it, with the tree in the file whose name has `.verity` added.
 ///
 /// Of a long list at most four parts are read at the same time; of several files that cannot be
 /// read the lowest is reported, if there was memory for all below it. `Unread` comes where a file
 /// cannot be opened, as one too many, where a read fails or gives fewer bytes than the file has
 /// said, and where a device tells no end. That an image's full size goes on behind the end of its
-/// file is no fault here. `Memory` comes, too, where a trailer that is read ends at 2^32 or behind.
+/// file is no fault here. `Unsealed` comes where an image or its tree is not the one that the digest
+/// names, or cannot be read; of a pipe no byte is read. `Memory` comes, too, where a trailer that is
+/// read ends at 2^32 or behind.
 pub fn load<R: Files + Threads + Sync, A: Allocator + Copy + Send + Sync>(
     rt: &R,
     alloc: A,
     paths: &[&str],
+    digests: &[Option<Digest>],
     loading: Loading,
 ) -> Result<Vec<LoadedImage<R::File, A>, A>, FilesFault>
 where
     R::File: FileExt + Send,
     R::Dir: Send,
+    requires { length digests.now ≡ length paths.now }
     ensures ok { IfOk result (λ images. vec_len images ≡ length paths.now) }
     ensures loaded { IfOk result (λ images.
-        AreLoaded R.File.remaining loading images.items) }
+        AreLoadedBy R.File.remaining loading digests.now images.items) }
     ensures err { IfErr result (λ fault. (fault ≡ Memory)
-        ⊎ ((image : ℕ) × (image < length paths.now) × (fault ≡ Unread image))) }
+        ⊎ ((image : ℕ) × (image < length paths.now)
+        × IsUnreadAt image (get_or digests.now image None) fault)) }
 {
-    let Run { images, end } = load_from(rt, alloc, 0, paths, loading, FORKS);
+    let Run { images, end } = load_from(rt, alloc, 0, paths, digests, loading, FORKS);
     end?;
     Ok(images)
 }
@@ -98,40 +109,47 @@ fn load_from<R: Files + Threads + Sync, A: Allocator + Copy + Send + Sync>(
     alloc: A,
     first: usize,
     paths: &[&str],
+    digests: &[Option<Digest>],
     loading: Loading,
     forks: u32,
 ) -> Run<LoadedImage<R::File, A>, A>
 where
     R::File: FileExt + Send,
     R::Dir: Send,
-    requires { first + length paths.now < 2 ^ 64 }
-    ensures count { IsReadUpTo first (length paths.now) (vec_len result.images) result.end }
-    ensures read { AreLoaded R.File.remaining loading result.images.items }
+    requires few { first + length paths.now < 2 ^ 64 }
+    requires each { length digests.now ≡ length paths.now }
+    ensures count { IsReadUpTo first digests.now (vec_len result.images) result.end }
+    ensures read { AreLoadedBy R.File.remaining loading digests.now result.images.items }
 {
     if forks == 0 || paths.len() < MANY {
-        return load_in_turn(rt, alloc, first, paths, loading);
+        return load_in_turn(rt, alloc, first, paths, digests, loading);
     }
     let less = forks - 1;
     let half = paths.len() / 2;
     let (lows, highs) = paths.split_at(half);
+    let (low_digests, high_digests) = digests.split_at(half);
     let next = first + half;
     // the lowest layer, mostly the largest, waits for no thread to start
     let (high, low) = join(
         rt,
         move || -> Run<LoadedImage<R::File, A>, A>
             requires { IsSync R.row × IsSync A.row × IsSend A.row
-                × Frees A.Allocator A.dealloc_token × (next + length highs.now < 2 ^ 64) }
-            ensures count { IsReadUpTo next (length highs.entry.now) (vec_len result.images)
+                × Frees A.Allocator A.dealloc_token × (next + length highs.now < 2 ^ 64)
+                × (length high_digests.now ≡ length highs.now) }
+            ensures count { IsReadUpTo next high_digests.entry.now (vec_len result.images)
                 result.end }
-            ensures read { AreLoaded R.File.remaining loading result.images.items }
-        { load_from(rt, alloc, next, highs, loading, less) },
+            ensures read { AreLoadedBy R.File.remaining loading high_digests.entry.now
+                result.images.items }
+        { load_from(rt, alloc, next, highs, high_digests, loading, less) },
         move || -> Run<LoadedImage<R::File, A>, A>
             requires { IsSync R.row × IsSync A.row × IsSend A.row
-                × Frees A.Allocator A.dealloc_token × (first + length lows.now < 2 ^ 64) }
-            ensures count { IsReadUpTo first (length lows.entry.now) (vec_len result.images)
+                × Frees A.Allocator A.dealloc_token × (first + length lows.now < 2 ^ 64)
+                × (length low_digests.now ≡ length lows.now) }
+            ensures count { IsReadUpTo first low_digests.entry.now (vec_len result.images)
                 result.end }
-            ensures read { AreLoaded R.File.remaining loading result.images.items }
-        { load_from(rt, alloc, first, lows, loading, less) },
+            ensures read { AreLoadedBy R.File.remaining loading low_digests.entry.now
+                result.images.items }
+        { load_from(rt, alloc, first, lows, low_digests, loading, less) },
     );
     both(low, high)
 }
@@ -141,11 +159,12 @@ where
 fn both<T: Drop, A: Allocator>(low: Run<T, A>, high: Run<T, A>) -> Run<T, A>
     ensures order { OnOk result.end (result.images.items
         ≡ low.images.items ++ high.images.items) }
-    ensures read { (first lows highs : ℕ) → IsReadUpTo first lows (vec_len low.images) low.end →
-        IsReadUpTo (first + lows) highs (vec_len high.images) high.end →
-        IsReadUpTo first (lows + highs) (vec_len result.images) result.end }
+    ensures read { (first : ℕ) (lows highs : List (Option Digest)) →
+        IsReadUpTo first lows (vec_len low.images) low.end →
+        IsReadUpTo (first + length lows) highs (vec_len high.images) high.end →
+        IsReadUpTo first (lows ++ highs) (vec_len result.images) result.end }
     ensures either { (result.images.items ≡ low.images.items)
-        ⊎ (result.images.items ≡ low.images.items ++ high.images.items) }
+        ⊎ ((low.end ≡ Ok tt) × (result.images.items ≡ low.images.items ++ high.images.items)) }
 {
     let Run { mut images, end } = low;
     if let Err(fault) = end {
@@ -174,16 +193,18 @@ fn load_in_turn<R: Files, A: Allocator + Copy>(
     alloc: A,
     first: usize,
     paths: &[&str],
+    digests: &[Option<Digest>],
     loading: Loading,
 ) -> Run<LoadedImage<R::File, A>, A>
 where
     R::File: FileExt,
-    requires { first + length paths.now < 2 ^ 64 }
-    ensures count { IsReadUpTo first (length paths.now) (vec_len result.images) result.end }
-    ensures read { AreLoaded R.File.remaining loading result.images.items }
+    requires few { first + length paths.now < 2 ^ 64 }
+    requires each { length digests.now ≡ length paths.now }
+    ensures count { IsReadUpTo first digests.now (vec_len result.images) result.end }
+    ensures read { AreLoadedBy R.File.remaining loading digests.now result.images.items }
 {
     let mut images = Vec::new(alloc);
-    let end = add_in_turn(rt, alloc, first, paths, loading, &mut images);
+    let end = add_in_turn(rt, alloc, first, paths, digests, loading, &mut images);
     Run { images, end }
 }
 
@@ -194,6 +215,7 @@ fn add_in_turn<R: Files, A: Allocator + Copy>(
     alloc: A,
     first: usize,
     paths: &[&str],
+    digests: &[Option<Digest>],
     loading: Loading,
     images: &mut Vec<LoadedImage<R::File, A>, A>,
 ) -> Result<(), FilesFault>
@@ -201,12 +223,14 @@ where
     R::File: FileExt,
     requires empty { vec_len images.old ≡ 0 }
     requires few { first + length paths.now < 2 ^ 64 }
-    ensures count { IsReadUpTo first (length paths.now) (vec_len images.new) result }
-    ensures read { AreLoaded R.File.remaining loading images.new.items }
+    requires each { length digests.now ≡ length paths.now }
+    ensures count { IsReadUpTo first digests.now (vec_len images.new) result }
+    ensures read { AreLoadedBy R.File.remaining loading digests.now images.new.items }
 {
     images.reserve_exact(paths.len())?;
     for (at, path) in paths.iter().enumerate() {
-        images.push(load_one(rt, alloc, (first + at) as u64, path, loading)?)?;
+        let image = (first + at) as u64;
+        images.push(load_one(rt, alloc, image, path, digests[at], loading)?)?;
     }
     Ok(())
 }
@@ -216,17 +240,63 @@ fn load_one<R: Files, A: Allocator + Copy>(
     alloc: A,
     image: u64,
     path: &str,
+    digest: Option<Digest>,
     loading: Loading,
 ) -> Result<LoadedImage<R::File, A>, FilesFault>
 where
     R::File: FileExt,
-    ensures ok { IfOk result (IsOfFile (λ file. IsLoadedOf (R.File.remaining file) loading)) }
-    ensures err { IfErr result (λ fault. (fault ≡ Unread image) ⊎ (fault ≡ Memory)) }
+    ensures ok { IfOk result (IsLoadedBy R.File.remaining loading digest) }
+    ensures err { IfErr result (λ fault. IsUnreadAt image digest fault ⊎ (fault ≡ Memory)) }
 {
     let file = fs::open(rt, path).map_err(|_| FilesFault::Unread { image })?;
+    if let Some(digest) = digest {
+        return load_named(rt, alloc, image, path, file, digest, loading);
+    }
     match load_file(alloc, file, loading) {
         Ok(loaded) => Ok(loaded),
         Err(GatherFault::Unread) => Err(FilesFault::Unread { image }),
         Err(GatherFault::Memory) => Err(FilesFault::Memory),
     }
+}
+
+/// What is loaded of the file of an image under its digest.
+fn load_named<R: Files, A: Allocator + Copy>(
+    rt: &R,
+    alloc: A,
+    image: u64,
+    path: &str,
+    file: R::File,
+    digest: Digest,
+    loading: Loading,
+) -> Result<LoadedImage<R::File, A>, FilesFault>
+where
+    R::File: FileExt,
+    ensures ok { IfOk result (IsLoadedUnder digest loading) }
+    ensures err { IfErr result (λ fault. IsUnreadAt image (Some digest) fault
+        ⊎ (fault ≡ Memory)) }
+{
+    match load_with_tree(rt, alloc, path, file, digest, loading) {
+        Ok(loaded) => Ok(loaded),
+        Err(SealFault::Memory) => Err(FilesFault::Memory),
+        Err(_) => Err(FilesFault::Unsealed { image }),
+    }
+}
+
+fn load_with_tree<R: Files, A: Allocator + Copy>(
+    rt: &R,
+    alloc: A,
+    path: &str,
+    file: R::File,
+    digest: Digest,
+    loading: Loading,
+) -> Result<LoadedImage<R::File, A>, SealFault>
+where
+    R::File: FileExt,
+    ensures { IfOk result (IsLoadedUnder digest loading) }
+{
+    let name = format!(in alloc; "{path}.verity")?;
+    let tree = fs::open(rt, name.as_str()).map_err(|_| SealFault::Unread)?;
+    let image = at_places(file).map_err(|_| SealFault::Unread)?;
+    let tree = at_places(tree).map_err(|_| SealFault::Unread)?;
+    load_sealed(alloc, image, tree, digest, loading)
 }

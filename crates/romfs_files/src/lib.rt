@@ -11,8 +11,8 @@
 //!   the bytes ([`ImageData`]). [`apart`] makes two lists of a list of images.
 //! - gathered. As much is read, and no file is kept open.
 //!
-//! [`open_sealed`] opens one image whose fs-verity digest is known, with the file of its tree
-//! (`romfs_seal`).
+//! An image whose fs-verity digest is known is read under it, with the file of its tree
+//! (`romfs_seal`), which stands beside it with the name `.verity` added ([`load_sealed`]).
 //!
 //! Of a long list up to four parts are read at the same time; the lowest image that cannot be read
 //! is reported.
@@ -37,4 +37,4 @@ pub use images::{FilesFault, load};
 pub use loaded::{LoadedImage, Loading, Trailers, apart};
 pub use opening::{FileKind, load_as};
 pub use romfs_kept::GatherFault;
-pub use sealing::open_sealed;
+pub use sealing::load_sealed;

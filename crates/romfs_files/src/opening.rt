@@ -115,6 +115,20 @@ fn data_of<F: Read + Seek + OpenFile + FileExt + Drop, A: Allocator>(
     }
 }
 
+/// A file that is read at places, with the size that it reports: 0 if it reports none.
+pub(crate) fn at_places<F: Seek + OpenFile + FileExt + Drop>(
+    mut file: F,
+) -> Result<InFile<F>, GatherFault> {
+    match told_kind(file.metadata()) {
+        FileKind::Regular { size } => Ok(InFile::new(file, size)),
+        FileKind::BlockDevice => {
+            let size = end_of(&mut file)?;
+            Ok(InFile::new(file, size))
+        }
+        FileKind::Stream => Ok(InFile::new(file, 0)),
+    }
+}
+
 /// How many bytes stand before the end of a file.
 fn end_of<F: Seek>(file: &mut F) -> Result<u64, GatherFault> {
     file.seek(SeekFrom::End(0)).map_err(|_| GatherFault::Unread)

@@ -1,38 +1,69 @@
 //! Images under a digest.
 
-ghost use Rattle.std.specs.Prelude.{IfOk};
-ghost use Rattle.romfs_files.specs.Sealing.{IsOpenUnder, IsUnder};
+ghost use Rattle.std.specs.Prelude.{length, IfOk};
+ghost use Rattle.devices.specs.Sources.{IsSizeOf, MayGive};
+ghost use Rattle.romfs_seal.specs.declared.digest.Digest.{Digest};
+ghost use Rattle.romfs_files.specs.Sealing.{IsLoadedUnder, IsUnder};
 
 use crate::image_data::ImageData;
-use crate::loaded::{LoadedImage, Trailers, open};
-use devices::{Contents, InFile};
+use crate::loaded::{LoadedImage, Loading, let_go, open, whole};
+use devices::{Contents, InFile, fill};
 use romfs_kept::GatherFault;
 use romfs_seal::{Digest, Files, SealFault, SealedImage};
 use std::alloc::Allocator;
 use std::os::unix::fs::FileExt;
 
-/// The image of a file whose fs-verity digest is this one, with the file of its tree. Both stay
-/// open, and each block is hashed when it is read. What the rules look at is read, with the trailer
-/// where it is asked for; of this, as of all data, the named file has the bytes, unless a read
-/// gives, in the place of a block, another with its digest.
+/// What is loaded of a file whose fs-verity digest is this one, with the file of its tree. Each block
+/// is hashed when it is read. All bytes are read, or what the rules look at, with the trailer where
+/// it is asked for; then both files stay open, or are let go. Of what is read the named file has the
+/// bytes, unless a read gives, in the place of a block, another with its digest.
 ///
 /// `Digest` and `Length` come where the files are not the named ones, `Unread` where a read fails or
 /// gives a block that has another digest, and `Memory` where memory was refused, or where a trailer
 /// ends at 2^32 or behind.
-pub fn open_sealed<F: FileExt + Drop, A: Allocator + Copy>(
+pub fn load_sealed<F: FileExt + Drop, A: Allocator + Copy>(
     alloc: A,
     image: InFile<F>,
     tree: InFile<F>,
     digest: Digest,
-    trailers: Trailers,
+    loading: Loading,
 ) -> Result<LoadedImage<F, A>, SealFault>
-    ensures { IfOk result (IsOpenUnder digest trailers) }
+    ensures { IfOk result (IsLoadedUnder digest loading) }
 {
     let source = under_digest(alloc, image, tree, digest)?;
-    match open(alloc, source, trailers) {
+    match load_under(alloc, source, loading) {
         Ok(image) => Ok(image),
         Err(GatherFault::Unread) => Err(SealFault::Unread),
         Err(GatherFault::Memory) => Err(SealFault::Memory),
+    }
+}
+
+#[tactic(auto, using(crate::proofs::UnderDigest::gathered_under, crate::proofs::UnderDigest::opened_under))]
+fn load_under<F: FileExt + Drop, A: Allocator + Copy>(
+    alloc: A,
+    source: ImageData<F, A>,
+    loading: Loading,
+) -> Result<LoadedImage<F, A>, GatherFault>
+    ensures { (digest : Digest) → IsUnder digest source → IfOk result (IsLoadedUnder digest loading) }
+{
+    match loading {
+        Loading::Whole => Ok(whole(all_of(alloc, &source)?)),
+        Loading::Open(trailers) => open(alloc, source, trailers),
+        Loading::Gather(trailers) => let_go(alloc, source, trailers),
+    }
+}
+
+/// All bytes of a source.
+fn all_of<S: Contents, A: Allocator>(alloc: A, source: &S) -> Result<Vec<u8, A>, GatherFault>
+    ensures given { IfOk result (λ bytes. MayGive (S.source source.now) 0 bytes.items) }
+    ensures size { IfOk result (λ bytes. IsSizeOf (S.source source.now) (length bytes.items)) }
+{
+    let size = source.size() as usize;
+    let mut bytes = Vec::new(alloc);
+    bytes.resize(size, 0)?;
+    match fill(source, bytes.as_mut_slice(), 0) {
+        Ok(()) => Ok(bytes),
+        Err(_) => Err(GatherFault::Unread),
     }
 }
 

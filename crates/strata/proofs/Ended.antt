@@ -63,7 +63,7 @@ module _ (A : Type 0) (words : List (List ℕ)) (line : Line) (images : List (Li
 
 -- an image that was not read, or memory that ran out before all were
 pub unread : {X : Type 0} {words : List (List ℕ)} {line : Line} (A : Type 0) (old : Devices) → IsLineOf words line → (fault : ImagesFault)
-    → AreUnread (vec_len line.images) fault → (r : Result X Fault) → IsErrAnd r (λ told. told ≡ Images fault)
+    → AreUnread line fault → (r : Result X Fault) → IsErrAnd r (λ told. told ≡ Images fault)
     → IfErr r (λ told. EndsInFault A words told old old)
 unread A old l fault f (Ok u) e = absurd e
 unread {line = line} A old l fault f (Err told) e =
@@ -85,6 +85,7 @@ stop_range stops.Memory = (omega arith, omega arith)
 
 images_range : (fault : ImagesFault) → IsStatus (images_status fault)
 images_range (faults.Unread image) = (omega arith, omega arith)
+images_range (faults.Unsealed image) = (omega arith, omega arith)
 images_range (faults.Broken image fault) = (omega arith, omega arith)
 images_range (faults.Layers count) = (omega arith, omega arith)
 images_range faults.Write = (omega arith, omega arith)

@@ -11,7 +11,7 @@ use Rattle.strata_words.specs.declared.options.LineFault.{LineFault}
 use Rattle.strata_words.specs.declared.options.LineFault.TheVariants as lines
 use Rattle.strata_words.specs.declared.options.Verb.{Verb}
 use Rattle.strata_words.specs.declared.options.Verb.TheVariants as verbs
-use Rattle.strata_words.specs.CommandLine.{IsRefused, IsMisnumbered, IsCrossed, IsLineFault}
+use Rattle.strata_words.specs.CommandLine.{IsRefused, IsMisnumbered, IsMissealed, IsCrossed, IsLineFault}
 use Rattle.reply_model.specs.declared.session.Session.{Session}
 use Rattle.reply_model.specs.Readings.{Sourced}
 use Rattle.stack_prepare.specs.Layers.{AreRefused}
@@ -25,12 +25,12 @@ use Rattle.strata.specs.declared.faults.Fault.{Fault}
 use Rattle.strata.specs.declared.faults.Fault.TheVariants.{RequestsFile, RepliesFile, BalancesFile, Bind, Accept, Images, InSession, Stopped}
 use Rattle.strata_images.specs.declared.faults.ImagesFault.{ImagesFault}
 use Rattle.strata_images.specs.declared.faults.ImagesFault.TheVariants as faults
-use Rattle.strata_images.specs.Faults.{AreUnread, refusal_told_of, status_of as images_status}
+use Rattle.strata_images.specs.Faults.{refusal_told_of, status_of as images_status}
 use Rattle.strata_images.specs.Images.{AreNotStacked, profile_of}
 use Rattle.strata.specs.Faults.{IsOfImages, status_of, stop_status, out_of_memory, line_told_of}
 use Rattle.serve_core.specs.Headline.{nodes_counted}
-use Rattle.strata.specs.Ending.{counted_of, first_of, IsStoppedOver, IsDone, EndsInFault, EndsWith, IsOver, IsOverWith, IsRunOf}
-use Rattle.strata.specs.Laws.{AreBad, AreToBlame}
+use Rattle.strata.specs.Ending.{counted_of, first_of, HasUnreadImage, IsStoppedOver, IsDone, EndsInFault, EndsWith, IsOver, IsOverWith, IsRunOf}
+use Rattle.strata.specs.Laws.{AreBad, AreToBlame, AreUnsealed}
 use Rattle.strata.specs.Sessions.{IsSession, status_at}
 use Rattle.strata.proofs.Blames.{stop_of}
 use Rattle.strata.proofs.Ended.{IsStatus, fault_range, fault_status}
@@ -59,6 +59,7 @@ five_is_other e = absurd (omega arith)
 
 two_is_other : (fault : ImagesFault) → images_status fault ≢ 2
 two_is_other (faults.Unread image) = one_is_other
+two_is_other (faults.Unsealed image) = three_is_other
 two_is_other (faults.Broken image fault) = three_is_other
 two_is_other (faults.Layers count) = three_is_other
 two_is_other faults.Write = one_is_other
@@ -99,14 +100,14 @@ work_other A verbs.List line images fault old new s = of_images _ fault s.1
 
 -- of the two faults of words lack of memory has another status
 misread : (words : List (List ℕ)) (line : LineFault) → IsLineFault words line → status_of (line_told_of line) ≡ 2 → IsRefused words
-    ⊎ (IsMisnumbered words ⊎ IsCrossed words)
+    ⊎ (IsMisnumbered words ⊎ (IsCrossed words ⊎ IsMissealed words))
 misread words (lines.Usage text) is e = is
 misread words lines.Memory is e = absurd (five_is_other e)
 
 -- with the status 2 the words are no command, or one with a wrong number or a file beside the
 -- device, and no device was touched
 pub ends_for_words : (A : Type 0) (words : List (List ℕ)) (old new : Devices) → EndsWith A words 2 old new
-    → (IsRefused words ⊎ (IsMisnumbered words ⊎ IsCrossed words)) × (new ≡ old)
+    → (IsRefused words ⊎ (IsMisnumbered words ⊎ (IsCrossed words ⊎ IsMissealed words))) × (new ≡ old)
 ends_for_words A words old new e =
     let two : status_of e.fault ≡ 2 = sym e.status_is in
     elim e.stopped [
@@ -213,30 +214,42 @@ words_less : (line : LineFault) → status_of (line_told_of line) ≢ 3
 words_less (lines.Usage text) e = two_is_less e
 words_less lines.Memory e = five_is_more e
 
--- images that were not read have another status
-unread_less : {count : ℕ} (fault : Fault) → IsOfImages (AreUnread count) fault → status_of fault ≢ 3
-unread_less fault f e =
+-- images that were not read have another status, unless one is not as sealed
+unread_less : {words : List (List ℕ)} (fault : Fault) → HasUnreadImage words fault → status_of fault ≡ 3 → AreUnsealed words fault
+unread_less fault unread e =
+    let f = unread.unread in
     elim f.2 [
-      | inl u ↦ one_is_less (three_of fault (Images (faults.Unread u.0)) (f.1 ∙ ap Images u.2) e)
-      | inr m ↦ five_is_more (three_of fault (Images faults.Memory) (f.1 ∙ ap Images m) e)
+      | inl u ↦ elim u.2 [
+        | inl gone ↦ absurd (one_is_less (three_of fault (Images (faults.Unread u.0)) (f.1 ∙ ap Images gone) e))
+        | inr unsealed ↦ record {
+          line = unread.line;
+          line_is = unread.line_is;
+          image = u.0;
+          named = u.1;
+          digested = unsealed.1;
+          told = f.1 ∙ ap Images unsealed.0;
+        }
+      ]
+      | inr m ↦ absurd (five_is_more (three_of fault (Images faults.Memory) (f.1 ∙ ap Images m) e))
     ]
 
 -- with the status 3 the images are to blame
-pub ends_for_images : (A : Type 0) (words : List (List ℕ)) (old new : Devices) → EndsWith A words 3 old new → AreToBlame words
+pub ends_for_images : (A : Type 0) (words : List (List ℕ)) (old new : Devices) (e : EndsWith A words 3 old new)
+    → AreToBlame words ⊎ (AreUnsealed words e.fault × (new ≡ old))
 ends_for_images A words old new e =
     let three : status_of e.fault ≡ 3 = sym e.status_is in
     elim e.stopped [
       | inl early ↦ elim early.which [
         | inl taken ↦ absurd (words_less taken.line (three_of e.fault (line_told_of taken.line) taken.told three))
-        | inr unread ↦ absurd (unread_less e.fault unread.unread three)
+        | inr unread ↦ inr (unread_less e.fault unread three, early.kept)
       ]
-      | inr off ↦ record {
+      | inr off ↦ inl (record {
         line = off.line;
         images = off.images;
         line_is = off.line_is;
         named = off.named;
         bad = work_bad A off.line.verb off.line off.images e.fault old new off.stopped three;
-      }
+      })
     ]
 
 -- ---- a whole run

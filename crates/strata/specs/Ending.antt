@@ -1,5 +1,5 @@
 -- What a command leaves behind: its status, and what its output gained.
-use Rattle.std.specs.Prelude.{◌≡◌, ◌≢◌, ◌⊎◌, ◌||◌, ℕ, List, true, Option, Some, None, is_some, vec_len, Result, Ok, Err, OnOk, if◌then◌else◌}
+use Rattle.std.specs.Prelude.{◌≡◌, ◌≢◌, ◌⊎◌, ◌||◌, ℕ, List, true, Option, Some, None, is_some, Result, Ok, Err, OnOk, if◌then◌else◌}
 use Rattle.std.specs.Io.KnownBytes.{Appends, Consumes, IsAtEnd}
 use Rattle.devices.specs.Counting.{no_pulls, no_pushes, no_accepts}
 use Rattle.devices.specs.States.{SourceState, SinkState, Devices}
@@ -221,7 +221,7 @@ pub record IsDoneInPart (A : Type 0) (words : List (List ℕ)) (fault : Fault)
 pub record HasUnreadImage (words : List (List ℕ)) (fault : Fault) : Type 0 where
   pub line : Line
   pub line_is : IsLineOf words line
-  pub unread : IsOfImages (AreUnread (vec_len line.images)) fault
+  pub unread : IsOfImages (AreUnread line) fault
 
 -- the arguments are no command, or memory ran out while they were read
 pub record AreNotTaken (words : List (List ℕ)) (fault : Fault) : Type 0 where

@@ -1,5 +1,5 @@
 -- What the exit statuses mean to a caller.
-use Rattle.std.specs.Prelude.{◌≡◌, ◌<◌, ◌+◌, ℕ, ◌⊎◌, ⊤, List, ◌∷◌, ◌++◌, length, All, Option, Some, None, Ok, Err}
+use Rattle.std.specs.Prelude.{◌≡◌, ◌<◌, ◌+◌, ℕ, ◌⊎◌, ⊤, List, ◌∷◌, ◌++◌, length, vec_len, All, Option, Some, None, Ok, Err}
 use Rattle.std.specs.List.{AllByRecursion}
 use Rattle.romfs_format.specs.declared.rule.Profile.{Profile}
 use Rattle.romfs_format.specs.Rules.{IsSound}
@@ -14,11 +14,12 @@ use Rattle.stack_prepare.specs.Layers.{IsFew}
 use Rattle.strata_words.specs.declared.options.Line.{Line}
 use Rattle.strata_words.specs.CommandLine.{IsLineOf}
 use Rattle.strata.specs.declared.faults.Fault.{Fault}
-use Rattle.strata.specs.declared.faults.Fault.TheVariants.{Usage, RequestsFile, RepliesFile, BalancesFile, Bind, Accept, InSession, Stopped}
+use Rattle.strata.specs.declared.faults.Fault.TheVariants.{Usage, RequestsFile, RepliesFile, BalancesFile, Bind, Accept, Images, InSession, Stopped}
 use Rattle.strata.specs.Faults.{IsOfImages, stop_status, status_of}
 use Rattle.strata.specs.Sessions.{ServedSession}
 use Rattle.strata_images.specs.declared.faults.ImagesFault.{ImagesFault}
 use Rattle.strata_images.specs.declared.faults.ImagesFault.TheVariants as faults
+use Rattle.strata_images.specs.Faults.{HasDigestFor}
 use Rattle.strata_images.specs.Images.{NamesAsMany, profile_of}
 
 -- there are none or too many, or one of them breaks a rule of the profile
@@ -32,6 +33,15 @@ pub record AreToBlame (words : List (List ℕ)) : Type 0 where
   pub line_is : IsLineOf words line
   pub named : NamesAsMany line images
   pub bad : AreBad (profile_of line) images
+
+-- the arguments name an image with this number and a digest for it, and it is not as sealed
+pub record AreUnsealed (words : List (List ℕ)) (fault : Fault) : Type 0 where
+  pub line : Line
+  pub line_is : IsLineOf words line
+  pub image : ℕ
+  pub named : image < vec_len line.images
+  pub digested : HasDigestFor line image
+  pub told : fault ≡ Images (faults.Unsealed image)
 
 -- a session was served to its end
 abbrev pub IsWhole : {A : Type 0} {first : Session} {by : Sourced} → ServedSession A first by
@@ -98,11 +108,12 @@ IsOfFiles fault =
 abbrev pub IsOfStreams : Stop → Type 0
 IsOfStreams stop = (stop ≡ Read) ⊎ (stop ≡ Write)
 
--- an image is broken, or there are none or too many
+-- an image is not as sealed or broken, or there are none or too many
 abbrev pub AreAtFault : ImagesFault → Type 0
 AreAtFault fault =
     ((image : ℕ) × (broken : ImageFault) × (fault ≡ faults.Broken image broken))
-    ⊎ ((count : ℕ) × (fault ≡ faults.Layers count))
+    ⊎ (((count : ℕ) × (fault ≡ faults.Layers count))
+    ⊎ ((image : ℕ) × (fault ≡ faults.Unsealed image)))
 
 -- the same, as why serving stopped
 abbrev pub IsOfLayers : Stop → Type 0

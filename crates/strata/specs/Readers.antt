@@ -1,5 +1,5 @@
 -- fuse(4): what a command leaves behind that was run over an open /dev/fuse by several readers.
-use Rattle.std.specs.Prelude.{◌≡◌, ◌⊎◌, ℕ, List, Option, replicate, vec_len}
+use Rattle.std.specs.Prelude.{◌≡◌, ◌⊎◌, ℕ, List, Option, replicate}
 use Rattle.strata_words.specs.declared.options.Line.{Line}
 use Rattle.devices.specs.declared.limits.TheConstants.{MAX_TURNS}
 use Rattle.serve_device.specs.declared.ends.End.{End}
@@ -38,7 +38,7 @@ pub record AreShared (A : Type 0) (line : Line) (left : Option (List ℕ))
 -- out
 abbrev pub IsNotShared : Line → Fault → Type 0
 IsNotShared line fault =
-    IsOfImages (AreUnread (vec_len line.images)) fault
+    IsOfImages (AreUnread line) fault
     ⊎ (((images : List (List ℕ)) × NamesAsMany line images
     × IsOfImages (AreNotStacked (profile_of line) images) fault) ⊎ (fault ≡ out_of_memory))
 

@@ -5,5 +5,6 @@ pub mod Small
 pub mod Rules
 pub mod Listed
 pub mod Told
+pub mod ByDigest
 pub mod Noted
 pub mod Allowed

@@ -1,12 +1,11 @@
 -- The images of a line. `loaded_sources` says what the data of those that were loaded are read from, `stacked_sources` that
 -- their stack has the same; `read_held` and `whole_held` that nothing is where they are read in full, and `held_whole` that a
 -- stack without sources is held. `seen_as` lends their files. `loaded_ones` says what is held of images for a line that checks.
-use Rattle.std.proofs.Common.{◌≡◌, ◌≤◌, ◌⊎◌, ◌||◌, ◌∙◌, sym, ap, subst, refl, ℕ, suc, inl, inr, true, false, true≢false, List, [], ◌∷◌, length, map, Bool, Option, Vec, vec_len, arith}
-use Rattle.std.specs.List.{AllByRecursion, list_all}
-use Rattle.std.proofs.lemmas.List.Sums.{list_all-from_AllPass}
+use Rattle.std.proofs.Common.{◌≡◌, ◌≤◌, ◌⊎◌, ◌||◌, ◌∙◌, sym, ap, subst, refl, ℕ, suc, inl, inr, true, false, true≢false, List, [], ◌∷◌, length, map, Bool, Option, Some, None, Vec, vec_len, arith}
+use Rattle.std.specs.List.{list_all}
 use Rattle.std.proofs.lemmas.List.{length-map}
-use Rattle.std.proofs.lemmas.List.Elements.{All-map, All-weaker, recursion_from_All}
-use Rattle.devices.specs.Sources.{Source}
+use Rattle.devices.specs.Sources.{Source, IsSizeOf, MayGive, sealed}
+use Rattle.romfs_seal.specs.declared.digest.Digest.{Digest}
 use Rattle.romfs_files.specs.declared.image_data.ImageData.{ImageData}
 use Rattle.romfs_files.specs.declared.loaded.LoadedImage.{LoadedImage}
 use Rattle.romfs_files.specs.declared.loaded.Loading.{Loading}
@@ -16,12 +15,13 @@ use Rattle.romfs_files.specs.Data.{source_of}
 use Rattle.romfs_held.specs.declared.image.HeldImage.{HeldImage}
 use Rattle.romfs_held.specs.declared.image.HeldImage.TheVariants.{Kept, Whole}
 use Rattle.romfs_held.specs.Images.{held_bytes, is_whole}
-use Rattle.romfs_files.specs.Files.{AreLoaded, IsHeldOf, IsHeldWith, IsLoadedOf, IsOfFile, IsWholeOf}
-use Rattle.romfs_files.specs.Loaded.{AreApart, IsKeptWith, before, files_of}
+use Rattle.romfs_files.specs.Files.{IsHeldWith, IsWholeOf}
+use Rattle.romfs_files.specs.Loaded.{AreApart, IsKeptWith, IsOpenOver, before, files_of}
+use Rattle.romfs_files.specs.Sealing.{AreLoadedBy, IsLoadedBy, IsWholeOver, seal_by}
 use Rattle.strata_words.specs.declared.options.Line.{Line}
 use Rattle.stack_model.specs.Listing.{Stacked}
 use Rattle.reply_model.specs.Readings.{Sourced, in_memory, sourced}
-use Rattle.strata_images.specs.Images.{AreDataOf, AreHeldFor, AreHeldWhole, ArePrepared, AreReadWhole, HaveSources, IsDataOf, IsLoadingOf, sources_of, stay_in_files, trailers_of}
+use Rattle.strata_images.specs.Images.{AreDataOf, AreEachBy, AreHeldFor, AreHeldWhole, ArePrepared, AreReadWhole, HaveSources, IsDataOf, IsHeldBy, IsImageBy, IsLoadingOf, IsSourceBy, sources_of, stay_in_files, trailers_of}
 
 -- the data of an image that is open
 is_data : {F A : Type 0} (trailers : Trailers) (held : HeldImage A) (source : ImageData F A)
@@ -32,63 +32,108 @@ is_data trailers (Kept kept) source h = h
 abbrev held_of : {F A : Type 0} → List (LoadedImage F A) → List (HeldImage A)
 held_of {F} {A} images = map (λ (image : LoadedImage F A). image.held) images
 
-are_data : {F A : Type 0} (known : F → Option (List ℕ)) (trailers : Trailers) (images : List (LoadedImage F A))
-    → AllByRecursion (IsOfFile (λ file. IsLoadedOf (known file) (how.Open trailers))) images
-    → AreDataOf trailers (map held_bytes (held_of images)) (map source_of (files_of images))
-are_data known trailers [] all = tt
-are_data known trailers (image ∷ images) all =
-    let its = all.0.read in
-    subst (λ s. AreDataOf trailers (held_bytes image.held ∷ map held_bytes (held_of images)) (map source_of (before s (files_of images))))
-    (sym its.over.source_is)
-    (is_data trailers image.held its.source its.over.kept.1, are_data known trailers images all.1)
+-- an image that is open has a source by its digest
+record IsOpenBy {F A : Type 0} (trailers : Trailers) (digest : Option Digest) (image : LoadedImage F A) : Type 0 where
+  source : ImageData F A
+  over : IsOpenOver source trailers image
+  by : IsSourceBy digest (source_of source)
+
+open_by : {F A : Type 0} (known : F → Option (List ℕ)) (trailers : Trailers) (digest : Option Digest) (image : LoadedImage F A)
+    → IsLoadedBy known (how.Open trailers) digest image → IsOpenBy trailers digest image
+open_by known trailers None image its = record { source = its.read.source; over = its.read.over; by = tt }
+open_by known trailers (Some digest) image its = record {
+  source = its.source;
+  over = its.over;
+  by = (its.under.size, its.under.is);
+}
+
+-- what their data are read from was gathered from, and is by their digests
+abbrev Have : {F A : Type 0} → Trailers → List (Option Digest) → List (LoadedImage F A) → List (ImageData F A) → Type 0
+Have trailers digests images files =
+    AreDataOf trailers (map held_bytes (held_of images)) (map source_of files)
+    × AreEachBy IsSourceBy digests (map source_of files)
+
+are_data : {F A : Type 0} (known : F → Option (List ℕ)) (trailers : Trailers) (digests : List (Option Digest))
+    (images : List (LoadedImage F A)) → AreLoadedBy known (how.Open trailers) digests images → Have trailers digests images (files_of images)
+are_data known trailers digests [] all = (tt, tt)
+are_data known trailers [] (image ∷ images) all = absurd all
+are_data known trailers (digest ∷ digests) (image ∷ images) all =
+    let its = open_by known trailers digest image all.0 in
+    let rest = are_data known trailers digests images all.1 in
+    subst (λ s. Have trailers (digest ∷ digests) (image ∷ images) (before s (files_of images))) (sym its.over.source_is)
+    ((is_data trailers image.held its.source its.over.kept.1, rest.0), (its.by, rest.1))
 
 -- the sources of images that stay in their files
 are_sources : {F A : Type 0} (line : Line) (known : F → Option (List ℕ)) (images : List (LoadedImage F A)) (whole : Bool)
     (told : List (Option ℕ)) → length told ≡ vec_len line.images → (AreReadWhole line told → ⊥)
-    → AreLoaded known (how.Open (trailers_of line)) images
+    → AreLoadedBy known (how.Open (trailers_of line)) line.digests.items images
     → HaveSources line whole (map held_bytes (held_of images)) (map source_of (files_of images))
 are_sources line known images whole told each left loaded =
-    let are = are_data known (trailers_of line) images
-    (recursion_from_All (IsOfFile (λ file. IsLoadedOf (known file) (how.Open (trailers_of line)))) images loaded) in
+    let are = are_data known (trailers_of line) line.digests.items images loaded in
     record {
       told = told;
       each = each;
       read = λ all. absurd (left all);
-      left = λ _. are;
-      either = inr are;
+      left = λ _. are.0;
+      either = inr are.0;
+      images_by = λ all. absurd (left all);
+      sources_by = λ _. are.1;
     }
 
 is_whole_of : {A : Type 0} (known : Option (List ℕ)) (held : HeldImage A) → IsWholeOf known held → is_whole held ≡ true
 is_whole_of known (Kept kept) h = absurd h
 is_whole_of known (Whole bytes) h = refl
 
--- images that are read in full are held whole
-all_held : {F A : Type 0} (known : F → Option (List ℕ)) (images : List (LoadedImage F A)) → AreLoaded known how.Whole images
-    → list_all is_whole (held_of images) ≡ true
-all_held {F} {A} known images h = list_all-from_AllPass is_whole (held_of images)
-    (All-map (λ (held : HeldImage A). is_whole held ≡ true) (λ (image : LoadedImage F A). image.held) images
-    (All-weaker (IsOfFile (λ file. IsLoadedOf (known file) how.Whole)) (λ (image : LoadedImage F A). is_whole image.held ≡ true)
-    (λ image of. is_whole_of (known of.file) image.held of.read.0) images h))
+-- an image that is read in full is held whole, by its digest, and read from nothing
+abbrev IsAllBy : {F A : Type 0} → Option Digest → LoadedImage F A → Type 0
+IsAllBy digest image = (is_whole image.held ≡ true) × (image.source ≡ None) × IsImageBy digest (held_bytes image.held)
 
--- and their data are read from nothing
-no_files : {F A : Type 0} (known : F → Option (List ℕ)) (images : List (LoadedImage F A))
-    → AllByRecursion (IsOfFile (λ file. IsLoadedOf (known file) how.Whole)) images → files_of images ≡ []
-no_files known [] all = refl
-no_files known (image ∷ images) all = ap (λ s. before s (files_of images)) all.0.read.1 ∙ no_files known images all.1
+whole_over : {A : Type 0} (source : Source) (held : HeldImage A) → IsWholeOver source held
+    → (is_whole held ≡ true) × MayGive source 0 (held_bytes held) × IsSizeOf source (length (held_bytes held))
+whole_over source (Kept kept) h = absurd h
+whole_over source (Whole bytes) h = (refl, h.0, h.1)
+
+all_by : {F A : Type 0} (known : F → Option (List ℕ)) (digest : Option Digest) (image : LoadedImage F A)
+    → IsLoadedBy known how.Whole digest image → IsAllBy digest image
+all_by known None image its = (is_whole_of (known its.file) image.held its.read.0, its.read.1, tt)
+all_by known (Some digest) image its =
+    let whole = whole_over (sealed (seal_by digest its.size)) image.held its.whole in
+    (whole.0, its.let_go, (its.size, whole.1, whole.2))
+
+-- so all are
+record AreAllBy {F A : Type 0} (digests : List (Option Digest)) (images : List (LoadedImage F A)) : Type 0 where
+  held : list_all is_whole (held_of images) ≡ true
+  none : files_of images ≡ []
+  by : AreEachBy IsImageBy digests (map held_bytes (held_of images))
+
+all_held : {F A : Type 0} (known : F → Option (List ℕ)) (digests : List (Option Digest)) (images : List (LoadedImage F A))
+    → AreLoadedBy known how.Whole digests images → AreAllBy digests images
+all_held known digests [] all = record { held = refl; none = refl; by = tt }
+all_held known [] (image ∷ images) all = absurd all
+all_held known (digest ∷ digests) (image ∷ images) all =
+    let its = all_by known digest image all.0 in
+    let rest = all_held known digests images all.1 in
+    record {
+      held = rw (its.0, rest.held) refl;
+      none = ap (λ s. before s (files_of images)) its.1 ∙ rest.none;
+      by = (its.2, rest.by);
+    }
 
 no_sources : {F A : Type 0} (line : Line) (known : F → Option (List ℕ)) (images : List (LoadedImage F A)) (told : List (Option ℕ))
-    → length told ≡ vec_len line.images → AreReadWhole line told → AreLoaded known how.Whole images
+    → length told ≡ vec_len line.images → AreReadWhole line told → AreLoadedBy known how.Whole line.digests.items images
     → HaveSources line (list_all is_whole (held_of images)) (map held_bytes (held_of images)) (map source_of (files_of images))
 no_sources line known images told each all loaded =
-    let none = no_files known images (recursion_from_All (IsOfFile (λ file. IsLoadedOf (known file) how.Whole)) images loaded) in
+    let are = all_held known line.digests.items images loaded in
     let held : AreHeldWhole (list_all is_whole (held_of images)) (map source_of (files_of images)) =
-    (all_held known images loaded, ap (map source_of) none) in
+    (are.held, ap (map source_of) are.none) in
     record {
       told = told;
       each = each;
       read = λ _. held;
       left = λ kept. absurd (kept all);
       either = inl held;
+      images_by = λ _. are.by;
+      sources_by = λ kept. absurd (kept all);
     }
 
 -- as many images are held as were loaded
@@ -100,7 +145,7 @@ as_many_held {F} {A} images held files apart =
 -- what the data of the images of a line are read from, as they are loaded
 pub loaded_sources : {F A : Type 0} (line : Line) (known : F → Option (List ℕ)) (loading : Loading) (images : List (LoadedImage F A))
     (held : List (HeldImage A)) (files : List (ImageData F A)) → IsLoadingOf line (how.Open (trailers_of line)) loading
-    → AreLoaded known loading images → AreApart images held files
+    → AreLoadedBy known loading line.digests.items images → AreApart images held files
     → HaveSources line (list_all is_whole held) (map held_bytes held) (map source_of files)
 loaded_sources line known loading images held files is loaded apart =
     subst (λ h. HaveSources line (list_all is_whole h) (map held_bytes h) (map source_of files)) (sym apart.held_are)
@@ -109,9 +154,10 @@ loaded_sources line known loading images held files is loaded apart =
   where
     by_way : (AreReadWhole line is.told × (loading ≡ how.Whole)) ⊎ ((AreReadWhole line is.told → ⊥) × (loading ≡ how.Open (trailers_of line)))
         → HaveSources line (list_all is_whole (held_of images)) (map held_bytes (held_of images)) (map source_of (files_of images))
-    by_way (inl whole) = no_sources line known images is.told is.each whole.0 (subst (λ l. AreLoaded known l images) whole.1 loaded)
+    by_way (inl whole) =
+        no_sources line known images is.told is.each whole.0 (subst (λ l. AreLoadedBy known l line.digests.items images) whole.1 loaded)
     by_way (inr left) = are_sources line known images (list_all is_whole (held_of images)) is.told is.each left.0
-        (subst (λ l. AreLoaded known l images) left.1 loaded)
+        (subst (λ l. AreLoadedBy known l line.digests.items images) left.1 loaded)
 
 -- what images have their data from where they are held whole, a stack that is whole has too
 pub stacked_sources : (line : Line) (whole stacked : Bool) (images : List (List ℕ)) (sources : List Source)
@@ -124,6 +170,8 @@ stacked_sources line whole stacked images sources same have =
       read = λ all. held (have.read all);
       left = have.left;
       either = by_either have.either held;
+      images_by = have.images_by;
+      sources_by = have.sources_by;
     }
   where
     by_either : AreHeldWhole whole sources ⊎ AreDataOf (trailers_of line) images sources
@@ -187,31 +235,41 @@ held_with : {A : Type 0} (known : Option (List ℕ)) (trailers its : Trailers) (
 held_with known trailers its (Kept kept) h = absurd h
 held_with known trailers its (Whole bytes) h = h
 
-whole_ones : {F A : Type 0} (line : Line) (known : F → Option (List ℕ)) (images : List (LoadedImage F A))
-    → AreLoaded known how.Whole images → AreHeldFor line known images
-whole_ones line known images h =
-    All-weaker (IsOfFile (λ file. IsLoadedOf (known file) how.Whole)) (IsOfFile (λ file. IsHeldOf (known file) (trailers_of line)))
-    (λ image of. record {
-      file = of.file;
-      read = held_with (known of.file) (trailers_of line) image.trailers image.held of.read.0;
-    }) images h
+whole_one : {F A : Type 0} (known : F → Option (List ℕ)) (trailers : Trailers) (digest : Option Digest) (image : LoadedImage F A)
+    → IsLoadedBy known how.Whole digest image → IsHeldBy known trailers digest image
+whole_one known trailers None image its = record {
+  file = its.file;
+  read = held_with (known its.file) trailers image.trailers image.held its.read.0;
+}
+whole_one known trailers (Some digest) image its = inl its
 
-gathered_ones : {F A : Type 0} (line : Line) (known : F → Option (List ℕ)) (images : List (LoadedImage F A))
-    → AreLoaded known (how.Gather (trailers_of line)) images → AreHeldFor line known images
-gathered_ones line known images h =
-    let gather = how.Gather (trailers_of line) in
-    All-weaker (IsOfFile (λ file. IsLoadedOf (known file) gather)) (IsOfFile (λ file. IsHeldOf (known file) (trailers_of line)))
-    (λ image of. record { file = of.file; read = of.read.0 }) images h
+gathered_one : {F A : Type 0} (known : F → Option (List ℕ)) (trailers : Trailers) (digest : Option Digest) (image : LoadedImage F A)
+    → IsLoadedBy known (how.Gather trailers) digest image → IsHeldBy known trailers digest image
+gathered_one known trailers None image its = record { file = its.file; read = its.read.0 }
+gathered_one known trailers (Some digest) image its = inr its
+
+-- each image is held as its own loading makes it
+each_held : {F A : Type 0} (known : F → Option (List ℕ)) (trailers : Trailers) (loading : Loading)
+    → ((digest : Option Digest) (image : LoadedImage F A) → IsLoadedBy known loading digest image → IsHeldBy known trailers digest image)
+    → (digests : List (Option Digest)) (images : List (LoadedImage F A)) → AreLoadedBy known loading digests images
+    → AreEachBy (IsHeldBy known trailers) digests images
+each_held known trailers loading one digests [] all = tt
+each_held known trailers loading one [] (image ∷ images) all = absurd all
+each_held known trailers loading one (digest ∷ digests) (image ∷ images) all =
+    (one digest image all.0, each_held known trailers loading one digests images all.1)
 
 -- images that are loaded for a line that checks are held for it
 pub loaded_ones : {F A : Type 0} (line : Line) (known : F → Option (List ℕ)) (loading : Loading) (images : List (LoadedImage F A))
-    → IsLoadingOf line (how.Gather (trailers_of line)) loading → AreLoaded known loading images → AreHeldFor line known images
-loaded_ones line known loading images is loaded = by_way is.is
+    → IsLoadingOf line (how.Gather (trailers_of line)) loading → AreLoadedBy known loading line.digests.items images
+    → AreHeldFor line known images
+loaded_ones {F} {A} line known loading images is loaded = by_way is.is
   where
     by_way : (AreReadWhole line is.told × (loading ≡ how.Whole)) ⊎ ((AreReadWhole line is.told → ⊥) × (loading ≡ how.Gather (trailers_of line)))
         → AreHeldFor line known images
-    by_way (inl whole) = whole_ones line known images (subst (λ l. AreLoaded known l images) whole.1 loaded)
-    by_way (inr left) = gathered_ones line known images (subst (λ l. AreLoaded known l images) left.1 loaded)
+    by_way (inl whole) = each_held known (trailers_of line) how.Whole (whole_one known (trailers_of line)) line.digests.items images
+        (subst (λ l. AreLoadedBy known l line.digests.items images) whole.1 loaded)
+    by_way (inr left) = each_held known (trailers_of line) (how.Gather (trailers_of line)) (gathered_one known (trailers_of line))
+        line.digests.items images (subst (λ l. AreLoadedBy known l line.digests.items images) left.1 loaded)
 
 -- images that are prepared with their files are so with all of these, lent
 pub seen_as : {F A B : Type 0} (line : Line) (images : List (List ℕ)) (stack : Stacked) (files : Vec (ImageData F A) B)

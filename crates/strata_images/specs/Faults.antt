@@ -1,17 +1,19 @@
 -- Why the images of a line are not used, or what is said of them is not printed.
-use Rattle.std.specs.Prelude.{◌≡◌, ◌<◌, ℕ, ◌⊎◌}
+use Rattle.std.specs.Prelude.{◌≡◌, ◌<◌, ℕ, ◌⊎◌, None, get_or, is_some, true, vec_len}
 use Rattle.romfs_files.specs.declared.images.FilesFault.{FilesFault}
 use Rattle.romfs_files.specs.declared.images.FilesFault.TheVariants as files
 use Rattle.stack_prepare.specs.declared.refusal.Refusal.{Refusal}
 use Rattle.stack_prepare.specs.declared.refusal.Refusal.TheVariants as refusals
 use Rattle.node_list.specs.declared.walk.ListFault.{ListFault}
 use Rattle.node_list.specs.declared.walk.ListFault.TheVariants as list
+use Rattle.strata_words.specs.declared.options.Line.{Line}
 use Rattle.strata_images.specs.declared.faults.ImagesFault.{ImagesFault}
-use Rattle.strata_images.specs.declared.faults.ImagesFault.TheVariants.{Unread, Broken, Layers, Write, Memory}
+use Rattle.strata_images.specs.declared.faults.ImagesFault.TheVariants.{Unread, Unsealed, Broken, Layers, Write, Memory}
 
 -- the exit status of a fault: 1 for files and the output, 3 for images, 5 for memory
 abbrev pub status_of : ImagesFault → ℕ
 status_of (Unread image) = 1
+status_of (Unsealed image) = 3
 status_of (Broken image fault) = 3
 status_of (Layers count) = 3
 status_of Write = 1
@@ -20,6 +22,7 @@ status_of Memory = 5
 -- why the files of images were not read
 abbrev pub files_told_of : FilesFault → ImagesFault
 files_told_of (files.Unread image) = Unread image
+files_told_of (files.Unsealed image) = Unsealed image
 files_told_of files.Memory = Memory
 
 -- why images were not stacked
@@ -33,7 +36,14 @@ abbrev pub list_told_of : ListFault → ImagesFault
 list_told_of list.Write = Write
 list_told_of list.Memory = Memory
 
--- the file of one of this many images was not read, or memory ran out
-abbrev pub AreUnread : ℕ → ImagesFault → Type 0
-AreUnread count fault =
-    ((image : ℕ) × (image < count) × (fault ≡ Unread image)) ⊎ (fault ≡ Memory)
+-- the line has a digest for the image with this number
+abbrev pub HasDigestFor : Line → ℕ → Type 0
+HasDigestFor line image = is_some (get_or line.digests.items image None) ≡ true
+
+-- the file of one of the images of a line was not read; or one for which it has a digest is not as
+-- sealed; or memory ran out
+abbrev pub AreUnread : Line → ImagesFault → Type 0
+AreUnread line fault =
+    ((image : ℕ) × (image < vec_len line.images)
+    × ((fault ≡ Unread image) ⊎ ((fault ≡ Unsealed image) × HasDigestFor line image)))
+    ⊎ (fault ≡ Memory)

@@ -1,10 +1,13 @@
 -- The images of a line, as they are held: all bytes of each, or what the rules check, with zeros
 -- for the rest.
-use Rattle.std.specs.Prelude.{◌≡◌, ◌≤◌, ◌^◌, ◌⊎◌, ◌||◌, ℕ, Bool, true, false, List, [], ◌∷◌, Option, Some, All, ⊤, length, map, sum, vec_len, if◌then◌else◌}
+use Rattle.std.specs.Prelude.{◌≡◌, ◌≤◌, ◌^◌, ◌⊎◌, ◌||◌, ℕ, Bool, true, false, List, [], ◌∷◌, Option, Some, None, ⊤, length, map, sum, vec_len, if◌then◌else◌}
 use Rattle.std.specs.declared.vec.Vec.{Vec}
 use Rattle.romfs_format.specs.declared.rule.Profile.{Profile}
 use Rattle.romfs_format.specs.Profiles.{profile_with}
-use Rattle.devices.specs.Sources.{Source}
+use Rattle.devices.specs.Sources.{Source, IsSizeOf, MayGive, sealed}
+use Rattle.devices.specs.File.{IsFileDigest}
+use Rattle.romfs_seal.specs.Digests.{digest_bytes, made_by, sha}
+use Rattle.romfs_seal.specs.declared.digest.Digest.{Digest}
 use Rattle.romfs_files.specs.declared.image_data.ImageData.{ImageData}
 use Rattle.romfs_files.specs.declared.loaded.LoadedImage.{LoadedImage}
 use Rattle.romfs_files.specs.declared.loaded.Loading.{Loading}
@@ -14,6 +17,7 @@ use Rattle.romfs_files.specs.declared.loaded.Trailers.TheVariants.{Read, Left}
 use Rattle.romfs_files.specs.Data.{source_of}
 use Rattle.romfs_files.specs.Files.{IsHeldOf, IsOfFile}
 use Rattle.romfs_files.specs.Loaded.{WasGathered}
+use Rattle.romfs_files.specs.Sealing.{IsHeldUnder, IsWholeUnder, seal_by}
 use Rattle.romfs_held.specs.declared.image.HeldImage.{HeldImage}
 use Rattle.stack_prepare.specs.declared.refusal.Refusal.{Refusal}
 use Rattle.stack_prepare.specs.Layers.{AreRefused, held_contents, are_whole as all_held_whole}
@@ -48,13 +52,38 @@ trailers_of line = if asks_attributes line || reports_trailers line.verb then Re
 abbrev pub NamesAsMany : Line → List (List ℕ) → Type 0
 NamesAsMany line images = length images ≡ vec_len line.images
 
--- this is held of the images of a line, each of which was read of some file: all its bytes, those
--- that are known of it; or what the rules look at, with the trailer where the line asks for
--- attributes
+-- each of these is as this says by the digest in its place
+abbrev pub AreEachBy : {X : Type 0} → (Option Digest → X → Type 0) → List (Option Digest)
+    → List X → Type 0
+AreEachBy IsBy digests [] = ⊤
+AreEachBy IsBy [] (x ∷ xs) = ⊥
+AreEachBy IsBy (digest ∷ digests) (x ∷ xs) = IsBy digest x × AreEachBy IsBy digests xs
+
+-- this is held of an image: of some file all bytes, those that are known of it; or what the rules
+-- look at, with the trailer or without; or it is held under a digest
+abbrev pub IsHeldBy : {F A : Type 0} → (F → Option (List ℕ)) → Trailers → Option Digest
+    → LoadedImage F A → Type 0
+IsHeldBy known trailers None image = IsOfFile (λ file. IsHeldOf (known file) trailers) image
+IsHeldBy known trailers (Some digest) image =
+    IsWholeUnder digest image ⊎ IsHeldUnder digest trailers image
+
+-- so it is of the images of a line, with their trailers where it asks for attributes
 abbrev pub AreHeldFor : {F A : Type 0} → Line → (F → Option (List ℕ)) → List (LoadedImage F A)
     → Type 0
 AreHeldFor line known images =
-    All (IsOfFile (λ file. IsHeldOf (known file) (trailers_of line))) images
+    AreEachBy (IsHeldBy known (trailers_of line)) line.digests.items images
+
+-- these data are read under the digest, if there is one
+abbrev pub IsSourceBy : Option Digest → Source → Type 0
+IsSourceBy None source = ⊤
+IsSourceBy (Some digest) source = (size : ℕ) × (source ≡ sealed (seal_by digest size))
+
+-- all bytes of this image were read under the digest, if there is one
+abbrev pub IsImageBy : Option Digest → List ℕ → Type 0
+IsImageBy None image = ⊤
+IsImageBy (Some digest) image =
+    (size : ℕ) × MayGive (sealed (seal_by digest size)) 0 image
+    × IsSizeOf (sealed (seal_by digest size)) (length image)
 
 -- the bytes that are held of images
 abbrev pub bytes_of : {A B : Type 0} → Vec (HeldImage A) B → List (List ℕ)
@@ -79,6 +108,12 @@ AreDataOf trailers (image ∷ images) (source ∷ sources) =
     IsDataOf trailers image source × AreDataOf trailers images sources
 AreDataOf trailers [] (source ∷ sources) = ⊥
 AreDataOf trailers (image ∷ images) [] = ⊥
+
+-- these bytes have the digest, if there is one
+abbrev pub HasDigest : Option Digest → List ℕ → Type 0
+HasDigest None bytes = ⊤
+HasDigest (Some digest) bytes =
+    IsFileDigest (made_by digest) (sha (made_by digest)) bytes (digest_bytes digest)
 
 -- whether the images of a line stay in their files, however few bytes they have
 abbrev pub stay_in_files : Line → Bool
@@ -108,7 +143,8 @@ pub record IsLoadingOf (line : Line) (otherwise loading : Loading) : Type 0 wher
       ⊎ ((¬ AreReadWhole line told) × (loading ≡ otherwise))
 
 -- what the data of the images of a line are read from, by what the file of each has told of its
--- size: from nothing, where they are read in full; else each from a source of its own
+-- size: from nothing, where they are read in full; else each from a source of its own. And each
+-- image, or its source, is by the digest in its place
 pub record HaveSources (line : Line) (whole : Bool) (images : List (List ℕ))
     (sources : List Source) : Type 0 where
   pub told : List (Option ℕ)
@@ -116,6 +152,8 @@ pub record HaveSources (line : Line) (whole : Bool) (images : List (List ℕ))
   pub read : AreReadWhole line told → AreHeldWhole whole sources
   pub left : ¬ AreReadWhole line told → AreDataOf (trailers_of line) images sources
   pub either : AreHeldWhole whole sources ⊎ AreDataOf (trailers_of line) images sources
+  pub images_by : AreReadWhole line told → AreEachBy IsImageBy line.digests.items images
+  pub sources_by : ¬ AreReadWhole line told → AreEachBy IsSourceBy line.digests.items sources
 
 -- the images of a line are good, and this is their stack with the sources of their data
 pub record ArePrepared (line : Line) (images : List (List ℕ)) (by : Sourced) : Type 0 where

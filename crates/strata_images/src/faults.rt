@@ -19,6 +19,9 @@ use std::fmt;
 pub enum ImagesFault {
     /// The file of this image, counted from 0, cannot be read to its end.
     Unread { image: u64 },
+    /// The file of this image, counted from 0, or that of its tree is not the one that its digest
+    /// names.
+    Unsealed { image: u64 },
     /// This image, counted from 0, breaks a rule.
     Broken { image: u64, fault: ImageFault },
     /// There are this many images: none, or more than 128.
@@ -36,7 +39,9 @@ impl ImagesFault {
     {
         match self {
             ImagesFault::Unread { .. } | ImagesFault::Write => 1,
-            ImagesFault::Broken { .. } | ImagesFault::Layers { .. } => 3,
+            ImagesFault::Unsealed { .. }
+            | ImagesFault::Broken { .. }
+            | ImagesFault::Layers { .. } => 3,
             ImagesFault::Memory => 5,
         }
     }
@@ -50,6 +55,7 @@ impl fmt::Display for ImagesFault {
     fn fmt<W: fmt::Write>(&self, f: &mut fmt::Formatter<W>) -> fmt::Result {
         match *self {
             ImagesFault::Unread { image } => write!(f, "image {image}: cannot be read"),
+            ImagesFault::Unsealed { image } => write!(f, "image {image}: not as sealed"),
             ImagesFault::Broken { image, fault } => {
                 write!(f, "layer {image} at {:08x}: {}", fault.place, fault.rule)
             }
@@ -68,6 +74,7 @@ impl From<FilesFault> for ImagesFault {
     fn from(fault: FilesFault) -> ImagesFault {
         match fault {
             FilesFault::Unread { image } => ImagesFault::Unread { image },
+            FilesFault::Unsealed { image } => ImagesFault::Unsealed { image },
             FilesFault::Memory => ImagesFault::Memory,
         }
     }

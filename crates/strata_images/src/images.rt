@@ -1,6 +1,7 @@
 //! The images of a line, as they are read: in full, or what the rules check.
 
 ghost use Rattle.std.specs.Prelude.{◌≡◌, ◌↔◌, ℕ, List, Option, length, vec_len, IfOk, IfErr, IsTrue};
+ghost use Rattle.strata_words.specs.CommandLine.{IsInLimits};
 ghost use Rattle.strata_images.specs.Faults.{AreUnread};
 ghost use Rattle.strata_images.specs.Images.{AreHeldFor, AreReadWhole, AreSmall, IsLoadingOf, NamesAsMany, HaveSources, are_whole, bytes_of, sources_of, trailers_of};
 
@@ -29,7 +30,8 @@ pub struct LineImages<F: FileExt, A: Allocator> {
 
 /// The images of a line that serves. They are read in full with `--whole`, or if they are
 /// regular files of at most [`SMALL_STACK`] bytes together and the line neither has `--in-files`
-/// nor serves a device; otherwise they stay in their files.
+/// nor serves a device; otherwise they stay in their files. An image for which the line has a
+/// digest is read under it.
 pub fn open_all<R: Files + Threads + Sync, A: Allocator + Copy + Send + Sync>(
     rt: &R,
     alloc: A,
@@ -38,14 +40,16 @@ pub fn open_all<R: Files + Threads + Sync, A: Allocator + Copy + Send + Sync>(
 where
     R::File: FileExt + Send,
     R::Dir: Send,
+    requires { IsInLimits line.now }
     ensures named { IfOk result (λ images. NamesAsMany line.now (bytes_of images.held)) }
     ensures sources { IfOk result (λ images.
         HaveSources line.now (are_whole images.held) (bytes_of images.held)
         (sources_of images.files)) }
-    ensures err { IfErr result (AreUnread (vec_len line.now.images)) }
+    ensures err { IfErr result (AreUnread line.now) }
 {
     let loading = loading_of(rt, line, Loading::Open(trailers_of(line)));
-    let images = load(rt, alloc, line.images.as_slice(), loading)?;
+    let paths = line.images.as_slice();
+    let images = load(rt, alloc, paths, line.digests.as_slice(), loading)?;
     let (held, files) = apart(alloc, images)?;
     Ok(LineImages { held, files })
 }
@@ -60,13 +64,15 @@ pub fn gather_all<R: Files + Threads + Sync, A: Allocator + Copy + Send + Sync>(
 where
     R::File: FileExt + Send,
     R::Dir: Send,
+    requires { IsInLimits line.now }
     ensures ok { IfOk result (λ images. vec_len images ≡ vec_len line.now.images) }
     ensures held { IfOk result (λ images.
         AreHeldFor line.now R.File.remaining images.items) }
-    ensures err { IfErr result (AreUnread (vec_len line.now.images)) }
+    ensures err { IfErr result (AreUnread line.now) }
 {
     let loading = loading_of(rt, line, Loading::Gather(trailers_of(line)));
-    Ok(load(rt, alloc, line.images.as_slice(), loading)?)
+    let paths = line.images.as_slice();
+    Ok(load(rt, alloc, paths, line.digests.as_slice(), loading)?)
 }
 
 // How the images of a line are loaded: all bytes where they are read in full, else so.

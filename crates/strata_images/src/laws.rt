@@ -5,17 +5,19 @@ ghost use Rattle.romfs_format.specs.Profiles.{asks_sums, reads_attributes};
 ghost use Rattle.romfs_format.specs.Rules.{IsSound};
 ghost use Rattle.romfs_image.specs.declared.refusal.CheckFault.{CheckFault};
 ghost use Rattle.romfs_image.specs.Refusals.{IsRefusal};
-ghost use Rattle.devices.specs.Sources.{Source, Shows};
+ghost use Rattle.devices.specs.Sources.{Source, Shows, sealed};
+ghost use Rattle.romfs_seal.specs.declared.digest.Digest.{Digest};
+ghost use Rattle.romfs_files.specs.Sealing.{seal_by};
 ghost use Rattle.romfs_files.specs.Loaded.{WasGathered};
 ghost use Rattle.romfs_files.specs.Opening.{IsHeldWhole, loaded_bytes};
 ghost use Rattle.romfs_files.specs.declared.loaded.LoadedImage.{LoadedImage};
-ghost use Rattle.reply_model.specs.Readings.{Sourced, in_memory};
+ghost use Rattle.reply_model.specs.Readings.{Sourced, AreShown, in_memory};
 ghost use Rattle.strata_words.specs.declared.options.Line.{Line};
 ghost use Rattle.stack_prepare.specs.declared.refusal.Refusal.{Refusal};
 ghost use Rattle.stack_prepare.specs.declared.refusal.Refusal.TheVariants as refused;
 ghost use Rattle.stack_prepare.specs.Layers.{AreRefused};
 ghost use Rattle.strata_images.specs.Checking.{AreAccepted};
-ghost use Rattle.strata_images.specs.Images.{ArePrepared, AreReadWhole, asks_attributes, profile_of, trailers_of};
+ghost use Rattle.strata_images.specs.Images.{AreEachBy, ArePrepared, AreReadWhole, HasDigest, IsImageBy, asks_attributes, profile_of, trailers_of};
 
 use std::alloc::Allocator;
 use std::os::unix::fs::FileExt;
@@ -65,6 +67,17 @@ pub fn whole_images_are_judged_as_their_files<F: FileExt, A: Allocator>()
         (IsSound (profile_of line) (loaded_bytes image) ↔ IsSound (profile_of line) bytes)
         × ((fault : CheckFault) → IsRefusal (profile_of line) (loaded_bytes image) fault
         ↔ IsRefusal (profile_of line) bytes fault) }
+{}
+
+/// Under the digests of a line no other images are served: those that its sources show have these
+/// digests, each its own; and an image that is read in full is the one that has the digest, unless a
+/// read gave, in the place of a block, another with its digest.
+pub fn images_have_their_digests()
+    ensures shown { (line : Line) (kept images : List (List ℕ)) (by : Sourced)
+        (p : ArePrepared line kept by) → (AreReadWhole line p.sources.told → ⊥) →
+        AreShown by.sources images → AreEachBy HasDigest line.digests.items images }
+    ensures read { (digest : Digest) (image bytes : List ℕ) (by : IsImageBy (Some digest) image) →
+        Shows (sealed (seal_by digest by.0)) bytes → image ≡ bytes }
 {}
 
 /// A line has an option for sums and two for attributes, and its stack has its owner.

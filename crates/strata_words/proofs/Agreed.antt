@@ -13,7 +13,7 @@ use Rattle.strata_words.specs.declared.options.NoLine.{NoLine}
 use Rattle.strata_words.specs.declared.options.NoLine.TheVariants.{Version, Fault}
 use Rattle.strata_words.specs.declared.options.Verb.{Verb}
 use Rattle.strata_words.specs.declared.options.Verb.TheVariants as verbs
-use Rattle.strata_words.specs.CommandLine.{AreCrossed, IsLineFault, IsLineOf, IsNoLine, IsRefusedFor, IsTaken, HaveNumbersInRange, Says, command_in, faults_in, parts_of, verb_word}
+use Rattle.strata_words.specs.CommandLine.{AreCrossed, IsLineFault, IsLineOf, IsNoLine, IsRefusedFor, IsTaken, HaveDigests, HaveNumbersInRange, Says, command_in, faults_in, parts_of, verb_word}
 use Rattle.strata_words.specs.LineLaws.{LinesAgree, LinesAreFaultless, VersionIsFaultless}
 
 -- the verb whose word has this second letter
@@ -65,8 +65,10 @@ faultless words line (Fault (Usage text)) is told = elim told [
   | inl refused ↦ absurd (not_refused words refused.why is.taken refused.refused)
   | inr (inl bad) ↦ absurd (bad.wrong (subst HaveNumbersInRange (same_rows (command_in words) _ _ is.rows bad.rows is.command bad.command)
       is.holds.numbered))
-  | inr (inr bad) ↦ absurd (is.holds.apart (subst AreCrossed (same_rows (command_in words) _ _ bad.rows is.rows bad.command is.command)
+  | inr (inr (inl bad)) ↦ absurd (is.holds.apart (subst AreCrossed (same_rows (command_in words) _ _ bad.rows is.rows bad.command is.command)
       bad.crossed))
+  | inr (inr (inr bad)) ↦ absurd (bad.wrong (subst HaveDigests (same_rows (command_in words) _ _ is.rows bad.rows is.command bad.command)
+      is.holds.digested))
 ]
 
 -- words that have a line meet no fault but lack of memory
@@ -90,7 +92,8 @@ version_faultless words (Usage text) is told = elim told [
       let P : Kinds → Type 0 = λ faults. IsAmong refused.why faults in
       absurd (refused.other (one_reason refused.why DisplayVersion (subst P is refused.refused)))
   | inr (inl bad) ↦ absurd (not_taken words is bad.taken)
-  | inr (inr bad) ↦ absurd (not_taken words is bad.taken)
+  | inr (inr (inl bad)) ↦ absurd (not_taken words is bad.taken)
+  | inr (inr (inr bad)) ↦ absurd (not_taken words is bad.taken)
 ]
 
 -- arguments that ask only for the version meet no fault but lack of memory

@@ -5,3 +5,4 @@ pub mod Taken
 pub mod Parsed
 pub mod Agreed
 pub mod WorkedLines
+pub mod Named

@@ -8,7 +8,7 @@ use Rattle.std.specs.List.{All, find}
 use Rattle.std.specs.Str.{bytes_eq}
 use Rattle.std.proofs.lemmas.List.{length-map}
 use Rattle.std.proofs.lemmas.List.Elements.{All-head, All-tail}
-use Rattle.std.proofs.Common.{◌≡◌, ◌≤◌, ◌∙◌, ◌⊎◌, ◌∷◌, ℕ, Bool, arith, cond, codes, is_some, length, option_map, unwrap_or, Option, Some, None, Result, Ok, Err, IfOk, IfSome, MatchOption, true, false, true≢false, refl, sym, ap, ap₂, subst, List, [], inl, inr}
+use Rattle.std.proofs.Common.{◌≡◌, ◌≤◌, ◌∙◌, ◌⊎◌, ◌∷◌, ℕ, Bool, arith, cond, codes, is_some, length, option_map, unwrap_or, Option, Some, None, Result, Ok, Err, IfOk, IfErr, OnOk, IfSome, MatchOption, replicate, true, false, true≢false, refl, sym, ap, ap₂, subst, List, [], inl, inr}
 use Rattle.clap.specs.Kinds.{HasKind, IsAmong, Kinds}
 use Rattle.clap.specs.Faults.{fault_of, is_simple_and_free}
 use Rattle.clap.specs.Simple.{App, HasMatchesOf, is_simple, subcommand_of, subcommand_rows, subcommand_rows_of}
@@ -35,7 +35,9 @@ use Rattle.strata_words.specs.declared.options.Verb.{Verb}
 use Rattle.strata_words.specs.declared.options.Verb.TheVariants as verbs
 use Rattle.strata_words.proofs.Agreed.{one_name, one_word, same_rows}
 use Rattle.strata_words.proofs.Taken.{taken_names}
-use Rattle.strata_words.specs.CommandLine.{AreCrossed, GivesSocket, HoldsRows, IsFilled, IsFlagFilled, LineParts, Says, names_both, names_both_of, parts_of, IsLineOf, IsLineFault, IsNoLine, IsRefusedFor, TellsKind, IsNumberNamed, IsNumberTo, HaveNumbersInRange, Number, numbers, IsTaken, command_in, faults_in, program, verb_word}
+use Rattle.strata_words.specs.CommandLine.{AreCrossed, GivesSocket, HoldsRows, IsFilled, IsFlagFilled, LineParts, Says, names_both, names_both_of, parts_of, IsLineOf, IsLineFault, IsNoLine, IsRefusedFor, TellsKind, IsNumberNamed, IsNumberTo, HaveDigests, HaveNumbersInRange, images_in, Number, numbers, IsTaken, command_in, faults_in, program, verb_word}
+use Rattle.romfs_seal.specs.declared.digest.Digest.{Digest}
+use Rattle.strata_words.specs.Digests.{AreDigests, AreNamed, digests_for, digests_named}
 use Rattle.strata_words.specs.Owners.{IsOwner}
 
 program_is_simple : is_simple program ≡ true
@@ -199,6 +201,43 @@ number_fault rows name most default named bad numbered =
     bad (found_passes (λ number. IfSome (first_of number.name rows) (IsNumberTo number.most)) (λ number. bytes_eq number.name name) numbers
     (record { name = name; most = most; default = default }) numbered.each named)
 
+-- the digests that the matches hold are those of the rows
+pub digests_are : (f : Found) (o : Option (Bor (List (Bor Text))))
+    → option_map (λ s. texts s.now) o ≡ option_map raw_values (matched_of f (codes "digest"))
+    → option_map (λ s. texts s.now) o ≡ all_of (codes "digest") (rows_of f)
+digests_are f o are = are ∙ raw_values-rows f (codes "digest")
+
+-- where none are given
+pub none_given : (count : ℕ) (given : Option (List Text)) → given ≡ None
+    → (replicate count None ≡ digests_for count given) × AreDigests count given
+none_given count given is =
+    (ap (λ o. digests_for count o) (sym is), subst (AreDigests count) (sym is) (record { named = tt; each = tt }))
+
+-- where more or fewer are given than images
+pub miscounted : (count : ℕ) (given : Option (List Text)) (texts : List Text) → given ≡ Some texts → (length texts ≡ count → ⊥)
+    → ¬ AreDigests count given
+miscounted count given texts is other are = other ((subst (AreDigests count) is are).each)
+
+-- where as many are given as images, they are read
+pub all_read : {X : Type 0} (items : X → List (Option Digest)) (count : ℕ) (given : Option (List Text)) (texts : List Text)
+    (r : Result X LineFault) → given ≡ Some texts → length texts ≡ count
+    → IfOk r (λ x. items x ≡ digests_named texts) → OnOk r (AreNamed texts)
+    → IfErr r (λ fault. (fault ≡ Memory) ⊎ ¬ AreNamed texts)
+    → (IfOk r (λ x. items x ≡ digests_for count given)) × (OnOk r (AreDigests count given))
+    × IfErr r (λ fault. (fault ≡ Memory) ⊎ ¬ AreDigests count given)
+all_read items count given texts (Ok x) is many ok named err =
+    (ok ∙ ap (λ o. digests_for count o) (sym is), subst (AreDigests count) (sym is) (record { named = named; each = many }), tt)
+all_read items count given texts (Err fault) is many ok named err =
+    (tt, tt, elim err [ inl memory ↦ inl memory | inr wrong ↦ inr (λ are. wrong ((subst (AreDigests count) is are).named)) ])
+
+-- digests that are none, or not one for each image, are a fault of the rows
+pub digest_fault : (rows : List Row) (count : ℕ) (fault : LineFault) → count ≡ length (images_in rows)
+    → (fault ≡ Memory) ⊎ ¬ AreDigests count (all_of (codes "digest") rows)
+    → (fault ≡ Memory) ⊎ ((¬ HaveNumbersInRange rows) ⊎ (AreCrossed rows ⊎ ¬ HaveDigests rows))
+digest_fault rows count fault many (inl memory) = inl memory
+digest_fault rows count fault many (inr wrong) =
+    inr (inr (inr (λ have. wrong (subst (λ n. AreDigests n (all_of (codes "digest") rows)) (sym many) have))))
+
 -- an owner that is none is a fault of the rows
 pub owner_fault : (rows : List Row) → ¬ IfSome (first_of (codes "owner") rows) IsOwner → ¬ HaveNumbersInRange rows
 owner_fault rows bad numbered = bad numbered.owner
@@ -225,10 +264,11 @@ names_as rows line says =
     ) refl
 
 -- a line that says what the rows give, and names no file beside the device, holds them
-pub held : (rows : List Row) (line : Line) → HaveNumbersInRange rows → Says line (parts_of line.verb rows) → names_both line ≡ false
+pub held : (rows : List Row) (line : Line) → HaveNumbersInRange rows → HaveDigests rows → Says line (parts_of line.verb rows) → names_both line ≡ false
     → HoldsRows rows line
-held rows line numbered says apart = record {
+held rows line numbered digested says apart = record {
   numbered = numbered;
+  digested = digested;
   apart = λ crossed. true≢false (sym crossed ∙ sym (names_as rows line says) ∙ apart);
   says = says;
 }
@@ -252,10 +292,11 @@ line_is words name rows verb (Err fault) taken command named verb_is holds = tt
 -- and a fault of its numbers is a fault of the words
 pub fault_is : (words : List Text) (name : Text) (rows : List Row) (fault : LineFault) → IsTaken words
     → command_in words ≡ Some (name, rows)
-    → (fault ≡ Memory) ⊎ ((¬ HaveNumbersInRange rows) ⊎ AreCrossed rows) → IsLineFault words fault
+    → (fault ≡ Memory) ⊎ ((¬ HaveNumbersInRange rows) ⊎ (AreCrossed rows ⊎ ¬ HaveDigests rows)) → IsLineFault words fault
 fault_is words name rows Memory taken command told = tt
 fault_is words name rows (Usage text) taken command told = elim told [
   | inl same ↦ cc
   | inr (inl wrong) ↦ inr (inl (record { taken = taken; name = name; rows = rows; command = command; wrong = wrong }))
-  | inr (inr crossed) ↦ inr (inr (record { taken = taken; name = name; rows = rows; command = command; crossed = crossed }))
+  | inr (inr (inl crossed)) ↦ inr (inr (inl (record { taken = taken; name = name; rows = rows; command = command; crossed = crossed })))
+  | inr (inr (inr wrong)) ↦ inr (inr (inr (record { taken = taken; name = name; rows = rows; command = command; wrong = wrong })))
 ]

@@ -1,20 +1,22 @@
 -- The worked command lines, by computation. The result of words is one value (`told`), so each example computes once: what is wrong with
 -- them, the command that they name, and its rows. The numbers of a line are tested by a function that computes (`is_numbered`).
-use Rattle.std.proofs.Common.{◌≡◌, ◌∙◌, ◌&&◌, ◌^◌, ℕ, Bool, codes, refl, ap, sym, subst, true, false, true≢false, nat_lt, nat_le, length, unwrap_or, option_map, List, [], ◌∷◌, Option, Some, None, IfSome}
+use Rattle.std.proofs.Common.{◌≡◌, ◌∙◌, ◌&&◌, ◌==◌, ◌^◌, eqb-true, is_some, ℕ, Bool, codes, refl, ap, sym, subst, true, false, true≢false, nat_lt, nat_le, length, unwrap_or, option_map, List, [], ◌∷◌, Option, Some, None, IfSome}
 use Rattle.std.specs.Char.{digit_value}
 use Rattle.std.specs.List.{All, list_all}
 use Rattle.std.specs.Str.Parse.{AllDigits, digits_value}
-use Rattle.std.proofs.lemmas.Bool.{le-leb, leb-true, lt-ltb, ltb-true}
+use Rattle.std.proofs.lemmas.Bool.{eq-eqb, le-leb, leb-true, lt-ltb, ltb-true}
 use Rattle.std.proofs.lemmas.List.Elements.{All-cons, All-head, All-nil, All-tail}
 use Rattle.clap.specs.Kinds.{Kinds}
-use Rattle.clap.specs.Walk.{Row, Text, first_of}
+use Rattle.clap.specs.Walk.{Row, Text, all_of, first_of}
+use Rattle.hex.proofs.OnLiterals.{hex_on_literals}
 use Rattle.clap.proofs.OnLiterals.{clap_on_literals}
 use Rattle.clap.proofs.WalkLemmas.{both}
 use Rattle.strata_words.specs.declared.options.Verb.{Verb}
 use Rattle.strata_words.specs.declared.options.Verb.TheVariants as verbs
-use Rattle.strata_words.specs.CommandLine.{AreCrossed, IsCrossed, names_both_of, IsMisnumbered, IsNumberTo, HaveNumbersInRange, Number, numbers, IsTaken, LineParts, Says, command_in, faults_in, parts_of, verb_word}
+use Rattle.strata_words.specs.CommandLine.{AreCrossed, IsCrossed, names_both_of, IsMisnumbered, IsMissealed, IsNumberTo, HaveDigests, HaveNumbersInRange, images_in, Number, numbers, IsTaken, LineParts, Says, command_in, faults_in, parts_of, verb_word}
 use Rattle.strata_words.specs.Owners.{IsId, IsOwner, group_in, user_in}
-use Rattle.strata_words.specs.LineExamples.{MisnumberedLines, ReadsAs, RefusedLines, TakenLines, words_of}
+use Rattle.strata_words.specs.Digests.{AreDigests, AreNamed, named_in}
+use Rattle.strata_words.specs.LineExamples.{MisnumberedLines, MissealedLines, ReadsAs, RefusedLines, TakenLines, words_of}
 use Rattle.strata_words.proofs.Agreed.{one_name, one_word, same_rows}
 
 -- ---- a test of numbers
@@ -131,6 +133,47 @@ are_in_range rows e =
     let tests = both (owns (first_of (codes "owner") rows)) (list_all (is_in_range rows) numbers) e in
     record { each = numbers_passed rows numbers tests.1; owner = owner_passed (first_of (codes "owner") rows) tests.0 }
 
+-- ---- the digests of a command
+
+abbrev are_named : List Text → Bool
+are_named = list_all (λ text. is_some (named_in text))
+
+names_pass : (texts : List Text) → AreNamed texts → are_named texts ≡ true
+names_pass [] all = refl
+names_pass (t ∷ ts) all =
+    let P : Text → Type 0 = λ text. is_some (named_in text) ≡ true in
+    rw (All-head P t ts all, names_pass ts (All-tail P t ts all)) refl
+
+names_passed : (texts : List Text) → are_named texts ≡ true → AreNamed texts
+names_passed [] e = All-nil (λ text. is_some (named_in text) ≡ true)
+names_passed (t ∷ ts) e =
+    let tests = both (is_some (named_in t)) (are_named ts) e in
+    All-cons (λ text. is_some (named_in text) ≡ true) t ts tests.0 (names_passed ts tests.1)
+
+abbrev are_digests : ℕ → Option (List Text) → Bool
+are_digests count None = true
+are_digests count (Some texts) = (length texts == count) && are_named texts
+
+digests_pass : (count : ℕ) (given : Option (List Text)) → AreDigests count given → are_digests count given ≡ true
+digests_pass count None are = refl
+digests_pass count (Some texts) are =
+    rw (eq-eqb (length texts) count are.each, names_pass texts are.named) refl
+
+digests_passed : (count : ℕ) (given : Option (List Text)) → are_digests count given ≡ true → AreDigests count given
+digests_passed count None e = record { named = tt; each = tt }
+digests_passed count (Some texts) e =
+    let tests = both (length texts == count) (are_named texts) e in
+    record { named = names_passed texts tests.1; each = eqb-true (length texts) count tests.0 }
+
+abbrev is_digested : List Row → Bool
+is_digested rows = are_digests (length (images_in rows)) (all_of (codes "digest") rows)
+
+digested : (rows : List Row) → HaveDigests rows → is_digested rows ≡ true
+digested rows have = digests_pass (length (images_in rows)) (all_of (codes "digest") rows) have
+
+are_digested : (rows : List Row) → is_digested rows ≡ true → HaveDigests rows
+are_digested rows e = digests_passed (length (images_in rows)) (all_of (codes "digest") rows) e
+
 -- ---- the result of words
 
 -- what is wrong with the words, and the command that they name, with its rows
@@ -161,22 +204,23 @@ shows {X} see words name x e = go (command_in words) refl (ap (λ t. t.1) e)
           seen = ap (λ b. b.1) both;
         }
 
--- whether the rows have numbers in their ranges, whether they name a file beside the device, and
--- what a line of them says
-abbrev line_seen : Verb → List Row → Bool × Bool × LineParts
-line_seen verb rows = (is_numbered rows, names_both_of rows, parts_of verb rows)
+-- whether the rows have numbers in their ranges, whether they name a file beside the device, whether
+-- they have digests for all images or none, and what a line of them says
+abbrev line_seen : Verb → List Row → Bool × Bool × Bool × LineParts
+line_seen verb rows = (is_numbered rows, names_both_of rows, is_digested rows, parts_of verb rows)
 
 reads : {text : Text} {parts : LineParts} → told (line_seen parts.verb) (words_of text)
-    ≡ ([], Some (verb_word parts.verb, (true, false, parts)))
+    ≡ ([], Some (verb_word parts.verb, (true, false, true, parts)))
     → ReadsAs text parts
 reads {text} {parts} e =
     let words = words_of text in
     let verb = parts.verb in
-    let shown = shows (line_seen verb) words (verb_word verb) (true, false, parts) e in
+    let shown = shows (line_seen verb) words (verb_word verb) (true, false, true, parts) e in
     let rows = shown.rows in
     let numbers_are : is_numbered rows ≡ true = ap (λ s. s.0) shown.seen in
     let apart : names_both_of rows ≡ false = ap (λ s. s.1) shown.seen in
-    let are : parts_of verb rows ≡ parts = ap (λ s. s.2) shown.seen in
+    let digests_are : is_digested rows ≡ true = ap (λ s. s.2) shown.seen in
+    let are : parts_of verb rows ≡ parts = ap (λ s. s.3) shown.seen in
     record {
       taken = shown.taken;
       numbered = λ bad.
@@ -184,6 +228,9 @@ reads {text} {parts} e =
           bad.wrong (subst HaveNumbersInRange (same_rows (command_in words) _ _ rows bad.rows shown.command bad.command) numbered);
       apart = λ bad. true≢false (sym (subst AreCrossed (same_rows (command_in words) _ _ bad.rows rows bad.command shown.command)
           bad.crossed) ∙ apart);
+      sealed = λ bad.
+          let have : HaveDigests rows = are_digested rows digests_are in
+          bad.wrong (subst HaveDigests (same_rows (command_in words) _ _ rows bad.rows shown.command bad.command) have);
       says = λ line is.
           let verb_is = one_word line.verb verb (one_name (command_in words) _ _ is.rows rows is.command shown.command) in
           let rows_are = same_rows (command_in words) _ _ is.rows rows is.command shown.command in
@@ -207,9 +254,20 @@ misnumbers {words} verb e =
       wrong = λ numbered. true≢false (sym (in_range shown.rows numbered) ∙ shown.seen);
     }
 
+misseals : {words : List Text} (verb : Verb) → told is_digested words ≡ ([], Some (verb_word verb, false)) → IsMissealed words
+misseals {words} verb e =
+    let shown = shows is_digested words (verb_word verb) false e in
+    record {
+      taken = shown.taken;
+      name = verb_word verb;
+      rows = shown.rows;
+      command = shown.command;
+      wrong = λ have. true≢false (sym (digested shown.rows have) ∙ shown.seen);
+    }
+
 -- the lines that are commands say what the examples state
 pub taken_lines : TakenLines
-unfolding clap_on_literals faults_in command_in told
+unfolding clap_on_literals hex_on_literals faults_in command_in told
 taken_lines = record {
   check_one = reads refl;
   check_two = reads refl;
@@ -235,6 +293,10 @@ taken_lines = record {
   options_last = reads refl;
   option_between = reads refl;
   after_dashes = reads refl;
+  short_digest = reads refl;
+  long_digest = reads refl;
+  digests_in_order = reads refl;
+  no_digests = reads refl;
   image_like_a_verb = reads refl;
   socket_one = reads refl;
   socket_options = reads refl;
@@ -312,4 +374,21 @@ misnumbered_lines = record {
   plus_owner = misnumbers verbs.Serve refl;
   large_user = misnumbers verbs.Serve refl;
   large_group = misnumbers verbs.Socket refl;
+}
+
+-- the lines with a digest that is none, or with more or fewer than images, are refused for it
+pub missealed_lines : MissealedLines
+unfolding clap_on_literals hex_on_literals faults_in command_in told
+missealed_lines = record {
+  one_for_two = misseals verbs.Check refl;
+  two_for_one = misseals verbs.List refl;
+  no_algorithm = misseals verbs.Check refl;
+  another_algorithm = misseals verbs.Check refl;
+  digit_too_few = misseals verbs.Check refl;
+  byte_too_few = misseals verbs.Check refl;
+  byte_too_many = misseals verbs.Check refl;
+  short_for_long = misseals verbs.Serve refl;
+  no_hex_digit = misseals verbs.Serve refl;
+  upper_name = misseals verbs.Serve refl;
+  no_text = misseals verbs.Serve refl;
 }

@@ -1,7 +1,7 @@
 -- The command line: the program for `clap`, and the meaning of the arguments after its name.
 use Rattle.std.specs.Prelude.{◌≡◌, ◌≢◌, ◌⊎◌, ℕ, Bool, true, false, List, [], ◌∷◌, ◌++◌, codes, is_some, ◌&&◌, ◌||◌}
 use Rattle.std.specs.Prelude.{Option, Some, IfSome, MatchOption, option_map, unwrap_or}
-use Rattle.std.specs.Prelude.{Result, IfOk, ◌≤◌, vec_len}
+use Rattle.std.specs.Prelude.{Result, IfOk, ◌≤◌, length, vec_len}
 use Rattle.std.specs.Int.{IsInRange}
 use Rattle.std.specs.List.{All, find, list_any}
 use Rattle.std.specs.Option.{option_map_or}
@@ -31,7 +31,9 @@ use Rattle.strata_words.specs.declared.options.NoLine.{NoLine}
 use Rattle.strata_words.specs.declared.options.NoLine.TheVariants.{Version, Fault}
 use Rattle.strata_words.specs.declared.options.Verb.{Verb}
 use Rattle.strata_words.specs.declared.options.Verb.TheVariants as verbs
+use Rattle.strata_words.specs.Digests.{AreDigests, digests_for}
 use Rattle.strata_words.specs.Owners.{IsOwner, owner_or_root}
+use Rattle.romfs_seal.specs.declared.digest.Digest.{Digest}
 use Rattle.stack_model.specs.declared.owner.Owner.{Owner}
 
 -- ---- the program
@@ -43,6 +45,10 @@ value_option name = record (new_rule name) { long = Some name; value_names = 1 }
 -- one that is not left out, as `--listen PATH`
 abbrev pub wanted_option : Text → Rule
 wanted_option name = record (value_option name) { required = true }
+
+-- one that may be given again, as `--digest DIGEST`
+abbrev pub repeated_option : Text → Rule
+repeated_option name = record (value_option name) { action = Some Append }
 
 -- an option without a value, as `--strict`
 abbrev pub flag : Text → Rule
@@ -63,6 +69,7 @@ rule_for argument = elim argument.form [
   | forms.Flag ↦ flag argument.name.now
   | forms.Value value ↦ value_option argument.name.now
   | forms.WantedValue value ↦ wanted_option argument.name.now
+  | forms.Values value ↦ repeated_option argument.name.now
   | forms.Words value ↦ words argument.name.now
 ]
 
@@ -77,7 +84,7 @@ plan_options = value_option (codes "workers") ∷ value_option (codes "batch") �
 -- the images, and how they are taken
 abbrev pub images : List Rule
 images = flag (codes "strict") ∷ flag (codes "attributes") ∷ flag (codes "whole")
-    ∷ words (codes "image") ∷ []
+    ∷ repeated_option (codes "digest") ∷ words (codes "image") ∷ []
 
 -- the served images, what the client learns about them, the owner of their files, and whether they
 -- stay in theirs
@@ -186,6 +193,16 @@ pub record HaveNumbersInRange (rows : List Row) : Type 0 where
   pub each : All (λ number. IfSome (first_of number.name rows) (IsNumberTo number.most)) numbers
   pub owner : IfSome (first_of (codes "owner") rows) IsOwner
 
+-- ---- images and their digests
+
+-- the images that the rows of a command give
+abbrev pub images_in : List Row → List Text
+images_in rows = unwrap_or (all_of (codes "image") rows) []
+
+-- the digests that the rows give are one for each image, or none at all
+abbrev pub HaveDigests : List Row → Type 0
+HaveDigests rows = AreDigests (length (images_in rows)) (all_of (codes "digest") rows)
+
 -- ---- lines
 
 -- the word for a verb
@@ -219,6 +236,7 @@ pub record LineParts : Type 0 where
   pub sessions : ℕ
   pub owner : Owner
   pub images : List Text
+  pub digests : List (Option Digest)
 
 -- the number of this name that the rows of a command give, or else its default
 abbrev pub number_in : Text → List Row → ℕ
@@ -246,7 +264,8 @@ parts_of verb rows = record {
   listen = first_of (codes "listen") rows;
   sessions = number_in (codes "sessions") rows;
   owner = owner_or_root (first_of (codes "owner") rows);
-  images = unwrap_or (all_of (codes "image") rows) [];
+  images = images_in rows;
+  digests = digests_for (length (images_in rows)) (all_of (codes "digest") rows);
 }
 
 -- what a line says
@@ -270,6 +289,7 @@ parts_in line = record {
   sessions = line.sessions;
   owner = line.owner;
   images = texts line.images.items;
+  digests = line.digests.items;
 }
 
 -- the line says this
@@ -291,10 +311,11 @@ names_both_of rows = is_given (codes "device") rows
 abbrev pub AreCrossed : List Row → Type 0
 AreCrossed rows = names_both_of rows ≡ true
 
--- the line has what the rows of a command give, whose numbers are in range, and which name no file
--- beside the device
+-- the line has what the rows of a command give, whose numbers are in range, which have a digest for
+-- each image or none at all, and which name no file beside the device
 pub record HoldsRows (rows : List Row) (line : Line) : Type 0 where
   pub numbered : HaveNumbersInRange rows
+  pub digested : HaveDigests rows
   pub apart : ¬ AreCrossed rows
   pub says : Says line (parts_of line.verb rows)
 
@@ -305,12 +326,13 @@ pub record IsLineOf (words : List Text) (line : Line) : Type 0 where
   pub command : command_in words ≡ Some (verb_word line.verb, rows)
   pub holds : HoldsRows rows line
 
--- the numbers of a line are in their ranges
+-- the numbers of a line are in their ranges, and each of its images has a digest, or none
 pub record IsInLimits (line : Line) : Type 0 where
   pub workers : IsInRange 1 MAX_WORKERS line.workers
   pub batch : IsInRange 1 MAX_BATCH line.batch
   pub readers : IsInRange 1 MAX_READERS line.readers
   pub sessions : IsInRange 1 MAX_SESSIONS line.sessions
+  pub digests : vec_len line.digests ≡ vec_len line.images
 
 -- a line of the command `socket` has the path of the socket
 abbrev pub NamesSocket : Line → Type 0
@@ -344,10 +366,20 @@ pub record IsCrossed (words : List Text) : Type 0 where
   pub command : command_in words ≡ Some (name, rows)
   pub crossed : AreCrossed rows
 
--- the arguments are no command of the program, or misnumbered, or name a file beside the device, or
--- memory ran out
+-- the arguments are a command of the program, except for a malformed digest, or for more or fewer
+-- digests than images
+pub record IsMissealed (words : List Text) : Type 0 where
+  pub taken : IsTaken words
+  pub name : Text
+  pub rows : List Row
+  pub command : command_in words ≡ Some (name, rows)
+  pub wrong : ¬ HaveDigests rows
+
+-- the arguments are no command of the program, or misnumbered or missealed, or name a file beside
+-- the device, or memory ran out
 abbrev pub IsLineFault : List Text → LineFault → Type 0
-IsLineFault words (Usage text) = IsRefused words ⊎ (IsMisnumbered words ⊎ IsCrossed words)
+IsLineFault words (Usage text) =
+    IsRefused words ⊎ (IsMisnumbered words ⊎ (IsCrossed words ⊎ IsMissealed words))
 IsLineFault words Memory = Unit {0}
 
 -- the arguments ask for the version, or have a fault

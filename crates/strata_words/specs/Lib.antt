@@ -1,3 +1,4 @@
+pub mod Digests
 pub mod Owners
 pub mod CommandLine
 pub mod LineExamples

@@ -1,13 +1,14 @@
 -- Worked examples: command lines, and what they say or why they are refused.
 use Rattle.std.specs.Prelude.{◌≡◌, ◌==◌, if◌then◌else◌, true, false, codes}
-use Rattle.std.specs.Prelude.{List, [], ◌∷◌, ◌++◌, Some, None}
+use Rattle.std.specs.Prelude.{List, [], ◌∷◌, ◌++◌, Some, None, map, replicate}
 use Rattle.clap.specs.Walk.{Text}
 use Rattle.clap.specs.declared.error.kind.ErrorKind.{ErrorKind}
 use Rattle.clap.specs.declared.error.kind.ErrorKind.TheVariants as kind
 use Rattle.strata_words.specs.declared.options.Line.{Line}
 use Rattle.strata_words.specs.declared.options.Verb.{Verb}
 use Rattle.strata_words.specs.declared.options.Verb.TheVariants as verbs
-use Rattle.strata_words.specs.CommandLine.{IsCrossed, IsLineOf, IsMisnumbered, IsTaken, LineParts, Says, faults_in}
+use Rattle.romfs_seal.specs.declared.digest.Digest.TheVariants.{Short, Long}
+use Rattle.strata_words.specs.CommandLine.{IsCrossed, IsLineOf, IsMisnumbered, IsMissealed, IsTaken, LineParts, Says, faults_in}
 
 -- the words of a text, after those of which this is the last so far, cut at each blank
 abbrev pub cut : Text → Text → List Text
@@ -39,18 +40,20 @@ plain verb images = record {
   sessions = 1;
   owner = record { uid = 0; gid = 0 };
   images = words_of images;
+  digests = map (λ _. None) (words_of images);
 }
 
 -- a line of the command `socket` with the path of a socket and no other option
 abbrev pub at_socket : Text → Text → LineParts
 at_socket path images = record (plain verbs.Socket images) { listen = Some path }
 
--- the words are a command with numbers in range and no file beside the device, and each line of
--- them says this
+-- the words are a command with numbers in range, digests for all images or none, and no file beside
+-- the device, and each line of them says this
 pub record ReadsAs (text : Text) (parts : LineParts) : Type 0 where
   pub taken : IsTaken (words_of text)
   pub numbered : ¬ IsMisnumbered (words_of text)
   pub apart : ¬ IsCrossed (words_of text)
+  pub sealed : ¬ IsMissealed (words_of text)
   pub says : (line : Line) → IsLineOf (words_of text) line → Says line parts
 
 -- each option of `serve` but the device
@@ -107,6 +110,7 @@ pub record TakenLines : Type 0 where
         sessions = 1;
         owner = record { uid = 7; gid = 8 };
         images = codes "f" ∷ [];
+        digests = None ∷ [];
       })
   pub socket_one : ReadsAs (codes "socket --listen s f") (at_socket (codes "s") (codes "f"))
   pub socket_options : ReadsAs
@@ -143,6 +147,22 @@ pub record TakenLines : Type 0 where
       (record (plain verbs.Serve (codes "f g")) { batch = 7 })
   pub after_dashes : ReadsAs (codes "check -- --help --strict")
       (plain verbs.Check (codes "--help --strict"))
+  pub short_digest : ReadsAs
+      (codes "check --digest sha256:" ++ codes "0a" ++ replicate 62 48 ++ codes " f")
+      (record (plain verbs.Check (codes "f")) {
+        digests = Some (Short (10 ∷ replicate 31 0)) ∷ [];
+      })
+  pub long_digest : ReadsAs (codes "list f --digest=sha512:" ++ replicate 126 48 ++ codes "fF")
+      (record (plain verbs.List (codes "f")) {
+        digests = Some (Long (replicate 63 0 ++ 255 ∷ [])) ∷ [];
+      })
+  pub digests_in_order : ReadsAs
+      (codes "serve --digest - f --digest sha256:" ++ replicate 64 49 ++ codes " g")
+      (record (plain verbs.Serve (codes "f g")) {
+        digests = None ∷ Some (Short (replicate 32 17)) ∷ [];
+      })
+  pub no_digests : ReadsAs (codes "socket --listen s --digest - --digest - f g")
+      (at_socket (codes "s") (codes "f g"))
   pub image_like_a_verb : ReadsAs (codes "list check") (plain verbs.List (codes "check"))
 
 -- the words are no command, for this alone
@@ -220,3 +240,19 @@ pub record MisnumberedLines : Type 0 where
   pub plus_owner : IsMisnumbered (words_of (codes "serve --owner +7:8 a"))
   pub large_user : IsMisnumbered (words_of (codes "serve --owner 4294967296:0 a"))
   pub large_group : IsMisnumbered (words_of (codes "socket --listen s --owner 0:4294967296 a"))
+
+-- words that are a command but for a digest
+pub record MissealedLines : Type 0 where
+  pub one_for_two : IsMissealed (words_of (codes "check --digest - f g"))
+  pub two_for_one : IsMissealed (words_of (codes "list --digest - --digest - f"))
+  pub no_algorithm : IsMissealed (words_of (codes "check f --digest " ++ replicate 64 48))
+  pub another_algorithm :
+      IsMissealed (words_of (codes "check f --digest sha1:" ++ replicate 40 48))
+  pub digit_too_few : IsMissealed (words_of (codes "check f --digest sha256:" ++ replicate 63 48))
+  pub byte_too_few : IsMissealed (words_of (codes "check f --digest sha256:" ++ replicate 62 48))
+  pub byte_too_many : IsMissealed (words_of (codes "check f --digest sha512:" ++ replicate 130 48))
+  pub short_for_long : IsMissealed (words_of (codes "serve f --digest sha512:" ++ replicate 64 48))
+  pub no_hex_digit :
+      IsMissealed (words_of (codes "serve f --digest sha256:" ++ replicate 63 48 ++ codes "g"))
+  pub upper_name : IsMissealed (words_of (codes "serve f --digest SHA256:" ++ replicate 64 48))
+  pub no_text : IsMissealed (words_of (codes "serve f --digest="))

@@ -30,6 +30,8 @@ pub(crate) enum Form {
     Value(&'static str),
     /// A required option with one value.
     WantedValue(&'static str),
+    /// An option with one value that may be given again.
+    Values(&'static str),
     /// One argument or more.
     Words(&'static str),
 }
@@ -127,6 +129,12 @@ const IN_FILES: Argument = Argument {
     help: "Leave small images in their files, too",
 };
 
+const DIGEST: Argument = Argument {
+    name: "digest",
+    form: Form::Values("DIGEST"),
+    help: "Accept only the image with this fs-verity digest; once for each IMAGE, '-' for any",
+};
+
 const OWNER: Argument = Argument {
     name: "owner",
     form: Form::Value("UID:GID"),
@@ -186,7 +194,7 @@ fn serve<'a>(alloc: Global) -> Result<Command<'a>, AllocError>
         "Answer a stream of FUSE requests over the stacked images",
         &[
             WORKERS, BATCH, REQUESTS, REPLIES, BALANCES, DEVICE, READERS, LASTING, OWNER, IN_FILES,
-            STRICT, ATTRIBUTES, WHOLE, IMAGE,
+            STRICT, ATTRIBUTES, WHOLE, DIGEST, IMAGE,
         ],
     )
 }
@@ -200,7 +208,7 @@ fn socket<'a>(alloc: Global) -> Result<Command<'a>, AllocError>
         "Answer the clients of a Unix socket, one after another",
         &[
             WORKERS, BATCH, LISTEN, SESSIONS, LASTING, OWNER, IN_FILES, STRICT, ATTRIBUTES, WHOLE,
-            IMAGE,
+            DIGEST, IMAGE,
         ],
     )
 }
@@ -213,7 +221,7 @@ fn over_images<'a>(alloc: Global, name: &'a str, about: &'a str) -> Result<Comma
         alloc,
         name,
         about,
-        &[AS_MOUNTED, STRICT, ATTRIBUTES, WHOLE, IMAGE],
+        &[AS_MOUNTED, STRICT, ATTRIBUTES, WHOLE, DIGEST, IMAGE],
     )
 }
 
@@ -243,6 +251,10 @@ fn arg_of<'a>(alloc: Global, argument: Argument) -> Arg<'a>
         Form::Flag => arg.long(argument.name).action(ArgAction::SetTrue),
         Form::Value(value) => arg.long(argument.name).value_name(value),
         Form::WantedValue(value) => arg.long(argument.name).value_name(value).required(true),
+        Form::Values(value) => arg
+            .long(argument.name)
+            .value_name(value)
+            .action(ArgAction::Append),
         Form::Words(value) => arg
             .value_name(value)
             .required(true)

@@ -9,6 +9,7 @@
 #![tactic(auto)]
 
 mod commands;
+mod digests;
 pub mod line_examples;
 pub mod line_laws;
 mod numbers;

@@ -1,6 +1,7 @@
 //! Worked examples: what command lines say, or why they are refused, by computation.
 
 ghost use Rattle.strata_words.specs.LineExamples.{TakenLines, RefusedLines, MisnumberedLines};
+ghost use Rattle.strata_words.specs.LineExamples.{MissealedLines};
 
 /// Words that are a command of the program, and what they say.
 #[tactic(auto, using(crate::proofs::WorkedLines::taken_lines))]
@@ -18,4 +19,10 @@ pub fn refused_line_examples()
 #[tactic(auto, using(crate::proofs::WorkedLines::misnumbered_lines))]
 pub fn misnumbered_line_examples()
     ensures { MisnumberedLines }
+{}
+
+/// Words that are a command but for a digest.
+#[tactic(auto, using(crate::proofs::WorkedLines::missealed_lines))]
+pub fn missealed_line_examples()
+    ensures { MissealedLines }
 {}

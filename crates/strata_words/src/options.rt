@@ -4,6 +4,7 @@ ghost use Rattle.std.specs.Prelude.{◌≡◌};
 ghost use Rattle.strata_words.specs.declared.options.LineFault.TheVariants.{Memory};
 ghost use Rattle.strata_words.specs.declared.options.NoLine.TheVariants.{Fault};
 
+use romfs_seal::Digest;
 use stack_model::Owner;
 use std::alloc::{AllocError, AllocFailed};
 
@@ -67,6 +68,9 @@ pub struct Line<'a> {
     pub owner: Owner,
     /// The files of the images, one or more, lowest layer first.
     pub images: Vec<&'a str>,
+    /// The fs-verity digest of each image, in their order; `None` for an image that is read under
+    /// none.
+    pub digests: Vec<Option<Digest>>,
 }
 
 /// Why there is no `Line`.
@@ -81,8 +85,8 @@ pub enum NoLine {
 /// What is wrong with the arguments.
 #[derive(Drop)]
 pub enum LineFault {
-    /// The arguments are no command of the program, have a malformed number or one out of range,
-    /// or ask for help. The text is for the user.
+    /// The arguments are no command of the program, have a malformed number or digest, a number
+    /// out of range, or more or fewer digests than images, or ask for help. The text is for the user.
     Usage { text: String },
     /// Memory ran out.
     Memory,

@@ -2,8 +2,8 @@
 //!
 //! `clap` uses the global allocator, so this module takes no other.
 
-ghost use Rattle.std.specs.Prelude.{◌≡◌, ◌≤◌, ◌⊎◌, [], codes, is_some, map, true};
-ghost use Rattle.std.specs.Prelude.{IfOk, IfErr, option_map, unwrap_or, vec_len};
+ghost use Rattle.std.specs.Prelude.{◌≡◌, ◌≤◌, ◌⊎◌, codes, is_some, map, true};
+ghost use Rattle.std.specs.Prelude.{IfOk, IfErr, OnOk, length, option_map, vec_len};
 ghost use Rattle.std.specs.Int.{IsInRange};
 ghost use Rattle.clap.specs.Takes.{is_given};
 ghost use Rattle.clap.specs.Walk.{all_of, first_of, texts};
@@ -12,15 +12,19 @@ ghost use Rattle.strata_words.specs.CommandLine.{IsLineOf, IsNoLine, IsTaken, Te
 ghost use Rattle.strata_words.specs.CommandLine.{IsFilled, IsInLimits, IsReadFrom, names_both, verb_word};
 ghost use Rattle.strata_words.specs.CommandLine.{AreCrossed, GivesSocket, NamesSocket, is_flag, rows_in};
 ghost use Rattle.strata_words.specs.CommandLine.{HaveNumbersInRange, IsNumberNamed, IsNumberOf};
+ghost use Rattle.strata_words.specs.CommandLine.{HaveDigests, images_in};
+ghost use Rattle.strata_words.specs.Digests.{AreDigests, digests_for};
 ghost use Rattle.strata_words.specs.Owners.{IsOwnerOf};
 ghost use Rattle.strata_words.specs.declared.options.LineFault.TheVariants.{Memory};
 
 use crate::commands::{MOUNTING, program};
+use crate::digests::{digests_named, no_digests};
 use crate::numbers::{number_to, owner_in};
 use crate::options::{Line, LineFault, MAX_READERS, MAX_SESSIONS, NoLine, Verb};
 use clap::error::ErrorKind;
 use clap::{ArgMatches, Error};
 use draw_board::limits::{MAX_BATCH, MAX_WORKERS};
+use romfs_seal::Digest;
 use stack_model::Owner;
 use std::alloc::{AllocError, Global};
 use std::convert::AsStr;
@@ -48,11 +52,14 @@ pub fn words<R: Env + AllocGlobal>(rt: &R) -> Result<Vec<String>, LineFault> {
 /// Reads the arguments after the program's name: the line has their verb, the flags, the first
 /// value of each option or its default, and all images in order. A number is decimal, in digits
 /// alone, from 1 to 64 (`--workers`, `--readers`), 256 (`--batch`) or 65,535 (`--sessions`), and an
-/// owner is two numbers below 2^32 joined by a colon. For `socket` it has the path of the socket.
+/// owner is two numbers below 2^32 joined by a colon. The digests are one for each image in their
+/// order, or none: `sha256:` before 64 hex digits, `sha512:` before 128, or `-` for an image without
+/// a digest. For `socket` the line has the path of the socket.
 ///
 /// Arguments that ask for the version give `Version`. `Usage` means that the arguments are no
-/// command of the program (a request for help is none), have another number, or name a file beside
-/// the device; `Memory` means that memory was refused.
+/// command of the program (a request for help is none), have another number or digest, or more or
+/// fewer digests than images, or name a file beside the device; `Memory` means that memory was
+/// refused.
 pub fn line<'a, S: AsStr>(alloc: Global, words: &'a [S]) -> Result<Line<'a>, NoLine>
     ensures ok { IfOk result (λ line. IsLineOf (map S.text words.now) line) }
     ensures limits { IfOk result (λ line. IsInLimits line) }
@@ -102,8 +109,11 @@ fn line_of<'a>(alloc: Global, verb: Verb, found: &ArgMatches<'a>) -> Result<Line
     requires socket { GivesSocket verb (rows_in found.now) }
     ensures ok { IfOk result (IsReadFrom verb (rows_in found.now)) }
     ensures err { IfErr result (λ fault. (fault ≡ Memory)
-        ⊎ ((¬ HaveNumbersInRange (rows_in found.now)) ⊎ AreCrossed (rows_in found.now))) }
+        ⊎ ((¬ HaveNumbersInRange (rows_in found.now))
+        ⊎ (AreCrossed (rows_in found.now) ⊎ ¬ HaveDigests (rows_in found.now)))) }
 {
+    let images = images(alloc, found)?;
+    let digests = digests(alloc, found, images.len())?;
     let line = Line {
         verb,
         strict: flag(found, "strict"),
@@ -122,7 +132,8 @@ fn line_of<'a>(alloc: Global, verb: Verb, found: &ArgMatches<'a>) -> Result<Line
         listen: value(found, "listen"),
         sessions: number(alloc, found, "sessions", DEFAULT_SESSIONS, MAX_SESSIONS)?,
         owner: owner(alloc, found)?,
-        images: images(alloc, found)?,
+        images,
+        digests,
     };
     match named_beside_device(&line) {
         None => Ok(line),
@@ -150,11 +161,32 @@ fn value<'a>(found: &ArgMatches<'a>, name: &str) -> Option<&'a str>
 fn images<'a>(alloc: Global, found: &ArgMatches<'a>) -> Result<Vec<&'a str>, AllocError>
     requires { IsFilled (rows_in found.now) }
     ensures are { IfOk result (λ images.
-        texts images.items ≡ unwrap_or (all_of (codes "image") (rows_in found.now)) []) }
+        texts images.items ≡ images_in (rows_in found.now)) }
     ensures some { IfOk result (λ images. 1 ≤ vec_len images) }
+    ensures count { IfOk result (λ images. vec_len images ≡ length (images_in (rows_in found.now))) }
 {
     let images = found.get_strs("image").unwrap().to_vec(alloc)?;
     Ok(images)
+}
+
+// The digests of so many images, one for each or none at all.
+fn digests(
+    alloc: Global,
+    found: &ArgMatches<'_>,
+    count: usize,
+) -> Result<Vec<Option<Digest>>, LineFault>
+    ensures ok { IfOk result (λ digests.
+        digests.items ≡ digests_for count (all_of (codes "digest") (rows_in found.now))) }
+    ensures each { IfOk result (λ digests. vec_len digests ≡ count) }
+    ensures given { OnOk result (AreDigests count (all_of (codes "digest") (rows_in found.now))) }
+    ensures err { IfErr result (λ fault. (fault ≡ Memory)
+        ⊎ ¬ AreDigests count (all_of (codes "digest") (rows_in found.now))) }
+{
+    match found.get_strs("digest") {
+        None => Ok(no_digests(alloc, count)?),
+        Some(texts) if texts.len() == count => digests_named(alloc, texts),
+        Some(texts) => Err(miscounted(alloc, texts.len(), count)?),
+    }
 }
 
 // The option of a file that is given beside the device, if there is one.
@@ -261,6 +293,15 @@ fn no_owner(alloc: Global, text: &str) -> Result<LineFault, AllocError> {
     let text = format!(in alloc;
         "error: invalid value '{text}' for '--owner <UID:GID>': not two numbers from 0 to \
          4294967295 joined by a colon\n\nFor more information, try '--help'."
+    )?;
+    Ok(LineFault::Usage { text })
+}
+
+// The fault for more or fewer digests than images, in the form of `clap`.
+fn miscounted(alloc: Global, given: usize, images: usize) -> Result<LineFault, AllocError> {
+    let text = format!(in alloc;
+        "error: one '--digest <DIGEST>' for each image is required: images: {images}, digests: \
+         {given}\n\nFor more information, try '--help'."
     )?;
     Ok(LineFault::Usage { text })
 }

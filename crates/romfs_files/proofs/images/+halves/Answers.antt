@@ -1,6 +1,6 @@
-use Rattle.std.proofs.Common.{◌≡◌, ◌+◌, sym, subst, length, vec_len, arith}
+use Rattle.std.proofs.Common.{◌+◌, sym, subst, vec_len, arith}
 use Rattle.romfs_files.specs.Unread.{IsReadUpTo}
-use Rattle.romfs_files.proofs.Loads.{both_loaded}
+use Rattle.romfs_files.proofs.Loads.{both_loaded, halves}
 use Rattle.romfs_files.proofs.images.+halves.Goals as goal
 
 pub split_at-requires : goal.split_at-requires
@@ -11,22 +11,24 @@ overflow_add-next g t c = omega arith
 
 pub returns-clause-count : goal.returns-clause-count
 returns-clause-count g t c =
-    let (lows, highs) = c.split_at.result in
+    let (low_digests, high_digests) = c.split_at-2.result in
     let (high, low) = c.join-high.result in
-    let front = c.split_at.ensures.front_len in
-    let back = c.split_at.ensures.back_len in
-    let upper = subst (λ n. IsReadUpTo (c.args.first + n) (length highs.now) (vec_len high.images) high.end) (sym front)
+    let parts = c.split_at-2.ensures in
+    let upper = subst (λ n. IsReadUpTo (c.args.first + n) high_digests.now (vec_len high.images) high.end) (sym parts.front_len)
     c.join-high.ensures.first.0 in
-    let all : length lows.now + length highs.now ≡ length c.args.paths.now = omega (arith, front, back) in
-    subst (λ n. IsReadUpTo c.args.first n (vec_len c.both.result.images) c.both.result.end) all
-    (c.both.ensures.read c.args.first (length lows.now) (length highs.now) c.join-high.ensures.second.0 upper)
+    subst (λ ds. IsReadUpTo c.args.first ds (vec_len c.both.result.images) c.both.result.end)
+    (halves _ low_digests.now high_digests.now c.args.digests.now parts.front parts.back)
+    (c.both.ensures.read c.args.first low_digests.now high_digests.now c.join-high.ensures.second.0 upper)
 
 pub returns-clause-read : goal.returns-clause-read
 returns-clause-read g t c =
     let (high, low) = c.join-high.result in
-    let upper = c.join-high.ensures.first.1 in
-    let lower = c.join-high.ensures.second.1 in
-    both_loaded _ _ low.images.items high.images.items c.both.result.images.items c.both.ensures.either lower upper
+    let (low_digests, high_digests) = c.split_at-2.result in
+    let parts = c.split_at-2.ensures in
+    both_loaded g.R.File.Read.remaining c.args.loading c.args.first low_digests.now high_digests.now c.args.digests.now low.images.items
+    high.images.items c.both.result.images.items low.end (halves _ low_digests.now high_digests.now c.args.digests.now parts.front parts.back)
+    (subst (λ m. IsReadUpTo c.args.first low_digests.now m low.end) low.images.ok.0 c.join-high.ensures.second.0)
+    c.both.ensures.either c.join-high.ensures.second.1 c.join-high.ensures.first.1
 
 pub overflow_sub-less : goal.overflow_sub-less
 overflow_sub-less g t c = omega arith

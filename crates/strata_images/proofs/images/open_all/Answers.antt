@@ -1,5 +1,6 @@
 use Rattle.std.proofs.Common.{◌∙◌, sym, subst, arith}
 use Rattle.romfs_files.specs.declared.loaded.Loading.TheVariants as how
+use Rattle.romfs_files.specs.Sealing.{AreLoadedBy}
 use Rattle.strata_images.specs.Images.{IsLoadingOf}
 use Rattle.strata_images.proofs.Opened.{as_many_held, loaded_sources}
 use Rattle.strata_images.proofs.images.open_all.Goals as goal
@@ -8,11 +9,13 @@ pub returns-clause-named : goal.returns-clause-named
 returns-clause-named g c =
     let images = c.in_ok-images.images in
     as_many_held images.items c.in_ok-held.held.items c.in_ok-held.files.items c.in_ok-held.ensures ∙ sym images.ok.0
-    ∙ omega (arith, c.in_ok-images.ensures.ok, c.as_slice.ensures.len)
+    ∙ omega (arith, c.in_ok-images.ensures.ok, c.as_slice-paths.ensures.len)
 
 pub returns-clause-sources : goal.returns-clause-sources
 returns-clause-sources g c =
     loaded_sources c.args.line.now g.R.File.Read.remaining c.loading_of-loading.result c.in_ok-images.images.items
     c.in_ok-held.held.items c.in_ok-held.files.items
     (subst (λ t. IsLoadingOf c.args.line.now (how.Open t) c.loading_of-loading.result) c.trailers_of.ensures c.loading_of-loading.ensures)
-    c.in_ok-images.ensures.loaded c.in_ok-held.ensures
+    (subst (λ ds. AreLoadedBy g.R.File.Read.remaining c.loading_of-loading.result ds c.in_ok-images.images.items)
+    c.as_slice.ensures.value c.in_ok-images.ensures.loaded)
+    c.in_ok-held.ensures

@@ -1,13 +1,15 @@
-use Rattle.std.proofs.Common.{inl, inr, refl}
+use Rattle.std.proofs.Common.{◌∙◌, inl, inr, refl}
 use Rattle.std.proofs.lemmas.Result.{IfOk-from_err, err_from_is_err_and}
+use Rattle.strata_words.specs.CommandLine.{rows_in}
+use Rattle.strata_words.proofs.Parsed.{digest_fault}
 use Rattle.strata_words.proofs.parse.line_of.Goals as goal
 
 pub returns-in_err-number-clause-ok : goal.returns-in_err-number-clause-ok
-returns-in_err-number-clause-ok c = IfOk-from_err c.from_residual.result _ c.from_residual.ensures.0
+returns-in_err-number-clause-ok c = IfOk-from_err c.from_residual-in_err-number.result _ c.from_residual-in_err-number.ensures.0
 
 pub returns-in_err-number-clause-err : goal.returns-in_err-number-clause-err
 returns-in_err-number-clause-err c =
-    let failed = err_from_is_err_and c.from_residual.result c.from_residual.ensures.1 in
+    let failed = err_from_is_err_and c.from_residual-in_err-number.result c.from_residual-in_err-number.ensures.1 in
     rw (failed.1, failed.2) (elim c.in_err-number.ensures.err [ inl memory ↦ inl memory | inr wrong ↦ inr (inl wrong) ])
 
 pub returns-in_err-number-2-clause-ok : goal.returns-in_err-number-2-clause-ok
@@ -43,12 +45,21 @@ returns-in_err-owner-clause-err c =
     rw (failed.1, failed.2) (elim c.in_err-owner.ensures.err [ inl memory ↦ inl memory | inr wrong ↦ inr (inl wrong) ])
 
 pub returns-in_err-images-clause-ok : goal.returns-in_err-images-clause-ok
-returns-in_err-images-clause-ok c = IfOk-from_err c.from_residual-in_err-images.result _ c.from_residual-in_err-images.ensures.0
+returns-in_err-images-clause-ok c = IfOk-from_err c.from_residual.result _ c.from_residual.ensures.0
 
 pub returns-in_err-images-clause-err : goal.returns-in_err-images-clause-err
 returns-in_err-images-clause-err c =
-    let failed = err_from_is_err_and c.from_residual-in_err-images.result c.from_residual-in_err-images.ensures.1 in
+    let failed = err_from_is_err_and c.from_residual.result c.from_residual.ensures.1 in
     rw (failed.1, failed.2) (inl refl)
+
+pub returns-in_err-digests-clause-ok : goal.returns-in_err-digests-clause-ok
+returns-in_err-digests-clause-ok c = IfOk-from_err c.from_residual-in_err-digests.result _ c.from_residual-in_err-digests.ensures.0
+
+pub returns-in_err-digests-clause-err : goal.returns-in_err-digests-clause-err
+returns-in_err-digests-clause-err c =
+    let failed = err_from_is_err_and c.from_residual-in_err-digests.result c.from_residual-in_err-digests.ensures.1 in
+    rw (failed.1, failed.2) (digest_fault (rows_in c.args.found.now) c.len.result _
+    (c.len.ensures ∙ c.in_ok-images.ensures.count) c.in_err-digests.ensures.err)
 
 pub returns-in_err-crossed-in-Some-clause-ok : goal.returns-in_err-crossed-in-Some-clause-ok
 returns-in_err-crossed-in-Some-clause-ok c =

@@ -1,0 +1,46 @@
+-- What is loaded of data that are read under a digest.
+use Rattle.std.proofs.Common.{◌≡◌, sym, subst, ℕ, None, Result, Ok, Err, IfOk, length}
+use Rattle.devices.specs.Sources.{IsSizeOf, MayGive, sealed}
+use Rattle.romfs_seal.specs.declared.digest.Digest.{Digest}
+use Rattle.romfs_held.specs.declared.image.HeldImage.TheVariants as held
+use Rattle.std.specs.declared.vec.Vec.{Vec}
+use Rattle.romfs_files.specs.declared.image_data.ImageData.{ImageData}
+use Rattle.romfs_files.specs.declared.image_data.ImageData.TheVariants.{File, Memory, Sealed}
+use Rattle.romfs_files.specs.declared.loaded.LoadedImage.{LoadedImage}
+use Rattle.romfs_files.specs.declared.loaded.Trailers.{Trailers}
+use Rattle.romfs_files.specs.Data.{source_of}
+use Rattle.romfs_files.specs.Loaded.{IsKeptOf, IsLetGo, IsOpenOver}
+use Rattle.romfs_files.specs.Sealing.{IsHeldUnder, IsOpenUnder, IsUnder, IsWholeOver, IsWholeUnder, seal_by}
+
+-- what is kept of data that are let go was gathered under the digest
+held_under : {F A : Type 0} (digest : Digest) (source : ImageData F A) (trailers : Trailers) (image : LoadedImage F A)
+    → IsUnder digest source → IsLetGo source trailers image → IsHeldUnder digest trailers image
+held_under digest (File f) trailers image under gone = absurd (cc)
+held_under digest (Memory bytes) trailers image under gone = absurd (cc)
+held_under digest (Sealed name) trailers image under gone = record {
+  size = under.size;
+  kept = subst (λ s. IsKeptOf s trailers image) under.is gone.0;
+  let_go = gone.1;
+}
+
+pub gathered_under : {F A E : Type 0} (digest : Digest) (source : ImageData F A) (trailers : Trailers) (result : Result (LoadedImage F A) E)
+    → IsUnder digest source → IfOk result (IsLetGo source trailers) → IfOk result (IsHeldUnder digest trailers)
+gathered_under digest source trailers (Err e) under gone = tt
+gathered_under digest source trailers (Ok image) under gone = held_under digest source trailers image under gone
+
+-- an image over data under the digest is open under it
+pub opened_under : {F A E : Type 0} (digest : Digest) (source : ImageData F A) (trailers : Trailers) (result : Result (LoadedImage F A) E)
+    → IsUnder digest source → IfOk result (IsOpenOver source trailers) → IfOk result (IsOpenUnder digest trailers)
+opened_under digest source trailers (Err e) under over = tt
+opened_under digest source trailers (Ok image) under over = record { source = source; under = under; over = over }
+
+-- all bytes of such data are held
+pub whole_under : {F A : Type 0} (digest : Digest) (source : ImageData F A) (bytes : Vec ℕ A) (image : LoadedImage F A)
+    → IsUnder digest source → MayGive (source_of source) 0 bytes.items → IsSizeOf (source_of source) (length bytes.items)
+    → image.held ≡ held.Whole bytes → image.source ≡ None → IsWholeUnder digest image
+whole_under digest source bytes image under given sized held_is none = record {
+  size = under.size;
+  whole = subst (λ h. IsWholeOver (sealed (seal_by digest under.size)) h) (sym held_is)
+      (subst (λ s. MayGive s 0 bytes.items) under.is given, subst (λ s. IsSizeOf s (length bytes.items)) under.is sized);
+  let_go = none;
+}
