@@ -21,7 +21,7 @@ import sys
 from strata_format import ends
 from strata_format.version import version
 from strata_mount.mounting import attempt
-from strata_mount.options import Options, Wrong
+from strata_mount.options import Options, Wrong, digest_of
 from strata_mount.plan import Plan
 from strata_format.words import Reader, WrongWords
 
@@ -29,7 +29,8 @@ FLAGS = {"-h": "help", "--help": "help", "--background": "background", "--strict
          "--replace": "replace", "--share": "share", "--print": "is_printed", "--list": "list",
          "--json": "json", "--verify": "verify", "-d": "debug", "--debug": "debug",
          "--version": "version"}
-VALUED = {"-o": "o", "--store": "store", "--stats": "stats", "--strata": "program"}
+VALUED = {"-o": "o", "--digest": "digests", "--store": "store", "--stats": "stats", "--strata": "program"}
+REPEATED = ("o", "digests")
 USAGE = "usage: %s [OPTIONS] IMAGE.. DIR\n"
 HELP = """
 Mounts stacked romfs images, lowest first.
@@ -45,7 +46,11 @@ options:
   -o OPTIONS        mount options: allow_other, noexec,
                     max_read=N, ..; strata's: strict, whole,
                     workers=N, readers=N, uid=N, gid=N,
-                    share, stack, caps, modeless
+                    share, stack, caps, modeless, sealed,
+                    digest=DIGEST
+  --digest DIGEST   accept an image only with this fs-verity
+                    digest; for each layer in order, or none;
+                    - accepts any image
   --strict          verify the checksum of every header, too
   --replace         unmount a mount of strata at DIR first
   --share           one mount for all who ask for the same
@@ -77,12 +82,15 @@ SOURCE_MOST = 1000
 
 def plan_of(read, name):
     """The plan that arguments as they were read say."""
-    said = {field: it if it is True else it[-1] for field, it in read.said.items() if field != "o"}
-    plan = Plan(name=name, **said)
+    said = {field: it if it is True else it[-1] for field, it in read.said.items() if field not in REPEATED}
+    plan = Plan(name=name, digests=digests_of(read.said.get("digests", [])), **said)
     try:
-        plan.settle(Options(",".join(read.said.get("o", []))))
+        options = Options(",".join(read.said.get("o", [])))
     except Wrong as wrong:
         raise WrongWords("argument -o: %s" % wrong) from None
+    if plan.digests and options.digests:
+        raise WrongWords("argument --digest: not with -o digest")
+    plan.settle(options)
     if plan.share and plan.is_relayed():
         raise WrongWords("argument --share: not with --debug or --stats")
     if plan.debug and plan.background:
@@ -97,6 +105,14 @@ def plan_of(read, name):
         plan.images, plan.folder = read.names[:-1], read.names[-1]
     plan.source = source_of(plan.images)
     return plan
+
+
+def digests_of(words):
+    """The digests that --digest says."""
+    try:
+        return [digest_of(word) for word in words]
+    except Wrong as wrong:
+        raise WrongWords("argument --digest: %s" % wrong) from None
 
 
 def hold_printed(plan, names):

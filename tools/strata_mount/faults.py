@@ -16,8 +16,10 @@ from strata_layers.store import default_place
 from strata_layers.store_images import brought, may_be_stored
 from strata_mount import dead_mounts
 from strata_mount.meant import SOURCES, pulled
+from strata_mount.plan import TREE
 
 UNREADABLE = re.compile(r"image (\d+): cannot be read")
+UNSEALED = re.compile(r"image (\d+): not as sealed")
 BROKEN = re.compile(r"layer (\d+) at [0-9a-f]{8,}: (.*)")
 TOO_MANY = re.compile(r"layers: (\d+), allowed 1 to 128")
 FRONT = 36 << 10
@@ -81,6 +83,10 @@ def explained_line(said, images, store):
         path = images[number]
         why = broken(path, rule) if rule else unreadable(path, len(images), store)
         return ["%s %d is %s: %s" % ("layer" if rule else "image", number, shown(os.fsencode(path)), why)]
+    found = UNSEALED.fullmatch(said)
+    if found and int(found[1]) < len(images):
+        path = images[int(found[1])]
+        return ["image %s is %s: %s" % (found[1], shown(os.fsencode(path)), unsealed(path))]
     if TOO_MANY.fullmatch(said):
         return ["%d images were named, and at most 128 can be stacked: unpack some adjacent ones into one directory; %s" % (
             len(images), MAKE)]
@@ -101,6 +107,16 @@ def unreadable(path, count, store):
     except OSError as found:
         fault = found
     return not_open(count) if fault is None else fault_told(path, fault, store)
+
+
+def unsealed(path):
+    """Why an image is not the one that its digest names."""
+    try:
+        front_of(path + TREE, 1)
+    except OSError as fault:
+        return ("its tree %s: %s; `strata-layers seal` makes the tree of an image" % (
+            shown(os.fsencode(path + TREE)), fault.strerror.lower()))
+    return "the image or its tree was changed, or the digest is another image's"
 
 
 def fault_told(path, fault, store):

@@ -20,7 +20,7 @@ from strata_format.version import version
 from strata_mount import mounting
 from strata_mount.options import Options, Wrong
 from strata_mount.plan import Plan
-from strata_mount.preconditions import find_images, hold_folder, hold_here, hold_images, hold_names
+from strata_mount.preconditions import find_images, hold_digests, hold_folder, hold_here, hold_images, hold_names
 from strata_format.words import Reader, WrongWords
 
 PATH = "/usr/sbin:/usr/bin:/sbin:/bin"
@@ -105,10 +105,11 @@ def looked_at(plan):
     try:
         hold_folder(plan)
         find_images(plan)
+        hold_digests(plan)
         hold_names(plan)
         hold_images(plan)
-        for image in plan.images:
-            file = image_files.opened(image)
+        for path in plan.files():
+            file = image_files.opened(path)
             if file is not None:
                 file.close()
         return 0

@@ -1,4 +1,4 @@
-"""Which files a server can open at all: its images, and what a program starts with.
+"""Which files a server can open at all: its images, their trees, and what a program starts with.
 
 It is Landlock's (linux/landlock.h, Linux 5.13 and later): a process that holds itself to such
 rules, and what it becomes, opens nothing else, under any user. A kernel without it holds
@@ -57,15 +57,15 @@ def folders_of_libraries(program):
     return {*LIBRARIES, beside, *map(os.path.dirname, libraries()), *filter(os.path.isabs, said)}
 
 
-def rules_for(program, images):
-    """The rules for a program with these images; None where the kernel has none, or none for a
+def rules_for(program, files):
+    """The rules for a program with these files; None where the kernel has none, or none for a
     file system on which one of them lies."""
     try:
         found = Ruleset()
         found.allow(program, EXECUTE | READ_FILE)
         for path in folders_of_libraries(program):
             found.allow(path, EXECUTE | READ_FILE)
-        for path in (*images, *OPENED):
+        for path in (*files, *OPENED):
             if not os.path.isdir(path):
                 found.allow(path, READ_FILE)
         return found

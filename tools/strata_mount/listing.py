@@ -13,20 +13,21 @@ from strata_mount.sharing import noted_servers
 
 TICKS = os.sysconf("SC_CLK_TCK")
 # of `strata serve`, the options with a value behind them
-VALUED = ("--workers", "--readers", "--owner")
+VALUED = ("--workers", "--readers", "--owner", "--digest")
 
 
 class Server:
-    """A process that serves a mount: its number, the folder that it was mounted on first, and the
-    images."""
+    """A process that serves a mount: its number, the folder that it was mounted on first, the images,
+    and their digests where they were named."""
 
     def __init__(self, process, words):
-        self.process, self.images = process, []
+        self.process, self.images, self.digests = process, [], []
         self.folder = words[0].partition("@")[2]
         left = iter(words[1:])
         for word in left:
             if word in VALUED:
-                next(left, None)
+                value = next(left, None)
+                self.digests += [value] * (word == "--digest")
             elif not word.startswith("--") and word != "serve":
                 self.images.append(word)
 
@@ -78,9 +79,10 @@ def rows():
         by_device[mount.device] = by_device.get(mount.device) or server_of(mount, known, noted)
     for mount in found:
         it = by_device[mount.device]
-        facts = (None,) * 4 if it is None else (it.images, it.process, it.memory(), it.age())
+        facts = (None,) * 5 if it is None else (
+            it.images, it.digests, it.process, it.memory(), it.age())
         yield {"folder": mount.place, "source": mount.source,
-               **dict(zip(("images", "process", "memory", "age"), facts))}
+               **dict(zip(("images", "digests", "process", "memory", "age"), facts))}
 
 
 def words_of(row):

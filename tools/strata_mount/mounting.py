@@ -29,6 +29,8 @@ def option_words(plan):
     words += ["--workers", str(plan.workers)] * (plan.workers is not None)
     words += ["--readers", str(plan.readers)] * (plan.readers is not None)
     words += ["--owner", plan.owner] * (plan.owner is not None)
+    for digest in plan.digests:
+        words += ["--digest", digest]
     return words
 
 
@@ -74,8 +76,8 @@ def confinement_of(plan):
     """What the server will be held to; None where it keeps all privileges."""
     if plan.keeps_privileges:
         return None
-    images = list(map(os.path.abspath, plan.images))
-    return privileges.Confinement(plan.program, images, is_direct=not plan.is_relayed())
+    files = list(map(os.path.abspath, plan.files()))
+    return privileges.Confinement(plan.program, files, is_direct=not plan.is_relayed())
 
 
 def prepare(confinement):
@@ -220,6 +222,7 @@ def attempt(plan):
         if not plan.is_printed:
             preconditions.hold_folder(plan)
         preconditions.find_images(plan)
+        preconditions.hold_digests(plan)
         preconditions.hold_names(plan)
         program = found_program(plan.program)
         if not program:

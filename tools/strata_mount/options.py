@@ -16,7 +16,12 @@ OWN = ("fd", "rootmode", "user_id", "group_id", "fsname", "subtype", "auto_unmou
 # strata's own words, each with the least and the most of the number behind it, or None where it stands alone
 SEVERAL, OWNERS = (1, 64), (0, 2 ** 32 - 1)
 STRATA = {"strict": None, "whole": None, "modeless": None, "workers": SEVERAL, "readers": SEVERAL,
-          "uid": OWNERS, "gid": OWNERS, "share": None, "stack": None, "caps": None}
+          "uid": OWNERS, "gid": OWNERS, "share": None, "stack": None, "caps": None,
+          "sealed": None}
+# the hex digits of a digest by its algorithm; and what stands in place of one
+DIGITS = {"sha256": 64, "sha512": 128}
+HEX = frozenset("0123456789abcdefABCDEF")
+NOT_SEALED = "-"
 
 
 class Wrong(Exception):
@@ -24,10 +29,11 @@ class Wrong(Exception):
 
 
 class Options:
-    """What `-o` says: words for mount(2), strata's own with their numbers, and those that nobody knows."""
+    """What `-o` says: words for mount(2), strata's own with their numbers, the images' digests in order, and words that nobody
+    knows."""
 
     def __init__(self, text):
-        self.mount, self.strata, self.unknown = [], {}, []
+        self.mount, self.strata, self.digests, self.unknown = [], {}, [], []
         for word in words_in(text):
             self.add(word)
 
@@ -37,7 +43,9 @@ class Options:
             raise Wrong("a mount of strata cannot be changed (remount): unmount it and mount again")
         if name in OWN:
             raise Wrong("not allowed: %s" % ", ".join(OWN))
-        if name in STRATA:
+        if name == "digest":
+            self.digests.append(digest_of(value))
+        elif name in STRATA:
             self.strata[name] = number_of(name, value, *STRATA[name]) if STRATA[name] else bare(name, equals)
         elif name not in IGNORED and not name.startswith(IGNORED_FRONTS):
             self.mount.append(word)
@@ -64,6 +72,15 @@ def words_in(text):
             found[-1] += first
             found += others
     return [word for word in found if word]
+
+
+def digest_of(word):
+    """A word that is a digest, or says that an image has none."""
+    algorithm, _, digits = word.partition(":")
+    is_digest = len(digits) == DIGITS.get(algorithm) and HEX.issuperset(digits)
+    if not is_digest and word != NOT_SEALED:
+        raise Wrong("a digest is sha256: with 64 hex digits, sha512: with 128, or -")
+    return word
 
 
 def bare(name, equals):

@@ -3,10 +3,13 @@ import os
 
 from strata_format import ends, version
 from strata_format.refused import one_line
+from strata_mount.options import NOT_SEALED
 
 WORDS = ("ro", "nosuid", "nodev", "default_permissions")
 # the most that is read at once where a relay passes replies on in packets
 RELAYED_READ = "max_read=131072"
+# behind an image's name, the name of its tree
+TREE = ".verity"
 
 
 class Plan:
@@ -19,6 +22,8 @@ class Plan:
     # what mount(8) was given, where the images are between its colons
     word = None
     words, owner, workers, readers = (), None, None, None
+    # of each image in order, or of none; and whether each must have one
+    digests, is_sealed = (), False
     background = strict = whole = modeless = replace = debug = verify = False
     may_replace, store = True, None
     # one mount for all who ask for the same, of which --print tells the folder; over a mount that
@@ -43,6 +48,14 @@ class Plan:
     def is_relayed(self):
         return self.debug or self.stats is not None
 
+    def trees(self):
+        """The files beside those images that have a digest, with their trees."""
+        return [image + TREE for image, digest in zip(self.images, self.digests) if digest != NOT_SEALED]
+
+    def files(self):
+        """All files that strata reads."""
+        return [*self.images, *self.trees()]
+
     def settle(self, options):
         """Takes over what -o says."""
         is_said = any(word.partition("=")[0] == "max_read" for word in options.mount)
@@ -56,6 +69,8 @@ class Plan:
         self.is_stacked, self.keeps_privileges = "stack" in options.strata, "caps" in options.strata
         # whether it is meant that others see images that keep no modes
         self.modeless = "modeless" in options.strata
+        self.digests = self.digests or options.digests
+        self.is_sealed = "sealed" in options.strata
         self.workers = options.strata.get("workers")
         self.readers = options.strata.get("readers")
         self.owner = options.owner()

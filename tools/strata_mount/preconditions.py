@@ -7,6 +7,7 @@ from strata_layers import layer_order
 from strata_mount import dead_mounts
 from strata_mount.device import take_away
 from strata_mount.mount_table import mount_at
+from strata_mount.options import NOT_SEALED
 
 # what strata opens when it begins, besides its program and its libraries: the loader and its lists,
 # the standard ends, and what tells how many processors there are; python looks for open files in
@@ -81,6 +82,18 @@ def find_images(plan):
             plan.say(line)
 
 
+def hold_digests(plan):
+    """Looks that each layer has its word of a digest, or none has; and with -o sealed that it is a
+    digest."""
+    digests = plan.digests or [NOT_SEALED] * len(plan.images)
+    if len(digests) != len(plan.images):
+        raise OSError(0, "digests: %d, and layers: %d; each layer needs one, or `-`, the lowest first"
+                      % (len(digests), len(plan.images)))
+    for image, digest in zip(plan.images, digests):
+        if plan.is_sealed and digest == NOT_SEALED:
+            raise OSError(0, "has no digest, and with -o sealed each layer needs one", image)
+
+
 def hold_names(plan):
     """Looks that strata, which takes text alone, can be told the images' names."""
     for image in plan.images:
@@ -151,12 +164,13 @@ def hold_images(plan):
     open it."""
     if is_empty(plan.folder):
         # what is there does not lie in it
-        images, needed = missing(plan.images), missing(OPENED)
+        files, needed = missing(plan.files()), missing(OPENED)
     else:
-        images, needed = plan.images, [plan.program, *packages(), *sorted(libraries()), *OPENED]
-    for image in images:
-        if lies_in(image, plan.folder):
-            raise OSError(0, "this image is in the directory that it would be mounted on", image)
+        files, needed = plan.files(), [plan.program, *packages(), *sorted(libraries()), *OPENED]
+    for file in files:
+        if lies_in(file, plan.folder):
+            why = "this image is in the directory that it would be mounted on"
+            raise OSError(0, why.replace("image", "tree") if file in plan.trees() else why, file)
     for path in needed:
         if lies_in(path, plan.folder):
             why = "strata needs this file, which is in the directory that it would mount on"

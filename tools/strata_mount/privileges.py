@@ -1,6 +1,6 @@
 """What a server is left of privileges when it begins: none that it has no use for.
 
-strata opens its images by their names when it begins, and then only reads them, and reads and
+strata opens its images, and their trees, by their names when it begins, and then only reads them, and reads and
 writes the open /dev/fuse. So of root's capabilities it needs none, or, where an image could not be
 opened else, the one to read files whosever they are. It can gain none again, starts no other
 program, opens no files but its images and libraries, those only to read, and has the calls below
@@ -94,14 +94,14 @@ class Confinement:
     may lead into that. A relay, which starts the program, is no direct one, and neither is a
     script: they open other files, too, and make other calls."""
 
-    def __init__(self, program, images, is_direct):
-        self.program, self.images = program, images
+    def __init__(self, program, files, is_direct):
+        self.program, self.files = program, files
         is_held = is_direct and is_elf(program)
         self.has_filter = is_held and os.uname().machine == MACHINE_NAME
-        self.rules = landlock.rules_for(program, images) if is_held else None
+        self.rules = landlock.rules_for(program, files) if is_held else None
 
     def enter(self):
-        """Leaves this process, which becomes the server, what it needs to open its images. The
+        """Leaves this process, which becomes the server, what it needs to open its files. The
         program must be one that it may start without privileges, else it keeps them."""
         own = permitted()
         if own:
@@ -109,7 +109,7 @@ class Confinement:
             if not os.access(self.program, os.X_OK, effective_ids=True):
                 set_capabilities(own, own)
                 return
-            are_readable = all(os.access(it, os.R_OK, effective_ids=True) for it in self.images)
+            are_readable = all(os.access(it, os.R_OK, effective_ids=True) for it in self.files)
             needed = NONE if are_readable else READ_SEARCH & own
             set_capabilities(needed, needed)
         called(libc.prctl(PR_SET_NO_NEW_PRIVS, 1, 0, 0, 0))

@@ -30,13 +30,13 @@ ANY_PLACE = os.O_PATH | os.O_DIRECTORY | os.O_NOFOLLOW | os.O_CLOEXEC
 # --- what a stack is ---
 
 def identity_of(plan):
-    """What a plan would show, as bytes: the images' files, by device, inode, size and times, and
-    all options, whatever the images are called; None where an image is no file, or is missing. A
-    layer of a store never changes, so that its file stands for its digest."""
+    """What a plan would show, as bytes: the images' files and their trees', by device, inode, size
+    and times, and all options, the digests among them, whatever the images are called; None where
+    an image or a tree is no file, or is missing. A layer of a store never changes, so that its file stands for its digest."""
     files = []
-    for image in plan.images:
+    for path in plan.files():
         try:
-            it = os.stat(image)
+            it = os.stat(path)
         except OSError:
             return None
         if not stat.S_ISREG(it.st_mode):
@@ -192,9 +192,9 @@ def hold_unshared(plan):
     """Looks that a stack may be mounted that is not shared: strata says what is wrong with an
     image, and what is no file gives its bytes to one mount alone. Without a folder it may not."""
     if plan.is_printed:
-        for image in plan.images:
-            if not stat.S_ISREG(os.stat(image).st_mode):
-                raise OSError(0, "is not a file and cannot be shared", image)
+        for path in plan.files():
+            if not stat.S_ISREG(os.stat(path).st_mode):
+                raise OSError(0, "is not a file and cannot be shared", path)
 
 
 def attempt(plan):
