@@ -42,43 +42,43 @@ pub(crate) const MOUNTING: &str = "To mount, see strata-mount(1).";
 const WORKERS: Argument = Argument {
     name: "workers",
     form: Form::Value("N"),
-    help: "Use at most N threads for long replies, 1 to 64 [default: 4]",
+    help: "Use at most N threads for long\nreplies, 1 to 64 [default: 4]",
 };
 
 const BATCH: Argument = Argument {
     name: "batch",
     form: Form::Value("N"),
-    help: "Take at most N requests into a batch, 1 to 256 [default: 16]",
+    help: "Take at most N requests into a\nbatch, 1 to 256 [default: 16]",
 };
 
 const REQUESTS: Argument = Argument {
     name: "requests",
     form: Form::Value("FILE"),
-    help: "Read requests from FILE instead of standard input",
+    help: "Read requests from FILE instead of\nstandard input",
 };
 
 const REPLIES: Argument = Argument {
     name: "replies",
     form: Form::Value("FILE"),
-    help: "Write replies to FILE instead of standard output",
+    help: "Write replies to FILE instead of\nstandard output",
 };
 
 const BALANCES: Argument = Argument {
     name: "balances",
     form: Form::Value("FILE"),
-    help: "Write the lookups that the client still holds to FILE at the end",
+    help: "Write the lookups that the client\nstill holds to FILE at the end",
 };
 
 const DEVICE: Argument = Argument {
     name: "device",
     form: Form::Flag,
-    help: "Serve an open /dev/fuse, which is standard input and output",
+    help: "Serve an open /dev/fuse, which is\nstandard input and output",
 };
 
 const READERS: Argument = Argument {
     name: "readers",
     form: Form::Value("N"),
-    help: "Read the device with N threads, 1 to 64 [default: 1]",
+    help: "Read the device with N threads,\n1 to 64 [default: 1]",
 };
 
 const LISTEN: Argument = Argument {
@@ -90,55 +90,55 @@ const LISTEN: Argument = Argument {
 const SESSIONS: Argument = Argument {
     name: "sessions",
     form: Form::Value("N"),
-    help: "Serve N sessions, one after another, 1 to 65535 [default: 1]",
+    help: "Serve N sessions, one after\nanother, 1 to 65535 [default: 1]",
 };
 
 const LASTING: Argument = Argument {
     name: "lasting",
     form: Form::Flag,
-    help: "Tell the client that the tree never changes, so that it caches everything",
+    help: "Let the client cache everything,\nsince the tree never changes",
 };
 
 const STRICT: Argument = Argument {
     name: "strict",
     form: Form::Flag,
-    help: "Verify the checksum of every header, too",
+    help: "Verify every header's checksum, too",
 };
 
 const ATTRIBUTES: Argument = Argument {
     name: "attributes",
     form: Form::Flag,
-    help: "Read and show owners, modes and times from attribute trailers",
+    help: "Read and show owners, modes and\ntimes from attribute trailers",
 };
 
 const AS_MOUNTED: Argument = Argument {
     name: "as-mounted",
     form: Form::Flag,
-    help: "Check as a mount does: with --attributes, and at most 128 images",
+    help: "Check as a mount does: at most 128\nimages, with --attributes",
 };
 
 const WHOLE: Argument = Argument {
     name: "whole",
     form: Form::Flag,
-    help: "Read images in full into memory at startup",
+    help: "Read images in full into memory at\nstartup",
 };
 
 const IN_FILES: Argument = Argument {
     name: "in-files",
     form: Form::Flag,
-    help: "Leave small images in their files, too",
+    help: "Leave small images in files, too",
 };
 
 const DIGEST: Argument = Argument {
     name: "digest",
     form: Form::Values("DIGEST"),
-    help: "Accept only the image with this fs-verity digest; once for each IMAGE, '-' for any",
+    help: "Accept only the image with this\nfs-verity digest; once for each\nIMAGE, '-' for any",
 };
 
 const OWNER: Argument = Argument {
     name: "owner",
     form: Form::Value("UID:GID"),
-    help: "Set the owner of files that no trailer describes [default: 0:0]",
+    help: "Set the owner of files that no\ntrailer describes [default: 0:0]",
 };
 
 const IMAGE: Argument = Argument {
@@ -191,7 +191,7 @@ fn serve<'a>(alloc: Global) -> Result<Command<'a>, AllocError>
     command_with(
         alloc,
         "serve",
-        "Answer a stream of FUSE requests over the stacked images",
+        "Answer FUSE requests over the stacked images",
         &[
             WORKERS, BATCH, REQUESTS, REPLIES, BALANCES, DEVICE, READERS, LASTING, OWNER, IN_FILES,
             STRICT, ATTRIBUTES, WHOLE, DIGEST, IMAGE,
@@ -205,7 +205,7 @@ fn socket<'a>(alloc: Global) -> Result<Command<'a>, AllocError>
     command_with(
         alloc,
         "socket",
-        "Answer the clients of a Unix socket, one after another",
+        "Answer the clients of a Unix socket in turn",
         &[
             WORKERS, BATCH, LISTEN, SESSIONS, LASTING, OWNER, IN_FILES, STRICT, ATTRIBUTES, WHOLE,
             DIGEST, IMAGE,
