@@ -35,8 +35,8 @@ pub record IsOpenOver {F A : Type 0} (source : ImageData F A) (trailers : Traile
   pub source_is : image.source ≡ Some source
   pub kept : IsKeptOf (source_of source) trailers image
 
--- an image has let these data go: of a file, sealed or not, what the rules look at is held; all bytes
--- that were in memory are
+-- an image has let these data go: of a file, sealed or not, what the rules look at is held; all
+-- bytes that were in memory are
 abbrev pub IsLetGo : {F A : Type 0} → ImageData F A → Trailers → LoadedImage F A → Type 0
 IsLetGo (from.File file) trailers image =
     IsKeptOf unknown trailers image × (image.source ≡ None)

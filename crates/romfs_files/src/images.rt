@@ -68,9 +68,9 @@ impl<T: Drop> From<AllocFailed<T>> for FilesFault {
 /// read the lowest is reported, if there was memory for all below it. `Unread` comes where a file
 /// cannot be opened, as one too many, where a read fails or gives fewer bytes than the file has
 /// said, and where a device tells no end. That an image's full size goes on behind the end of its
-/// file is no fault here. `Unsealed` comes where an image or its tree is not the one that the digest
-/// names, or cannot be read; of a pipe no byte is read. `Memory` comes, too, where a trailer that is
-/// read ends at 2^32 or behind.
+/// file is no fault here. `Unsealed` comes where an image or its tree is not the one that the
+/// digest names, or cannot be read; of a pipe no byte is read. `Memory` comes, too, where a trailer
+/// that is read ends at 2^32 or behind.
 pub fn load<R: Files + Threads + Sync, A: Allocator + Copy + Send + Sync>(
     rt: &R,
     alloc: A,

@@ -13,14 +13,14 @@ use romfs_seal::{Digest, Files, SealFault, SealedImage};
 use std::alloc::Allocator;
 use std::os::unix::fs::FileExt;
 
-/// What is loaded of a file whose fs-verity digest is this one, with the file of its tree. Each block
-/// is hashed when it is read. All bytes are read, or what the rules look at, with the trailer where
-/// it is asked for; then both files stay open, or are let go. Of what is read the named file has the
-/// bytes, unless a read gives, in the place of a block, another with its digest.
+/// What is loaded of a file whose fs-verity digest is this one, with the file of its tree. Each
+/// block is hashed when it is read. All bytes are read, or what the rules look at, with the trailer
+/// where it is asked for; then both files stay open, or are let go. Of what is read the named file
+/// has the bytes, unless a read gives, in the place of a block, another with its digest.
 ///
-/// `Digest` and `Length` come where the files are not the named ones, `Unread` where a read fails or
-/// gives a block that has another digest, and `Memory` where memory was refused, or where a trailer
-/// ends at 2^32 or behind.
+/// `Digest` and `Length` come where the files are not the named ones, `Unread` where a read fails
+/// or gives a block that has another digest, and `Memory` where memory was refused, or where a
+/// trailer ends at 2^32 or behind.
 pub fn load_sealed<F: FileExt + Drop, A: Allocator + Copy>(
     alloc: A,
     image: InFile<F>,
@@ -44,7 +44,8 @@ fn load_under<F: FileExt + Drop, A: Allocator + Copy>(
     source: ImageData<F, A>,
     loading: Loading,
 ) -> Result<LoadedImage<F, A>, GatherFault>
-    ensures { (digest : Digest) → IsUnder digest source → IfOk result (IsLoadedUnder digest loading) }
+    ensures { (digest : Digest) → IsUnder digest source →
+        IfOk result (IsLoadedUnder digest loading) }
 {
     match loading {
         Loading::Whole => Ok(whole(all_of(alloc, &source)?)),

@@ -34,7 +34,8 @@ sha Sha512 bytes = sha512 bytes
 pub bytes_nil : AreBytes []
 bytes_nil = record { small = λ k below. absurd (omega arith) }
 
-cases_of : (x : ℕ) (xs : List ℕ) → x < 256 → AreBytes xs → (k : ℕ) → k < suc (length xs) → slice_index (x ∷ xs) k < 256
+cases_of : (x : ℕ) (xs : List ℕ) → x < 256 → AreBytes xs → (k : ℕ) → k < suc (length xs)
+    → slice_index (x ∷ xs) k < 256
 cases_of x xs small a zero below = small
 cases_of x xs small a (suc k) below = a.small k (omega arith)
 
@@ -48,7 +49,8 @@ bytes-append p q a b = record {
       elim (cases_lt k (length p)) [
         | inl less ↦ subst (λ x. x < 256) (sym (get_or_append_left p q 0 k less)) (a.small k less)
         | inr past ↦
-            let e : get_or (p ++ q) k 0 ≡ get_or q (k - length p) 0 = get_or-append_right p q (length p) k 0 refl past in
+            let e : get_or (p ++ q) k 0 ≡ get_or q (k - length p) 0 =
+            get_or-append_right p q (length p) k 0 refl past in
             subst (λ x. x < 256) (sym e) (b.small (k - length p) (omega arith))
       ];
 }
@@ -77,18 +79,27 @@ short_small : (words : List ℕ) (n : ℕ) → AreBytes (short.digest_bytes word
 unfolding short.digest_bytes
 short_small words zero = bytes_nil
 short_small words (suc n) =
-    bytes-append (short.digest_bytes words n) (to_be_bytes w32 (slice_index words n)) (short_small words n)
+    bytes-append (short.digest_bytes words n) (to_be_bytes w32 (slice_index words n))
+    (short_small words n)
     (half_small (slice_index words n) [] bytes_nil)
 
 long_small : (words : List ℕ) (n : ℕ) → AreBytes (long.digest_bytes words n)
 unfolding long.digest_bytes
 long_small words zero = bytes_nil
 long_small words (suc n) =
-    bytes-append (long.digest_bytes words n) (to_be_bytes w64 (slice_index words n)) (long_small words n)
-    (upper_small (slice_index words n) (byte_at 3 (slice_index words n) ∷ byte_at 2 (slice_index words n)
-    ∷ byte_at 1 (slice_index words n) ∷ byte_at 0 (slice_index words n) ∷ []) (half_small (slice_index words n) [] bytes_nil))
+    bytes-append (long.digest_bytes words n) (to_be_bytes w64 (slice_index words n))
+    (long_small words n)
+    (upper_small (slice_index words n) (byte_at 3 (slice_index words n)
+    ∷ byte_at 2 (slice_index words n) ∷ byte_at 1 (slice_index words n)
+    ∷ byte_at 0 (slice_index words n) ∷ []) (half_small (slice_index words n) [] bytes_nil))
 
 pub is_digest : (a : Algorithm) (m : List ℕ) → IsDigest a (sha a m)
 unfolding sha256 sha512
-is_digest Sha256 m = record { whole = length-sha256 m; bytes = short_small (short.final_hash initial_hash_256 m) 8 }
-is_digest Sha512 m = record { whole = length-sha512 m; bytes = long_small (long.final_hash initial_hash_512 m) 8 }
+is_digest Sha256 m = record {
+  whole = length-sha256 m;
+  bytes = short_small (short.final_hash initial_hash_256 m) 8;
+}
+is_digest Sha512 m = record {
+  whole = length-sha512 m;
+  bytes = long_small (long.final_hash initial_hash_512 m) 8;
+}

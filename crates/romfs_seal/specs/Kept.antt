@@ -17,8 +17,8 @@ pub record IsOpened (s : Seal) (levels lowest : ℕ) (kept : List ℕ) : Type 0 
   pub long : length kept ≡ kept_len s.algorithm levels (blocks_of s.size)
   pub bytes : AreBytes kept
   pub described : IsTop s levels kept
-  pub right : (xs : List ℕ) → IsUnmatched s xs
-      → (s.size ≡ length xs) × (kept ≡ kept_of s.algorithm s.hash levels (in_blocks xs) (blocks_of (length xs)))
+  pub right : (xs : List ℕ) → IsUnmatched s xs → (s.size ≡ length xs)
+      × (kept ≡ kept_of s.algorithm s.hash levels (in_blocks xs) (blocks_of (length xs)))
 
 -- the first of the blocks whose digests stand in one hash block with this one's
 abbrev pub first_under : Algorithm → ℕ → ℕ
@@ -28,16 +28,19 @@ first_under a i = fan a * (i / fan a)
 abbrev pub run_end : Algorithm → ℕ → ℕ
 run_end a place = 4096 * (first_under a (place / 4096) + fan a)
 
--- this leaf has the digests of the blocks from this one on: whatever block has the digest at its place there,
--- the digest of the file vouches for it; and it is that of the block of those bytes that are unmatched
+-- this leaf has the digests of the blocks from this one on: whatever block has the digest at its
+-- place there, the digest of the file vouches for it; and it is that of the block of those bytes
+-- that are unmatched
 pub record IsLeaf (s : Seal) (first : ℕ) (leaf : List ℕ) : Type 0 where
   pub long : length leaf ≡ 4096
   pub levels : ℕ
   pub has_levels : HasLevels s.algorithm (blocks_of s.size) levels
   pub top : List ℕ
   pub described : s.hash (descriptor s.algorithm s.size top) ≡ s.digest
-  pub vouches : (i : ℕ) (b : List ℕ) → first ≤ i → i < first + fan s.algorithm → i < blocks_of s.size
-      → s.hash b ≡ digest_at s.algorithm leaf (i - first) → Vouches s.algorithm s.hash levels top i b
+  pub vouches : (i : ℕ) (b : List ℕ) → first ≤ i → i < first + fan s.algorithm
+      → i < blocks_of s.size → s.hash b ≡ digest_at s.algorithm leaf (i - first)
+      → Vouches s.algorithm s.hash levels top i b
   pub sized : (xs : List ℕ) → IsUnmatched s xs → s.size ≡ length xs
-  pub right : (xs : List ℕ) → IsUnmatched s xs → (i : ℕ) → first ≤ i → i < first + fan s.algorithm → i < blocks_of s.size
+  pub right : (xs : List ℕ) → IsUnmatched s xs → (i : ℕ) → first ≤ i
+      → i < first + fan s.algorithm → i < blocks_of s.size
       → digest_at s.algorithm leaf (i - first) ≡ s.hash (block (in_blocks xs) i)

@@ -1,4 +1,5 @@
--- What a contract sees of a file that was opened under a digest of SHA-256 or SHA-512: the seal without its hash.
+-- What a contract sees of a file that was opened under a digest of SHA-256 or SHA-512: the seal
+-- without its hash.
 use Rattle.std.proofs.Common.{◌≡◌, sym, ap, ℕ, List}
 use Rattle.devices.specs.Given.{Given}
 use Rattle.devices.specs.Seal.{Seal}
@@ -14,11 +15,24 @@ pub record Named : Type 0 where
   pub digest : List ℕ
 
 abbrev pub named : Seal → Named
-named s = record { image = s.image; tree = s.tree; algorithm = s.algorithm; size = s.size; digest = s.digest }
+named s = record {
+  image = s.image;
+  tree = s.tree;
+  algorithm = s.algorithm;
+  size = s.size;
+  digest = s.digest;
+}
 
 -- and with it
 abbrev pub with_hash : Named → Hash → Seal
-with_hash n h = record { image = n.image; tree = n.tree; algorithm = n.algorithm; hash = h; size = n.size; digest = n.digest }
+with_hash n h = record {
+  image = n.image;
+  tree = n.tree;
+  algorithm = n.algorithm;
+  hash = h;
+  size = n.size;
+  digest = n.digest;
+}
 
 abbrev pub seal_of : Named → Seal
 seal_of n = with_hash n (sha n.algorithm)

@@ -10,14 +10,15 @@ pub record AreTwins (h : Hash) (b c : List ℕ) : Type 0 where
   pub same : h c ≡ h b
   pub other : c ≢ b
 
--- a block with this index was met, and blocks on the way from it to the top: one of them is not what
--- stands there in the tree of n blocks, and has its digest
-unfoldable pub IsForged : (a : Algorithm) (h : Hash) (levels : ℕ) (xs : List ℕ) (n : ℕ) (top : List ℕ) (i : ℕ) (b : List ℕ)
-    → Vouches a h levels top i b → Type 0
+-- a block with this index was met, and blocks on the way from it to the top: one of them is not
+-- what stands there in the tree of n blocks, and has its digest
+unfoldable pub IsForged : (a : Algorithm) (h : Hash) (levels : ℕ) (xs : List ℕ) (n : ℕ)
+    (top : List ℕ) (i : ℕ) (b : List ℕ) → Vouches a h levels top i b → Type 0
 unfolding Vouches
 IsForged a h zero xs n top i b v = AreTwins h xs b
 IsForged a h (suc levels) xs n top i b v =
-    AreTwins h (block xs i) b ⊎ IsForged a h levels (above a h xs n) (blocks_above a n) top (i / fan a) (v.0) (v.2)
+    AreTwins h (block xs i) b
+    ⊎ IsForged a h levels (above a h xs n) (blocks_above a n) top (i / fan a) (v.0) (v.2)
 
 -- two lists of n blocks, or two of their levels, have at one place two blocks with one digest
 unfoldable pub HaveTwins : Algorithm → Hash → ℕ → List ℕ → List ℕ → ℕ → Type 0
@@ -28,5 +29,7 @@ HaveTwins a h (suc levels) xs ys n =
 
 -- two files, each with this many levels: their descriptors are twins, or their trees have twins
 pub record AreForged (a : Algorithm) (h : Hash) (xs ys : List ℕ) (k levels : ℕ) : Type 0 where
-  pub twins : AreTwins h (descriptor a (length xs) (root_of a h k xs)) (descriptor a (length ys) (root_of a h levels ys))
+  pub twins :
+      AreTwins h (descriptor a (length xs) (root_of a h k xs))
+      (descriptor a (length ys) (root_of a h levels ys))
       ⊎ HaveTwins a h k (in_blocks xs) (in_blocks ys) (blocks_of (length xs))

@@ -30,7 +30,8 @@ pub trait NamedFiles {
     /// Whether these bytes have the digest that is reported.
     fn is_described(&self, descriptor: &[u8]) -> bool
         ensures is { IsTrue result → (seal self.now).hash descriptor.now ≡ (seal self.now).digest }
-        ensures not { result ≡ false → (seal self.now).hash descriptor.now ≢ (seal self.now).digest };
+        ensures not { result ≡ false →
+            (seal self.now).hash descriptor.now ≢ (seal self.now).digest };
 
     /// Fills a block with this many bytes of the file, and zeros behind them.
     fn fill_image(&self, block: &mut [u8], count: usize, place: u64) -> Result<(), Unread>

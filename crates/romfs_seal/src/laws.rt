@@ -6,8 +6,8 @@ ghost use Rattle.devices.specs.Seal.{Seal};
 ghost use Rattle.devices.specs.Read.{IsUnmatched};
 ghost use Rattle.devices.specs.Honest.{IsHonest};
 
-/// It is met by any bytes that are held with their tree, under any hash. So of these what is read is
-/// right, and no premise is left.
+/// It is met by any bytes that are held with their tree, under any hash. So of these what is read
+/// is right, and no premise is left.
 pub fn held_bytes_are_unmatched()
     ensures { (s : Seal) (xs : List ℕ) → ((m : List ℕ) → IsDigest s.algorithm (s.hash m)) →
         IsHonest s xs → IsUnmatched s xs }

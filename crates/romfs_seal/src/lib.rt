@@ -10,13 +10,13 @@
 //!   give. [`descriptor_of`] makes the descriptor of a file, whose digest is the file's.
 //! - The definitions are of `devices`: `Tree` has the tree over whole blocks, `File` the descriptor
 //!   and the digest of a file; [`examples`] computes digests that `fsverity digest` printed.
-//!   `Vouched` says what a digest says of blocks that were read, by the blocks of digests on the way
-//!   to it; [`tree_laws`] says what follows.
+//!   `Vouched` says what a digest says of blocks that were read, by the blocks of digests on the
+//!   way to it; [`tree_laws`] says what follows.
 //! - [`SealedImage`] is what others see of a file that was opened, its seal alone.
 //!
 //! What is read is right, unless a read gives, in place of a block of the file or of its tree,
-//! another block with that block's digest (`Read` of `devices`). Nothing is assumed of the hash alone.
-//! [`laws`] says that this holds of bytes in memory.
+//! another block with that block's digest (`Read` of `devices`). Nothing is assumed of the hash
+//! alone. [`laws`] says that this holds of bytes in memory.
 #![tactic(auto)]
 
 mod descriptor;

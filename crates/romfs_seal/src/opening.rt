@@ -156,7 +156,8 @@ fn root_over<F: NamedFiles, A: Allocator + Copy>(
 /// The digest of the only block; of no bytes zeros.
 fn only_digest<F: NamedFiles, A: Allocator>(alloc: A, files: &F) -> Result<Vec<u8, A>, SealFault>
     requires { (F.seal files.now).size ≤ 4096 }
-    ensures ok { IfOk result (λ kept. MayBeOnly (F.seal files.now) (F.seal files.now).size kept.items) }
+    ensures ok { IfOk result (λ kept.
+        MayBeOnly (F.seal files.now) (F.seal files.now).size kept.items) }
     ensures err { IfErr result (λ fault. (fault ≡ Memory) ⊎ IsTampered (F.seal files.now)) }
 {
     let size = files.size();
@@ -190,7 +191,8 @@ fn upper_level<F: NamedFiles, A: Allocator>(
     requires small { (F.seal files.now).size < 2 ^ 63 }
     requires many { 2 ≤ levels }
     requires few { levels ≤ 9 }
-    requires has { HasLevels (F.seal files.now).algorithm (blocks_of (F.seal files.now).size) levels }
+    requires has { HasLevels (F.seal files.now).algorithm
+        (blocks_of (F.seal files.now).size) levels }
     ensures ok { IfOk result (λ kept. MayBeKept (F.seal files.now) levels kept.items) }
     ensures err { IfErr result (λ fault. (fault ≡ Memory) ⊎ IsTampered (F.seal files.now)) }
 {
@@ -214,7 +216,8 @@ fn load_kept<F: NamedFiles, A: Allocator>(
 ) -> Result<Vec<u8, A>, SealFault>
     requires small { (F.seal files.now).size < 2 ^ 63 }
     requires few { levels ≤ 9 }
-    requires has { HasLevels (F.seal files.now).algorithm (blocks_of (F.seal files.now).size) levels }
+    requires has { HasLevels (F.seal files.now).algorithm
+        (blocks_of (F.seal files.now).size) levels }
     ensures ok { IfOk result (λ kept. MayBeKept (F.seal files.now) levels kept.items) }
     ensures err { IfErr result (λ fault. (fault ≡ Memory) ⊎ IsTampered (F.seal files.now)) }
 {
@@ -252,15 +255,15 @@ fn is_top<F: NamedFiles, A: Allocator + Copy>(
 }
 
 impl<F: NamedFiles + Drop, A: Allocator + Copy> Sealed<F, A> {
-    /// Opens a file under its digest. Of its tree the level above the lowest hash blocks is read, and
-    /// held against the digest by what is computed of it; the lowest ones are read later. Where that
-    /// is refused, memory was, or the files are not the named ones.
+    /// Opens a file under its digest. Of its tree the level above the lowest hash blocks is read,
+    /// and held against the digest by what is computed of it; the lowest ones are read later. Where
+    /// that is refused, memory was, or the files are not the named ones.
     ///
-    /// The size is as much part of the digest as the tree: hash blocks that are shown as the data of
-    /// a shorter file have the same root hash.
+    /// The size is as much part of the digest as the tree: hash blocks that are shown as the data
+    /// of a shorter file have the same root hash.
     ///
-    /// Memory is taken for a 16,384th of the bytes, by SHA-512 for a 4,096th; and while the digest is
-    /// computed for a 128th of that, or a 64th.
+    /// Memory is taken for a 16,384th of the bytes, by SHA-512 for a 4,096th; and while the digest
+    /// is computed for a 128th of that, or a 64th.
     pub fn open(alloc: A, files: F) -> Result<Sealed<F, A>, SealFault>
         ensures ok { IfOk result (λ opened. opened.files ≡ files) }
         ensures err { IfErr result (λ fault. (fault ≡ Memory) ⊎ IsTampered (F.seal files)) }

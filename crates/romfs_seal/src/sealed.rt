@@ -113,7 +113,8 @@ impl<F: NamedFiles, A: Allocator> Sealed<F, A> {
     fn read_run(&self, leaf: &[u8], first: u64, place: u64, room: &mut [u8]) -> Result<(), Unread>
         requires within { place + length room.old ≤ (F.seal self.now.files).size }
         requires from { 4096 * first ≤ place }
-        requires under { place + length room.old ≤ 4096 * (first + fan (F.seal self.now.files).algorithm) }
+        requires under { place + length room.old
+            ≤ 4096 * (first + fan (F.seal self.now.files).algorithm) }
         requires leaf { IsLeaf (F.seal self.now.files) first leaf.now }
         ensures ok { OnOk result (AreRead (F.seal self.now.files) place room.new) }
         ensures err { OnErr result (IsTampered (F.seal self.now.files)) }
@@ -161,18 +162,19 @@ impl<F: NamedFiles, A: Allocator> Sealed<F, A> {
     }
 
     /// Puts the bytes from an offset on at the front of the room, and says how many: all that there
-    /// is room for, or all up to the end. `Unread` comes where a read failed or was short, and where
-    /// a block or the hash block over it has not the digest that it should have; what the room holds
-    /// then, nobody says.
+    /// is room for, or all up to the end. `Unread` comes where a read failed or was short, and
+    /// where a block or the hash block over it has not the digest that it should have; what the
+    /// room holds then, nobody says.
     ///
     /// It takes no memory. It reads each block that it touches once, and the lowest hash block over
     /// them once for each 512 KiB, by SHA-512 for each 256 KiB.
     pub fn read_at(&self, room: &mut [u8], offset: u64) -> Result<usize, Unread>
         ensures count { IfOk result (λ count. count ≡ min (length room.old)
             ((F.seal self.now.files).size - offset)) }
-        ensures read { IfOk result (λ count. AreRead (F.seal self.now.files) offset (take count room.new)) }
-        ensures unmatched { IfOk result (λ count. (xs : List ℕ) → IsUnmatched (F.seal self.now.files) xs →
-            take count room.new ≡ take count (drop offset xs)) }
+        ensures read { IfOk result (λ count.
+            AreRead (F.seal self.now.files) offset (take count room.new)) }
+        ensures unmatched { IfOk result (λ count. (xs : List ℕ) →
+            IsUnmatched (F.seal self.now.files) xs → take count room.new ≡ take count (drop offset xs)) }
         ensures err { OnErr result (IsTampered (F.seal self.now.files)) }
     {
         let size = self.files.size();
@@ -214,7 +216,8 @@ fn first_of(algorithm: Algorithm, block: u64) -> u64
     }
 }
 
-/// The end of the blocks whose digests stand in one hash block with that of the block at this place.
+/// The end of the blocks whose digests stand in one hash block with that of the block at this
+/// place.
 fn end_of_run(algorithm: Algorithm, place: u64) -> u64
     requires { place < 2 ^ 63 }
     ensures end { result ≡ run_end algorithm place }

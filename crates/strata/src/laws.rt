@@ -34,9 +34,10 @@ use std::alloc::Allocator;
 use std::os::unix::fs::FileExt;
 
 /// A status other than 0 is one of 1 to 5. With 2 the arguments are no command of the program, or
-/// have a malformed number or digest, a number out of range, or not a digest for each image, or name
-/// a file beside the device, and no device was touched. With 3 the images are none or more than 128,
-/// or one is broken, or one that has a digest is not as sealed, which is the fault of the run.
+/// have a malformed number or digest, a number out of range, or not a digest for each image, or
+/// name a file beside the device, and no device was touched. With 3 the images are none or more
+/// than 128, or one is broken, or one that has a digest is not as sealed, which is the fault of the
+/// run.
 pub fn statuses_tell<A: Allocator>()
     ensures range { (words : List (List ℕ)) (n : ℕ) (old new : Devices) →
         EndsWith A words n old new → (1 ≤ n) × (n ≤ 5) }
@@ -103,8 +104,8 @@ pub fn devices_are_served_lastingly()
 
 /// If this was gathered from images for a line, and its data are read from sources that hold
 /// exactly these images, they are good, and a request may only get the reply that is defined over
-/// them. This was gathered so from whatever images the sources of the line show; and these are good,
-/// and served as they are, or with EIO where data may be lacking.
+/// them. This was gathered so from whatever images the sources of the line show; and these are
+/// good, and served as they are, or with EIO where data may be lacking.
 pub fn lines_are_served_as_over_their_files()
     ensures good { (line : Line) (kept images : List (List ℕ)) (by : Sourced) →
         ArePrepared line kept by → WereGatheredFor (profile_of line) images kept →

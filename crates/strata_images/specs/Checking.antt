@@ -1,5 +1,5 @@
--- What a check leaves behind: the sizes of good images in the output, or the fault of the first that
--- is not good.
+-- What a check leaves behind: the sizes of good images in the output, or the fault of the first
+-- that is not good.
 use Rattle.std.specs.Prelude.{◌≡◌, ◌<◌, ◌≤◌, ◌⊎◌, ℕ, true, List, ◌∷◌, ◌++◌, length, map, All}
 use Rattle.romfs_format.specs.declared.rule.Profile.{Profile}
 use Rattle.romfs_format.specs.declared.rule.ImageFault.{ImageFault}
@@ -39,8 +39,8 @@ pub record IsFirstRefused (profile : Profile) (images : List (List ℕ))
 abbrev pub IsFirstFault : Profile → List (List ℕ) → ImagesFault → Type 0
 IsFirstFault profile images fault = IsFirstRefused profile images fault ⊎ (fault ≡ Memory)
 
--- images keep the rules of a line, and these are their sizes; if the line accepts what a mount does,
--- there are at most 128
+-- images keep the rules of a line, and these are their sizes; if the line accepts what a mount
+-- does, there are at most 128
 pub record AreAccepted (line : Line) (images : List (List ℕ)) (sizes : List ℕ) : Type 0 where
   pub sizes_are : AreSizes (profile_of line) images sizes
   pub few : line.as_mounted ≡ true → length images ≤ MAX_LAYERS

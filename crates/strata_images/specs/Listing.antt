@@ -27,8 +27,8 @@ pub record IsListLost (profile : Profile) (images : List (List ℕ)) (fault : Im
   pub stacked : AreStacked profile ROOT images stack
   pub broken : IsBrokenOff stack old new list.Write
 
--- a list stopped: the images are not stacked, or memory ran out, and the output is as it was; or the
--- output failed
+-- a list stopped: the images are not stacked, or memory ran out, and the output is as it was; or
+-- the output failed
 abbrev pub IsNotListed : Profile → List (List ℕ) → ImagesFault → SinkState → SinkState → Type 0
 IsNotListed profile images fault old new =
     ((AreNotStacked profile images fault ⊎ (fault ≡ Memory)) × (new ≡ old))

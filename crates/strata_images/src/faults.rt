@@ -1,5 +1,5 @@
-//! Why the images of a line are not used, or what is said of them is not printed: a line and an exit
-//! status each.
+//! Why the images of a line are not used, or what is said of them is not printed: a line and an
+//! exit status each.
 
 ghost use Rattle.std.specs.Prelude.{◌≡◌};
 ghost use Rattle.strata_images.specs.Faults.{status_of};

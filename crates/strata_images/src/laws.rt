@@ -70,8 +70,8 @@ pub fn whole_images_are_judged_as_their_files<F: FileExt, A: Allocator>()
 {}
 
 /// Under the digests of a line no other images are served: those that its sources show have these
-/// digests, each its own; and an image that is read in full is the one that has the digest, unless a
-/// read gave, in the place of a block, another with its digest.
+/// digests, each its own; and an image that is read in full is the one that has the digest, unless
+/// a read gave, in the place of a block, another with its digest.
 pub fn images_have_their_digests()
     ensures shown { (line : Line) (kept images : List (List ℕ)) (by : Sourced)
         (p : ArePrepared line kept by) → (AreReadWhole line p.sources.told → ⊥) →

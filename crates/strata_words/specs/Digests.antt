@@ -20,7 +20,8 @@ digits_in = after_first (λ c. c == 58)
 -- the digest of these hex digits: 64 of SHA-256, or 128 of SHA-512
 abbrev pub digest_of : Text → Text → Option Digest
 digest_of algorithm digits =
-    if bytes_eq algorithm (codes "sha256") then option_map Short (result_ok (decode_sized digits 32))
+    if bytes_eq algorithm (codes "sha256")
+    then option_map Short (result_ok (decode_sized digits 32))
     else if bytes_eq algorithm (codes "sha512")
     then option_map Long (result_ok (decode_sized digits 64))
     else None

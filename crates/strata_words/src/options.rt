@@ -85,8 +85,8 @@ pub enum NoLine {
 /// What is wrong with the arguments.
 #[derive(Drop)]
 pub enum LineFault {
-    /// The arguments are no command of the program, have a malformed number or digest, a number
-    /// out of range, or more or fewer digests than images, or ask for help. The text is for the user.
+    /// The arguments are no command of the program, have a malformed number or digest, a number out
+    /// of range, or more or fewer digests than images, or ask for help. The text is for the user.
     Usage { text: String },
     /// Memory ran out.
     Memory,

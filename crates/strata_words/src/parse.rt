@@ -53,8 +53,8 @@ pub fn words<R: Env + AllocGlobal>(rt: &R) -> Result<Vec<String>, LineFault> {
 /// value of each option or its default, and all images in order. A number is decimal, in digits
 /// alone, from 1 to 64 (`--workers`, `--readers`), 256 (`--batch`) or 65,535 (`--sessions`), and an
 /// owner is two numbers below 2^32 joined by a colon. The digests are one for each image in their
-/// order, or none: `sha256:` before 64 hex digits, `sha512:` before 128, or `-` for an image without
-/// a digest. For `socket` the line has the path of the socket.
+/// order, or none: `sha256:` before 64 hex digits, `sha512:` before 128, or `-` for an image
+/// without a digest. For `socket` the line has the path of the socket.
 ///
 /// Arguments that ask for the version give `Version`. `Usage` means that the arguments are no
 /// command of the program (a request for help is none), have another number or digest, or more or
@@ -163,7 +163,8 @@ fn images<'a>(alloc: Global, found: &ArgMatches<'a>) -> Result<Vec<&'a str>, All
     ensures are { IfOk result (λ images.
         texts images.items ≡ images_in (rows_in found.now)) }
     ensures some { IfOk result (λ images. 1 ≤ vec_len images) }
-    ensures count { IfOk result (λ images. vec_len images ≡ length (images_in (rows_in found.now))) }
+    ensures count { IfOk result (λ images.
+        vec_len images ≡ length (images_in (rows_in found.now))) }
 {
     let images = found.get_strs("image").unwrap().to_vec(alloc)?;
     Ok(images)
