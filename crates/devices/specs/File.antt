@@ -26,10 +26,12 @@ number Sha512 = 2
 unfoldable pub field : ℕ → List ℕ → List ℕ
 field n xs = xs ++ replicate (n - length xs) 0
 
--- version, hash_algorithm, log_blocksize, salt_size; __reserved_0x04; data_size; root_hash; salt; __reserved
+-- version, hash_algorithm, log_blocksize, salt_size; __reserved_0x04; data_size; root_hash; salt;
+-- __reserved
 unfoldable pub descriptor : Algorithm → ℕ → List ℕ → List ℕ
 descriptor a size root =
-    (1 ∷ number a ∷ 12 ∷ 0 ∷ []) ++ (replicate 4 0 ++ (to_le_bytes w64 size ++ (field 64 root ++ (replicate 32 0 ++ replicate 144 0))))
+    (1 ∷ number a ∷ 12 ∷ 0 ∷ []) ++ (replicate 4 0 ++ (to_le_bytes w64 size
+    ++ (field 64 root ++ (replicate 32 0 ++ replicate 144 0))))
 
 -- the root hash of a file
 abbrev pub root_of : Algorithm → Hash → ℕ → List ℕ → List ℕ

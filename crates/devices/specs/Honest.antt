@@ -10,7 +10,8 @@ pub record IsHonest (s : Seal) (xs : List ℕ) : Type 0 where
   pub of : IsFileDigest s.algorithm s.hash xs s.digest
   pub size : s.size ≡ length xs
   pub image_held : s.image ≡ these xs
-  pub tree_held : s.tree ≡ these (tree s.algorithm s.hash of.levels (in_blocks xs) (blocks_of (length xs)))
+  pub tree_held :
+      s.tree ≡ these (tree s.algorithm s.hash of.levels (in_blocks xs) (blocks_of (length xs)))
 
 -- they are not
 pub record IsTampered (s : Seal) : Type 0 where

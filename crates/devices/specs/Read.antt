@@ -1,4 +1,5 @@
--- What reads under a digest give: no premise is on the hash alone, but on those bytes that reads may give.
+-- What reads under a digest give: no premise is on the hash alone, but on those bytes that reads
+-- may give.
 use Rattle.std.specs.Prelude.{◌≡◌, ◌≢◌, ℕ, ◌+◌, ◌*◌, ◌<◌, List, length, slice_index}
 use Rattle.devices.specs.Given.{Given, Allows}
 use Rattle.devices.specs.Tree.{Hash, AreBytes, HasLevels, block, blocks_above, above}
@@ -12,16 +13,18 @@ pub record IsAloneAt (source : Given) (place : ℕ) (h : Hash) (b : List ℕ) : 
       → h (filled c) ≡ h (filled b) → c ≡ b
 
 -- the digest is that of a file of these bytes. And what reads may give of the upper levels makes,
--- with the size that was told, no other descriptor with that digest; and no read gives, in the place of
--- a block or of one of the lowest hash blocks, another with its digest
+-- with the size that was told, no other descriptor with that digest; and no read gives, in the
+-- place of a block or of one of the lowest hash blocks, another with its digest
 pub record IsUnmatched (s : Seal) (xs : List ℕ) : Type 0 where
   pub of : IsFileDigest s.algorithm s.hash xs s.digest
-  pub top : (levels : ℕ) (kept : List ℕ) → HasLevels s.algorithm (blocks_of s.size) levels → MayBeKept s levels kept
-      → IsTop s levels kept
-      → (s.size ≡ length xs) × (kept ≡ kept_of s.algorithm s.hash levels (in_blocks xs) (blocks_of (length xs)))
-  pub blocks : (i : ℕ) → i < blocks_of (length xs) → IsAloneAt s.image (4096 * i) s.hash (block xs i)
+  pub top : (levels : ℕ) (kept : List ℕ) → HasLevels s.algorithm (blocks_of s.size) levels
+      → MayBeKept s levels kept → IsTop s levels kept → (s.size ≡ length xs)
+      × (kept ≡ kept_of s.algorithm s.hash levels (in_blocks xs) (blocks_of (length xs)))
+  pub blocks : (i : ℕ) → i < blocks_of (length xs)
+      → IsAloneAt s.image (4096 * i) s.hash (block xs i)
   pub hash_blocks : of.levels ≢ 0 → (i : ℕ) → i < blocks_above s.algorithm (blocks_of (length xs))
-      → IsAloneAt s.tree (lowest_place s.algorithm of.levels (blocks_of (length xs)) + 4096 * i) s.hash
+      → IsAloneAt s.tree
+      (lowest_place s.algorithm of.levels (blocks_of (length xs)) + 4096 * i) s.hash
       (block (above s.algorithm s.hash (in_blocks xs) (blocks_of (length xs))) i)
 
 -- the byte at a place is one for which the digest vouches, and that of the bytes whose digest it is

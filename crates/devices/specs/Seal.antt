@@ -1,11 +1,13 @@
--- What is read under a digest, and where the tree's levels stand in its file: as `fsverity digest --out-merkle-tree` writes them.
+-- What is read under a digest, and where the tree's levels stand in its file: as `fsverity digest
+-- --out-merkle-tree` writes them.
 use Rattle.std.specs.Prelude.{◌≡◌, ℕ, zero, suc, ◌*◌, List, length, replicate}
 use Rattle.devices.specs.Given.{Given, Allows}
 use Rattle.devices.specs.declared.algorithm.Algorithm.{Algorithm}
 use Rattle.devices.specs.Tree.{Hash, AreBytes, digest_size, blocks_above, above, root, root_hash, tree_blocks}
 use Rattle.devices.specs.File.{blocks_of, filled, descriptor}
 
--- what reads of the file and of the file of its tree may give; how it is hashed; its size and digest
+-- what reads of the file and of the file of its tree may give; how it is hashed; its size and
+-- digest
 pub record Seal : Type 0 where
   pub image : Given
   pub tree : Given
@@ -60,9 +62,11 @@ MayBeKept s zero kept = MayBeOnly s s.size kept
 MayBeKept s (suc zero) kept = MayBeFirst s kept
 MayBeKept s (suc (suc levels)) kept =
     (length kept ≡ kept_len s.algorithm (suc (suc levels)) (blocks_of s.size))
-    × Allows s.tree (4096 * tree_blocks s.algorithm levels (blocks_above s.algorithm (blocks_above s.algorithm (blocks_of s.size)))) kept
+    × Allows s.tree (4096 * tree_blocks s.algorithm levels
+    (blocks_above s.algorithm (blocks_above s.algorithm (blocks_of s.size)))) kept
 
 -- with the size that is reported, this is kept of a file with the digest that is reported
 abbrev pub IsTop : Seal → ℕ → List ℕ → Type 0
 IsTop s levels kept =
-    s.hash (descriptor s.algorithm s.size (kept_root s.algorithm s.hash levels kept (blocks_of s.size))) ≡ s.digest
+    s.hash (descriptor s.algorithm s.size
+    (kept_root s.algorithm s.hash levels kept (blocks_of s.size))) ≡ s.digest

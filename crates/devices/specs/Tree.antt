@@ -1,4 +1,5 @@
--- Documentation/filesystems/fsverity.rst, "Merkle tree": the tree of digests over blocks of 4,096 bytes, with no salt.
+-- Documentation/filesystems/fsverity.rst, "Merkle tree": the tree of digests over blocks of 4,096
+-- bytes, with no salt.
 use Rattle.std.specs.Prelude.{◌≡◌, ℕ, zero, suc, ◌+◌, ◌-◌, ◌*◌, ◌/◌, ◌^◌, ◌<◌, ◌≤◌, List, [], ◌++◌, length, take, drop, replicate, slice_index}
 use Rattle.devices.specs.declared.algorithm.Algorithm.{Algorithm}
 use Rattle.devices.specs.declared.algorithm.Algorithm.TheVariants.{Sha256, Sha512}

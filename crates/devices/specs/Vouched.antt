@@ -13,7 +13,8 @@ Vouches a h (suc levels) top i b =
     × (h b ≡ digest_at a upper (i % fan a))
 
 -- the byte at a place is that of a block for which the digest of a file of this size vouches
-pub record VouchesAt (a : Algorithm) (h : Hash) (size : ℕ) (digest : List ℕ) (place byte : ℕ) : Type 0 where
+pub record VouchesAt (a : Algorithm) (h : Hash) (size : ℕ) (digest : List ℕ)
+    (place byte : ℕ) : Type 0 where
   pub within : place < size
   pub top : List ℕ
   pub described : h (descriptor a size top) ≡ digest
