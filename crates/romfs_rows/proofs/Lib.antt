@@ -6,3 +6,5 @@ pub mod Slices
 pub mod Tables
 pub mod Runs
 pub mod Halves
+pub mod Listed
+pub mod OneList
