@@ -254,8 +254,10 @@ impl<A: Allocator> Table<A> {
             (λ found. xattrs_at self.now number ≡ found) }
         ensures right { IfSome result (λ found. is_list found ≡ true) }
     {
-        let node = node_at(&self.nodes, number)?;
-        self.xattrs.of_node(number, node)
+        match node_at(&self.nodes, number) {
+            Some(node) => self.xattrs.of_node(number, node),
+            None => None,
+        }
     }
 
     /// Whether any node has an extended attribute.

@@ -76,8 +76,10 @@ impl<A: Allocator> NodeXattrs<A> {
             (λ found. xattrs_held self.now number node.now ≡ found) }
         ensures right { IfSome result (λ found. is_list found ≡ true) }
     {
-        let position = *numbered(&self.positions, number)?;
-        list_at(&self.layers, node.place.layer as usize, position)
+        match numbered(&self.positions, number) {
+            Some(position) => list_at(&self.layers, node.place.layer as usize, *position),
+            None => None,
+        }
     }
 
     /// Whether a node has some.
@@ -190,8 +192,13 @@ fn list_at<A: Allocator>(
         (λ found. list_held layers.now layer position ≡ found) }
     ensures right { IfSome result (λ found. is_list found ≡ true) }
 {
-    let lists = layers.get(layer)?;
-    lists.of_row(position.checked_sub(1)?)
+    if position == 0 {
+        return None;
+    }
+    match layers.get(layer) {
+        Some(lists) => lists.of_row(position - 1),
+        None => None,
+    }
 }
 
 // Whether any layer may have a list.
