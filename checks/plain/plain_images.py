@@ -53,6 +53,7 @@ class Image:
         self.data = data[:word(data, 8)]
         self.root = 16 + padded(len(text_at(self.data, 16)) + 1)
         self.rows = plain_attributes.rows(data) if attributes else {}
+        self.xattrs = plain_attributes.extended(data) if attributes else {}
 
     def inside(self, h):
         return self.root <= h and h + 16 <= len(self.data)

@@ -6,28 +6,31 @@ import struct
 
 from checks.plain.plain_images import DIRECTORY, REGULAR, SYMLINK
 
-ERRNOS = {"ENOENT": 2, "EIO": 5, "ENOTDIR": 20, "EISDIR": 21, "EINVAL": 22, "EROFS": 30, "ENAMETOOLONG": 36,
-          "ENOSYS": 38, "EPROTO": 71, "ESTALE": 116}
-(LOOKUP, FORGET, GETATTR, READLINK, OPEN, READ, STATFS, RELEASE, FSYNC, FLUSH, INIT, OPENDIR, READDIR, RELEASEDIR,
- FSYNCDIR, INTERRUPT, DESTROY, BATCH_FORGET, READDIRPLUS) = (
-     1, 2, 3, 5, 14, 15, 17, 18, 20, 25, 26, 27, 28, 29, 30, 36, 38, 42, 44)
+ERRNOS = {"ENOENT": 2, "EIO": 5, "ENOTDIR": 20, "EISDIR": 21, "EINVAL": 22, "EROFS": 30, "ERANGE": 34, "ENAMETOOLONG": 36,
+          "ENOSYS": 38, "ENODATA": 61, "EPROTO": 71, "EOPNOTSUPP": 95, "ESTALE": 116}
+(LOOKUP, FORGET, GETATTR, READLINK, OPEN, READ, STATFS, RELEASE, FSYNC, GETXATTR, LISTXATTR, FLUSH, INIT, OPENDIR, READDIR,
+ RELEASEDIR, FSYNCDIR, INTERRUPT, DESTROY, BATCH_FORGET, READDIRPLUS) = (
+     1, 2, 3, 5, 14, 15, 17, 18, 20, 22, 23, 25, 26, 27, 28, 29, 30, 36, 38, 42, 44)
 SILENT = (FORGET, BATCH_FORGET, INTERRUPT)
 # SETATTR, SYMLINK, MKNOD, MKDIR, UNLINK, RMDIR, RENAME, LINK, WRITE, SETXATTR, REMOVEXATTR, CREATE, FALLOCATE, RENAME2,
 # COPY_FILE_RANGE
 MODIFYING = (4, 6, 8, 9, 10, 11, 12, 13, 16, 21, 24, 35, 43, 45, 47)
 ACKNOWLEDGED = (RELEASE, RELEASEDIR, FLUSH, FSYNC, FSYNCDIR)
-AT_NODE = (LOOKUP, GETATTR, READLINK, OPEN, READ, OPENDIR, READDIR, READDIRPLUS)
+XATTRS = (GETXATTR, LISTXATTR)
+AT_NODE = (LOOKUP, GETATTR, READLINK, OPEN, READ, OPENDIR, READDIR, READDIRPLUS, *XATTRS)
 SERVED = (INIT, STATFS, DESTROY, *ACKNOWLEDGED, *AT_NODE)
 # the least length of a body
-BODIES = {INIT: 16, GETATTR: 16, OPEN: 8, OPENDIR: 8, READ: 40, READDIR: 40, READDIRPLUS: 40}
+BODIES = {INIT: 16, GETATTR: 16, OPEN: 8, OPENDIR: 8, READ: 40, READDIR: 40, READDIRPLUS: 40, GETXATTR: 8, LISTXATTR: 8}
 VALID = 3600
 MOST = 1048576
-EXPORT_SUPPORT, NO_OPEN_SUPPORT, MAX_PAGES, CACHE_SYMLINKS, NO_OPENDIR_SUPPORT = 1 << 4, 1 << 17, 1 << 22, 1 << 23, 1 << 24
+EXPORT_SUPPORT, NO_OPEN_SUPPORT, POSIX_ACL, MAX_PAGES, CACHE_SYMLINKS, NO_OPENDIR_SUPPORT = (
+    1 << 4, 1 << 17, 1 << 20, 1 << 22, 1 << 23, 1 << 24)
 # ASYNC_READ, EXPORT_SUPPORT, DO_READDIRPLUS, READDIRPLUS_AUTO, PARALLEL_DIROPS, MAX_PAGES
 FLAGS = 1 << 0 | EXPORT_SUPPORT | 1 << 13 | 1 << 14 | 1 << 18 | MAX_PAGES
 # and what tells a client that nothing changes
 LASTING_FLAGS = FLAGS | NO_OPEN_SUPPORT | CACHE_SYMLINKS | NO_OPENDIR_SUPPORT
 KEEP_CACHE, CACHE_DIR = 1 << 1, 1 << 3
+ACL_NAMES = b"system.posix_acl_access", b"system.posix_acl_default"
 
 
 # --- messages ---
@@ -86,6 +89,10 @@ def open_out(flags):
     return struct.pack("<Q2I", 0, flags, 0)
 
 
+def getxattr_out(size):
+    return struct.pack("<2I", size, 0)
+
+
 def statfs_out(blocks, files):
     return struct.pack("<5Q4I24x", blocks, 0, 0, files, 0, 512, 255, 512, 0)
 
@@ -114,8 +121,8 @@ def refuse_if(condition, name):
         raise Refused(ERRNOS[name])
 
 
-def lookup_name(body):
-    """The name of a LOOKUP: its last byte is its only zero byte, and something stands before it."""
+def ended_name(body):
+    """The name at the end of a body: its last byte is its only zero byte, and something stands before it."""
     refuse_if(len(body) < 2 or body.find(b"\0") != len(body) - 1, "EINVAL")
     return body[:-1]
 
@@ -129,6 +136,8 @@ class Session:
         self.ready, self.said = False, 0
         self.balances = [0] * (len(stack.places) - 1)
         self.lists = {}  # the rows that were read once, by what was asked for
+        names = stack.every_xattr()
+        self.has_xattrs, self.has_acls = bool(names), bool(names & set(ACL_NAMES))
 
     def may_last(self, flag):
         """Whether a lasting session's client said this flag."""
@@ -144,7 +153,7 @@ class Session:
         try:
             refuse_if(not self.ready and opcode != INIT or self.ready and opcode == INIT, "EIO")
             refuse_if(opcode in MODIFYING, "EROFS")
-            refuse_if(opcode not in SERVED, "ENOSYS")
+            refuse_if(opcode not in SERVED or opcode in XATTRS and not self.has_xattrs, "ENOSYS")
             return with_data(unique, self.data(opcode, node, body))
         except Refused as refused:
             return error(unique, refused.args[0])
@@ -166,8 +175,10 @@ class Session:
 
     def data(self, opcode, node, body):
         """What stands behind the header of a reply without an error."""
-        name = lookup_name(body) if opcode == LOOKUP else None
+        name = ended_name(body) if opcode == LOOKUP else None
         refuse_if(len(body) < BODIES.get(opcode, 0), "EINVAL")
+        if opcode == GETXATTR:
+            name = ended_name(body[8:])
         if opcode == INIT:
             return self.begin(*struct.unpack_from("<4I", body))
         if opcode == DESTROY:
@@ -183,6 +194,8 @@ class Session:
             return self.look_up(node, name)
         if opcode == GETATTR:
             return attr_out(self.attr(node))
+        if opcode in XATTRS:
+            return self.xattr_data(node, struct.unpack_from("<I", body)[0], name)
         kind = self.stack.kind(node)
         if opcode == READLINK:
             refuse_if(kind != SYMLINK, "EINVAL")
@@ -211,12 +224,28 @@ class Session:
         refuse_if(major < 7 or minor < 12, "EPROTO")
         self.ready, self.said = True, flags
         known, pages = (LASTING_FLAGS, 256) if self.is_lasting else (FLAGS, 32)
+        known |= POSIX_ACL if self.has_acls else 0
         out = init_out(min(readahead, MOST), flags & known, pages if flags & MAX_PAGES else 0)
         return out if minor >= 23 else out[:24]
 
     def attr(self, node):
         stack = self.stack
         return attr(node, stack.size(node), stack.attributes(node), stack.nlink(node), stack.rdev(node))
+
+    def xattr_data(self, node, size, name):
+        """The value of the attribute with a name, or all names if there is none; with the size 0 how many bytes they are."""
+        enforced = self.said & POSIX_ACL != 0
+        items = [item for item in self.stack.xattrs(node) if enforced or item[0] not in ACL_NAMES]
+        if name is None:
+            data = b"".join(each + b"\0" for each, _ in items)
+        else:
+            refuse_if(name in ACL_NAMES and not enforced, "EOPNOTSUPP")
+            data = dict(items).get(name)
+            refuse_if(data is None, "ENODATA")
+        if size == 0:
+            return getxattr_out(len(data))
+        refuse_if(len(data) > size, "ERANGE")
+        return data
 
     def look_up(self, node, name):
         found = self.found(node, name)

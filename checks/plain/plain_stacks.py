@@ -122,6 +122,15 @@ class Stack:
         row = image.rows[h]
         return (mode & 0o170000 | row.mode, row.uid, row.gid, row.seconds, row.nanoseconds)
 
+    def xattrs(self, number):
+        """A node's extended attributes, pairs of name and value in order."""
+        image, h = self.header(number)
+        return image.xattrs.get(h, [])
+
+    def every_xattr(self):
+        """The names that any node has."""
+        return {name for number in range(1, len(self.places)) for name, _ in self.xattrs(number)}
+
     def mode(self, number):
         return self.attributes(number)[0]
 

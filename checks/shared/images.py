@@ -1,7 +1,7 @@
 """Images in a text form: what they hold, a line each, or edits of the sample images by offset."""
 from checks.plain.plain_images import Image
 from checks.plain.plain_stacks import paths_of
-from checks.shared.build import finished, header, padded, seal, trailer, volume
+from checks.shared.build import finished, header, padded, part, seal, trailer, volume
 from checks.shared.text import Wrong, plain_bytes
 
 # the empty image as a dump prints it
@@ -152,7 +152,8 @@ def row_of(data, words):
 
 def edited(data, words):
     """An image after an edit: `at 0x60 word 00001413`, `at 0x14b0 hex 64`, `fill 0x10 0x5f 41`, `keep 15`, `add "more"`, `seal`;
-    `trailer` adds an attribute trailer, of the rows that stand behind it."""
+    `trailer` adds an attribute trailer, of the rows that stand behind it, and `part` its second part: the number of each row's
+    list, and lists, as `part 1 0 2 list user.a "b" user.b hex 00 list user.c ""`."""
     if words.take("at"):
         at = words.number()
         if words.take("word"):
@@ -173,6 +174,16 @@ def edited(data, words):
         while words.more():
             rows.append(row_of(data, words))
         return data + bytes(-len(data) % 16) + trailer(rows)
+    elif words.take("part"):
+        numbers, lists = [], []
+        while words.more() and words.words[0] != "list":
+            numbers.append(words.number())
+        while words.take("list"):
+            lists.append([])
+            while words.more() and words.words[0] != "list":
+                name = words.name()
+                lists[-1].append((name, words.data()))
+        return data + part(numbers, lists)
     else:
         words.expect("seal")
         return seal(data)
@@ -181,7 +192,7 @@ def edited(data, words):
     return data[:at] + new + data[at + len(new):]
 
 
-EDITS = ("at", "fill", "keep", "add", "trailer", "seal")
+EDITS = ("at", "fill", "keep", "add", "trailer", "part", "seal")
 
 
 def image_of(head, lines, known):

@@ -32,6 +32,9 @@ def body_of(name, words):
         if words.begins_data():
             return words.data() + b"\0"
         return words.name() + b"\0"
+    if name in ("GETXATTR", "LISTXATTR"):
+        body = struct.pack("<2I", fields(words, size=None)["size"], 0)
+        return body + words.name() + b"\0" if name == "GETXATTR" else body
     if name in ("OPEN", "OPENDIR"):
         return struct.pack("<2I", fields(words, flags=0)["flags"], 0)
     if name in ("READ", "READDIR", "READDIRPLUS"):

@@ -9,6 +9,7 @@ from strata_format.fuse_text import OPCODES
 NAMES = [b"a", b"b", b"c", b"d", b".", b"..", b"", b"a/b", b".wh.a", b"fifteen-letters", b"sixteen-letters-", b"x" * 255]
 EDGES = [0, 15, 16, 32, 40, 80, 4095, 4096, 0x10000003, 0x0fff0001, 2 ** 31, 2 ** 32 - 1]
 KINDS = ["directory", "directory", "hard", "hard", "regular", "regular", "symlink", "block", "character", "socket", "fifo"]
+XATTR_NAMES = [b"user.a", b"user.", b"user.abc", b"system.posix_acl_access", b"system.posix_acl_default", b"security.capability", b""]
 LAYER_NAMES = [b"a", b"b", b"c", b"aa", b"a b", b"\xff\x01\\", b"seven77", b"eight888", b"front-12345678", b"front-12345679",
                b"n" * 255]
 MARKERS = [b".wh.a", b".wh.b", b".wh.aa", b".wh..wh..opq", b".wh.", b".wh..wh.a", b".wh.front-12345678"]
@@ -153,6 +154,15 @@ def rows_body(rng, stack, node, plus):
     return read_body(offset, rng.choice([size] * 9 + [2 ** 20 + 1]))
 
 
+def xattr_body(rng, stack, node, is_one):
+    """A size near that of a value, with its name, or near that of all names."""
+    items = stack.xattrs(node) if stack.has(node) else []
+    name, value = rng.choice([*items, *items, *[(name, b"") for name in XATTR_NAMES]])
+    length = len(value) if is_one else sum(len(each) + 1 for each, _ in items)
+    size = rng.choice([0, near(rng, length), near(rng, length), 65536, 2 ** 32 - 1])
+    return struct.pack("<2I", size, rng.choice([0, 0, 1])) + (name + rng.choice([b"\0"] * 12 + [b"", b"\0\0"])) * is_one
+
+
 def read_body(offset, size):
     return struct.pack("<2Q2IQ2I", 7, offset, size, 1, 2, 3, 0)
 
@@ -181,6 +191,8 @@ def random_body(rng, name, stack, node):
         size = len(stack.body(node)) if stack.has(node) else 0
         return read_body(rng.choice([near(rng, 0, size, 4096), rng.randrange(size + 10), 2 ** 64 - 1, 2 ** 32]),
                          rng.choice([near(rng, 0, size, 4096), 8192, 2 ** 20, 2 ** 20 + 1, 2 ** 32 - 1]))
+    if name in ("GETXATTR", "LISTXATTR"):
+        return xattr_body(rng, stack, node, name == "GETXATTR")
     if name in ("OPEN", "OPENDIR"):
         return struct.pack("<2I", rng.choice([0, 0, 0, 0x8000, 1, 2, 3, 0x8002, 2 ** 32 - 4, 2 ** 32 - 1]), 0)
     if name == "FORGET":
@@ -198,7 +210,8 @@ def random_node(rng, stack):
 
 
 COMMON = ["LOOKUP"] * 5 + ["READ", "READ", "GETATTR", "READDIR", "READDIRPLUS", "FORGET", "BATCH_FORGET"] * 2 + [
-    "READLINK", "OPEN", "OPEN", "OPENDIR", "OPENDIR", "FLUSH", "STATFS", "DESTROY", "INTERRUPT", "RELEASE", "INIT"]
+    "READLINK", "OPEN", "OPEN", "OPENDIR", "OPENDIR", "FLUSH", "STATFS", "DESTROY", "INTERRUPT", "RELEASE", "INIT",
+    "GETXATTR", "GETXATTR", "LISTXATTR"]
 
 
 def random_message(rng, unique, stack):

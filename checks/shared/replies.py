@@ -71,6 +71,13 @@ def reply_of(unique, words, rows):
         return plain.with_data(unique, plain.open_out(words.number()))
     if kind == "statfs":
         return plain.with_data(unique, plain.statfs_out(words.number_of("blocks"), words.number_of("files")))
+    if kind == "size":
+        return plain.with_data(unique, plain.getxattr_out(words.number()))
+    if kind == "names":
+        data = b""
+        while words.more():
+            data += words.name() + b"\0"
+        return plain.with_data(unique, data)
     if kind == "empty":
         return plain.with_data(unique, b"")
     if kind == "data":

@@ -51,6 +51,9 @@ def text_of(message):
         words.append("flags %d" % struct.unpack_from("<I", body))
     elif name in ("READ", "READDIR", "READDIRPLUS") and len(body) >= 40:
         words.append("offset %d size %d" % struct.unpack_from("<8xQI", body))
+    elif name in ("GETXATTR", "LISTXATTR") and len(body) >= 8:
+        words.append("size %d" % struct.unpack_from("<I", body))
+        words += [shown(body[8:].rstrip(b"\0"))] * (name == "GETXATTR")
     elif name == "FORGET" and len(body) >= 8:
         words.append("nlookup %d" % struct.unpack_from("<Q", body))
     elif name == "BATCH_FORGET" and len(body) >= 8:

@@ -1,7 +1,7 @@
 -- The decision about a request: its answer's data and moves, or its refusal.
-use Rattle.std.specs.Prelude.{◌≡◌, ℕ, Bool, true, false, List, [], ◌∷◌, Option, Some, None, MatchOption, MatchResult, Result, Ok, Err, pos, ◌+◌, ◌<◌, ◌≤◌, take, drop}
+use Rattle.std.specs.Prelude.{◌≡◌, ℕ, Bool, true, false, List, [], ◌∷◌, Option, Some, None, MatchOption, MatchResult, Result, Ok, Err, pos, ◌+◌, ◌<◌, ◌≤◌, take, drop, length, IsTrue}
 use Rattle.std.specs.List.{filter_map}
-use Rattle.std.specs.Option.{option_map}
+use Rattle.std.specs.Option.{option_map, option_map_or}
 use Rattle.fuse_wire.specs.declared.errno.Errno.{Errno}
 use Rattle.fuse_wire.specs.declared.errno.Errno.TheVariants.{ENOENT, ESTALE}
 use Rattle.fuse_wire.specs.declared.forget.Forget.{Forget}
@@ -9,7 +9,7 @@ use Rattle.fuse_wire.specs.Requests.{NodeOp, Asked}
 use Rattle.devices.specs.Sources.{Source}
 use Rattle.fuse_wire.specs.Told.{Reading}
 use Rattle.fuse_wire.specs.Reads.{items_of}
-use Rattle.fuse_wire.specs.Structures.{init_out, entry_out, negative_entry_out, attr_out, open_out, statfs_out}
+use Rattle.fuse_wire.specs.Structures.{init_out, entry_out, negative_entry_out, attr_out, open_out, getxattr_out, statfs_out}
 use Rattle.romfs_format.specs.declared.head.Kind.{Kind}
 use Rattle.stack_model.specs.Attributes.{kind_at, is_directory_at, data_of}
 use Rattle.stack_model.specs.Numbers.{Place, number, node_of}
@@ -27,7 +27,11 @@ use Rattle.reply_model.specs.Moves.{moved, gives_at, take_back}
 use Rattle.reply_model.specs.Readings.{Sourced, sourced, data_reading, reading_at, reading_in}
 use Rattle.fuse_answer.specs.declared.outcome.Answer.{Answer}
 use Rattle.fuse_answer.specs.declared.outcome.FilePart.{FilePart}
-use Rattle.fuse_answer.specs.declared.outcome.Answer.TheVariants.{Done, Terms, Entry, NoEntry, Attributes, Opened, Target, Data, Totals, Rows, Forgotten, AllForgotten}
+use Rattle.fuse_answer.specs.declared.outcome.Names.{Names as NamesTold}
+use Rattle.romfs_format.specs.declared.limits.TheConstants.{MAX_XATTR_SIZE}
+use Rattle.romfs_format.specs.Extended.{is_list, names_of}
+use Rattle.reply_model.specs.Xattrs.{xattrs_told}
+use Rattle.fuse_answer.specs.declared.outcome.Answer.TheVariants.{Done, Terms, Entry, NoEntry, Attributes, Opened, Target, Data, Size, Value, Names, Totals, Rows, Forgotten, AllForgotten}
 use Rattle.fuse_answer.specs.Listings.{listed_data, listed_moves, IsWhole}
 
 -- this many bytes of a node's data, from an offset on
@@ -37,6 +41,14 @@ node_data stack node offset len = take len (drop offset (data_of stack.layers (p
 -- the bytes of a part of a file
 abbrev pub part_data : Stacked → FilePart → List ℕ
 part_data stack part = node_data stack part.node.now part.offset part.len
+
+-- the names that a client gets, each with its zero byte
+abbrev pub names_said : NamesTold → List ℕ
+names_said names = names_of (xattrs_told names.acls (option_map_or (λ xs. xs) names.list []))
+
+-- they are those of a list that a file may have
+abbrev pub AreListed : NamesTold → Type 0
+AreListed names = IsTrue (is_list (option_map_or (λ xs. xs) names.list []))
 
 -- the data of an answer
 abbrev pub answer_data : {A : Type 0} → Stacked → Answer A → List ℕ
@@ -48,6 +60,9 @@ answer_data stack (Attributes attr) = attr_out attr
 answer_data stack (Opened flags) = open_out flags
 answer_data stack (Target node) = data_of stack.layers (placed node.now.place)
 answer_data stack (Data part) = part_data stack part
+answer_data stack (Size size) = getxattr_out size
+answer_data stack (Value value) = value.now
+answer_data stack (Names names) = names_said names
 answer_data stack (Totals blocks nodes) = statfs_out blocks nodes
 answer_data stack (Rows listing) = listed_data stack listing
 answer_data stack (Forgotten forget) = []
@@ -103,6 +118,8 @@ abbrev pub IsSized : {A : Type 0} → Stacked → Answer A → Type 0
 IsSized stack (Target node) = HoldsOwnData stack node.now
 IsSized stack (Data part) = IsInFile stack part
 IsSized stack (Rows listing) = IsWhole listing
+IsSized stack (Value value) = length value.now ≤ MAX_XATTR_SIZE
+IsSized stack (Names names) = AreListed names
 IsSized stack _ = Unit {0}
 
 -- the answer to a request about the node at a place

@@ -2,7 +2,8 @@
 //! protocol's layers.
 
 ghost use Rattle.std.specs.Prelude.{true, false};
-ghost use Rattle.fuse_wire.specs.Reads.{asked_of};
+ghost use Rattle.fuse_wire.specs.Reads.{asked_of, op_said};
+ghost use Rattle.reply_model.specs.Refusals.{asks_xattrs, is_unserved};
 ghost use Rattle.fuse_answer.specs.Answers.{Decides, DecidesIn};
 
 use crate::listing::list;
@@ -10,6 +11,7 @@ use crate::lookup::look_up;
 use crate::node::{get_attr, open_directory, open_file, read, read_link};
 use crate::outcome::Answer;
 use crate::sessions::{agreement_of, is_spoken};
+use crate::xattrs::{get_xattr, list_xattrs};
 use fuse_wire::forget::Forget;
 use fuse_wire::{Errno, InitOut, Op, Request, opcode};
 use node_reader::{Guess, Table};
@@ -35,14 +37,14 @@ pub(crate) fn decide<'a, A: Allocator>(
     }
 }
 
-// A fresh session answers INIT alone. The table is named by the clause alone.
+// A fresh session answers INIT alone.
 #[inline(always)]
 fn begin<'a, A: Allocator>(
-    _table: &'a Table<A>,
+    table: &'a Table<A>,
     agreed: Agreement,
     request: &Request<'a>,
 ) -> Result<Answer<'a, A>, Errno>
-    ensures { DecidesIn _table.now true agreed (asked_of request.now) result }
+    ensures { DecidesIn table.now true agreed (asked_of request.now) result }
 {
     match request.op {
         Op::Init {
@@ -56,6 +58,7 @@ fn begin<'a, A: Allocator>(
             } else if is_spoken(major, minor) {
                 Ok(Answer::Terms(InitOut::Terms {
                     lasting: agreed.lasting,
+                    acls: table.has_acls(),
                     minor,
                     max_readahead,
                     flags,
@@ -71,7 +74,7 @@ fn begin<'a, A: Allocator>(
     }
 }
 
-// A session that was begun answers all but INIT.
+// A session that was begun answers all but INIT, and extended attributes only if some node has one.
 #[inline(always)]
 fn go_on<'a, A: Allocator>(
     table: &'a Table<A>,
@@ -79,6 +82,38 @@ fn go_on<'a, A: Allocator>(
     request: &Request<'a>,
     guess: Guess,
 ) -> Result<Answer<'a, A>, Errno>
+    ensures { DecidesIn table.now false agreed (asked_of request.now) result }
+{
+    if asks_xattrs(&request.op) && !table.has_xattrs() {
+        return Err(Errno::ENOSYS);
+    }
+    answer_served(table, agreed, request, guess)
+}
+
+// Whether extended attributes are asked for, also by a request that is malformed.
+#[inline(always)]
+fn asks_xattrs(op: &Op<'_>) -> bool
+    ensures { result ≡ asks_xattrs (op_said op.now) }
+{
+    matches!(
+        op,
+        Op::Getxattr { .. }
+            | Op::Listxattr { .. }
+            | Op::Malformed {
+                opcode: opcode::GETXATTR | opcode::LISTXATTR,
+            }
+    )
+}
+
+// The same of what is served.
+#[inline(always)]
+fn answer_served<'a, A: Allocator>(
+    table: &'a Table<A>,
+    agreed: Agreement,
+    request: &Request<'a>,
+    guess: Guess,
+) -> Result<Answer<'a, A>, Errno>
+    requires { is_unserved table.now (op_said request.now.op) ≡ false }
     ensures { DecidesIn table.now false agreed (asked_of request.now) result }
 {
     let node = request.node;
@@ -98,6 +133,8 @@ fn go_on<'a, A: Allocator>(
         Op::Opendir => open_directory(table, agreed, node),
         Op::Readdir { offset, size } => list(table, agreed, node, offset, size, false),
         Op::Readdirplus { offset, size } => list(table, agreed, node, offset, size, true),
+        Op::Getxattr { size, name } => get_xattr(table, agreed, node, size, name),
+        Op::Listxattr { size } => list_xattrs(table, agreed, node, size),
         Op::Statfs => Ok(Answer::Totals {
             blocks: table.blocks_all(),
             nodes: table.len(),

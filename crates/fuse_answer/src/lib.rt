@@ -15,6 +15,7 @@ mod decide;
 mod listing;
 mod lookup;
 mod move_list;
+mod names;
 mod node;
 mod outcome;
 mod replies;
@@ -22,6 +23,7 @@ mod rows;
 mod served;
 mod sessions;
 mod write;
+mod xattrs;
 
 pub use move_list::moves;
 pub use replies::{answer, answer_and_move};

@@ -3,7 +3,7 @@
 use crate::listing::Listing;
 use fuse_wire::forget::{Forget, Forgets};
 use fuse_wire::{Attr, InitOut};
-use node_reader::Node;
+use node_reader::{FileXattrs, Node};
 use std::alloc::Allocator;
 
 /// Some of a file's data.
@@ -15,6 +15,15 @@ pub(crate) struct FilePart<'a> {
     pub offset: u64,
     /// How many they are.
     pub len: u32,
+}
+
+/// The names of a file's extended attributes.
+#[derive(Drop)]
+pub(crate) struct Names<'a> {
+    /// The attributes, if it has any.
+    pub list: Option<FileXattrs<'a>>,
+    /// Whether the client gets those of access control lists, too.
+    pub acls: bool,
 }
 
 /// What a request is answered that is not refused.
@@ -36,6 +45,12 @@ pub(crate) enum Answer<'a, A: Allocator> {
     Target(&'a Node),
     /// Bytes of a file.
     Data(FilePart<'a>),
+    /// How long an extended attribute is, or the list of their names.
+    Size(u32),
+    /// The value of an extended attribute.
+    Value(&'a [u8]),
+    /// The names of a file's extended attributes.
+    Names(Names<'a>),
     /// The blocks and the nodes of the entire tree.
     Totals { blocks: u64, nodes: u64 },
     /// Rows of a directory.

@@ -4,7 +4,7 @@ ghost use Rattle.std.specs.Prelude.{◌≡◌};
 ghost use Rattle.fuse_wire.specs.Reads.{op_said};
 ghost use Rattle.reply_model.specs.Sessions.{session_after, is_spoken, agreement_of};
 
-use fuse_wire::flags::{has_export, has_no_open, has_no_opendir};
+use fuse_wire::flags::{has_acl, has_export, has_no_open, has_no_opendir};
 use fuse_wire::{Op, Request};
 use reply_model::{Agreement, Session};
 
@@ -22,9 +22,11 @@ pub fn after(session: Session, request: &Request<'_>) -> Session
         } if is_spoken(major, minor) => match session {
             Session::Fresh => Session::Ready {
                 export: has_export(flags),
+                acls: has_acl(flags),
             },
             Session::LastingFresh => Session::LastingReady {
                 export: has_export(flags),
+                acls: has_acl(flags),
                 no_open: has_no_open(flags),
                 no_opendir: has_no_opendir(flags),
             },
@@ -53,23 +55,30 @@ pub(crate) fn agreement_of(session: Session) -> Agreement
     let usual = Agreement {
         lasting: false,
         export: false,
+        acls: false,
         no_open: false,
         no_opendir: false,
     };
     match session {
         Session::Fresh => usual,
-        Session::Ready { export } => Agreement { export, ..usual },
+        Session::Ready { export, acls } => Agreement {
+            export,
+            acls,
+            ..usual
+        },
         Session::LastingFresh => Agreement {
             lasting: true,
             ..usual
         },
         Session::LastingReady {
             export,
+            acls,
             no_open,
             no_opendir,
         } => Agreement {
             lasting: true,
             export,
+            acls,
             no_open,
             no_opendir,
         },

@@ -10,13 +10,14 @@ ghost use Rattle.reply_model.specs.Readings.{data_reading};
 ghost use Rattle.stack_model.specs.Attributes.{data_of};
 ghost use Rattle.node_reader.specs.Readers.{placed};
 
+use crate::names::put_names;
 use crate::outcome::{Answer, FilePart};
 use crate::rows::put_rows_and_move;
 use crate::served::Served;
 use devices::Contents;
 use fuse_wire::{
     Replies, put_attr, put_data, put_entry, put_head, put_init, put_negative_entry, put_open,
-    put_read, put_statfs,
+    put_read, put_statfs, put_xattr_size,
 };
 use node_reader::{Node, Part, Table};
 use std::alloc::{AllocError, Allocator};
@@ -47,6 +48,9 @@ pub(crate) fn write<A: Allocator, D: Contents, O: Allocator>(
         Answer::Opened(flags) => put_open(out, unique, *flags),
         Answer::Target(node) => put_target(served.table, unique, node, out),
         Answer::Data(part) => put_part(served, unique, part, out),
+        Answer::Size(size) => put_xattr_size(out, unique, *size),
+        Answer::Value(value) => put_data(out, unique, value),
+        Answer::Names(names) => put_names(out, unique, names),
         Answer::Totals { blocks, nodes } => put_statfs(out, unique, *blocks, *nodes),
         Answer::Rows(rows) => put_rows_and_move(served.table, unique, rows, out, &mut []),
     }

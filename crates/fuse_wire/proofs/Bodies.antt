@@ -6,10 +6,10 @@ use Rattle.std.specs.Prelude.{nat_lt}
 use Rattle.std.proofs.lemmas.Bool.{lt-ltb, le-ltb}
 use Rattle.fuse_wire.specs.declared.limits.TheConstants.{HEADER_SIZE, MAX_MESSAGE_SIZE, MAX_FORGETS}
 use Rattle.fuse_wire.specs.Stream.{field}
-use Rattle.fuse_wire.specs.Requests.{Op, init, at_node, getattr, open_file, read, opendir, readdir, readdirplus, silent, forget, batch_forget, malformed, forgets_of, op_of}
+use Rattle.fuse_wire.specs.Requests.{Op, init, at_node, getattr, open_file, read, opendir, readdir, readdirplus, listxattr, silent, forget, batch_forget, malformed, forgets_of, op_of}
 use Rattle.fuse_wire.specs.Laws.{Needs, BodySizes, ReplySizes, RowSizes}
 use Rattle.fuse_wire.proofs.Items.{counted}
-use Rattle.fuse_wire.proofs.Sizes.{length-version, length-terms, length-entry_out, length-negative_entry_out, length-attr_out, length-open_out, length-statfs_out, length-dirent, length-direntplus}
+use Rattle.fuse_wire.proofs.Sizes.{length-version, length-terms, length-entry_out, length-negative_entry_out, length-attr_out, length-open_out, length-getxattr_out, length-statfs_out, length-dirent, length-direntplus}
 
 is_malformed : Op → Bool
 is_malformed (malformed opcode) = true
@@ -37,6 +37,7 @@ body_sizes = record {
   readdir = needs 28 40 (λ body. at_node (readdir (field 8 8 body) (field 4 16 body))) (λ body. refl) (λ body e. absurd (cc));
   batch_forget = needs 42 8 (λ body. silent (batch_forget (forgets_of body))) (λ body. refl) (λ body e. absurd (cc));
   readdirplus = needs 44 40 (λ body. at_node (readdirplus (field 8 8 body) (field 4 16 body))) (λ body. refl) (λ body e. absurd (cc));
+  listxattr = needs 23 8 (λ body. at_node (listxattr (field 4 0 body))) (λ body. refl) (λ body e. absurd (cc));
 }
 
 -- each structure of a reply has the size of its declaration
@@ -48,6 +49,7 @@ reply_sizes = record {
   negative_entry = length-negative_entry_out;
   attr = length-attr_out;
   open_file = length-open_out;
+  getxattr = length-getxattr_out;
   statfs = length-statfs_out;
 }
 

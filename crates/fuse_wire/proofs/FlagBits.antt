@@ -15,6 +15,10 @@ export_bit flags = and_pow flags 4
 pub no_open_bit : (flags : ℕ) → bit_and flags 131072 ≡ flags / 131072 % 2 * 131072
 no_open_bit flags = and_pow flags 17
 
+-- the mask of POSIX_ACL keeps bit 20 and no other
+pub acl_bit : (flags : ℕ) → bit_and flags 1048576 ≡ flags / 1048576 % 2 * 1048576
+acl_bit flags = and_pow flags 20
+
 -- the mask of NO_OPENDIR_SUPPORT keeps bit 24 and no other
 pub no_opendir_bit : (flags : ℕ) → bit_and flags 16777216 ≡ flags / 16777216 % 2 * 16777216
 no_opendir_bit flags = and_pow flags 24

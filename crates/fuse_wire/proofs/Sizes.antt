@@ -2,13 +2,13 @@
 -- the writers say how long a reply will be. Rows add the length of a name. `plus_row_is` says that
 -- a row of READDIRPLUS may be written in parts.
 use Rattle.std.proofs.Common.{◌≡◌, ◌∙◌, ap, ℕ, zero, suc, ◌+◌, ◌-◌, List, ◌++◌, length, append_assoc, Bool, true, false, Option, Some, None, cond, refl, arith, length-append}
-use Rattle.std.specs.Prelude.{nat_lt, replicate}
+use Rattle.std.specs.Prelude.{nat_lt, replicate, bit_and}
 use Rattle.std.specs.Option.{option_map_or}
 use Rattle.fuse_wire.specs.declared.errno.Errno.{Errno}
 use Rattle.stack_model.specs.declared.attr.Attr.{Attr}
 use Rattle.fuse_wire.specs.declared.reply.Dirent.{Dirent}
 use Rattle.fuse_wire.specs.declared.reply.InitOut.TheVariants.{Version, Terms}
-use Rattle.fuse_wire.specs.Structures.{u16, u32, u64, zeros, init_out, init_out_22, init_out_rest, attr, entry_out, negative_entry_out, attr_out, open_out, statfs_out, dirent_size, dirent_front, dirent, direntplus, padding, row_front, plus_row_bytes}
+use Rattle.fuse_wire.specs.Structures.{u16, u32, u64, zeros, served_flags, init_out, init_out_22, init_out_rest, attr, entry_out, negative_entry_out, attr_out, open_out, getxattr_out, statfs_out, dirent_size, dirent_front, dirent, direntplus, padding, row_front, plus_row_bytes}
 use Rattle.fuse_wire.specs.Replies.{reply_head, reply_with, error_reply}
 
 -- a reply's header has 16 bytes
@@ -33,18 +33,20 @@ unfolding init_out u32 zeros
 length-version = refl
 
 -- what clients of minor versions below 23 know of INIT's terms has 24 bytes
-pub length-init_out_22 : (lasting : Bool) (readahead flags : ℕ) → length (init_out_22 lasting readahead flags) ≡ 24
+pub length-init_out_22 : (readahead flags : ℕ) → length (init_out_22 readahead flags) ≡ 24
 unfolding init_out_22 u16 u32
-length-init_out_22 lasting readahead flags = refl
+length-init_out_22 readahead flags = refl
 
 -- INIT's terms have 24 bytes for clients of minor versions below 23, else 64
-pub length-terms : (lasting : Bool) (minor readahead flags : ℕ) → length (init_out (Terms lasting minor readahead flags))
+pub length-terms : (lasting acls : Bool) (minor readahead flags : ℕ) → length (init_out (Terms lasting acls minor readahead flags))
     ≡ cond (nat_lt minor 23) 24 64
 unfolding init_out init_out_22 init_out_rest u16 u32 zeros
-length-terms lasting minor readahead flags = either (nat_lt minor 23)
+length-terms lasting acls minor readahead flags = either (nat_lt minor 23)
   where
-    either : (b : Bool) → length (cond b (init_out_22 lasting readahead flags) (init_out_22 lasting readahead flags
-        ++ init_out_rest lasting flags)) ≡ cond b 24 64
+    front : List ℕ
+    front = init_out_22 readahead (bit_and flags (served_flags lasting acls))
+
+    either : (b : Bool) → length (cond b front (front ++ init_out_rest lasting flags)) ≡ cond b 24 64
     either true = refl
     either false = refl
 
@@ -72,6 +74,11 @@ length-attr_out a = refl
 pub length-open_out : (flags : ℕ) → length (open_out flags) ≡ 16
 unfolding open_out u32 u64
 length-open_out flags = refl
+
+-- the answer that says a size has 8 bytes
+pub length-getxattr_out : (size : ℕ) → length (getxattr_out size) ≡ 8
+unfolding getxattr_out u32
+length-getxattr_out size = refl
 
 -- the answer to a STATFS has 80 bytes
 pub length-statfs_out : (blocks files : ℕ) → length (statfs_out blocks files) ≡ 80
@@ -127,6 +134,7 @@ pub ruleset sizes = (
   length-negative_entry_out,
   length-attr_out,
   length-open_out,
+  length-getxattr_out,
   length-statfs_out,
   length-zeros,
   length-dirent_front,

@@ -1,11 +1,11 @@
 -- Worked examples: what each opcode requests, and rows of directories and attributes as bytes.
 use Rattle.std.specs.Prelude.{◌≡◌, ℕ, ◌^◌, List, [], ◌∷◌, ◌++◌, map, flat_map, replicate, codes}
-use Rattle.fuse_wire.specs.declared.flags.TheConstants.{ASYNC_READ, EXPORT_SUPPORT, DO_READDIRPLUS, READDIRPLUS_AUTO, NO_OPEN_SUPPORT, PARALLEL_DIROPS, MAX_PAGES, CACHE_SYMLINKS, NO_OPENDIR_SUPPORT, FOPEN_KEEP_CACHE, FOPEN_CACHE_DIR}
+use Rattle.fuse_wire.specs.declared.flags.TheConstants.{ASYNC_READ, EXPORT_SUPPORT, DO_READDIRPLUS, READDIRPLUS_AUTO, NO_OPEN_SUPPORT, PARALLEL_DIROPS, POSIX_ACL, MAX_PAGES, CACHE_SYMLINKS, NO_OPENDIR_SUPPORT, FOPEN_KEEP_CACHE, FOPEN_CACHE_DIR}
 use Rattle.fuse_wire.specs.declared.limits.TheConstants.{HEADER_SIZE, OUT_HEADER_SIZE, MAX_DATA_SIZE, MAX_READAHEAD, MAX_WRITE, MAX_MESSAGE_SIZE, MAX_REPLY_SIZE, MAX_NAME_SIZE, MAX_FORGETS}
-use Rattle.fuse_wire.specs.Requests.{init, at_node, lookup, getattr, readlink, open_file, read, opendir, readdir, readdirplus, statfs, done, release, fsync, flush, releasedir, fsyncdir, destroy, silent, forget, batch_forget, interrupt, modify, other, malformed, op_of, asked}
+use Rattle.fuse_wire.specs.Requests.{init, at_node, lookup, getattr, readlink, open_file, read, opendir, readdir, readdirplus, getxattr, listxattr, statfs, done, release, fsync, flush, releasedir, fsyncdir, destroy, silent, forget, batch_forget, interrupt, modify, other, malformed, op_of, asked}
 use Rattle.byteorder.specs.Endian.{big_bytes}
 use Rattle.stack_model.specs.declared.attr.Attr.{Attr}
-use Rattle.fuse_wire.specs.Structures.{u32, u64, zeros, attr, dirent}
+use Rattle.fuse_wire.specs.Structures.{u32, u64, zeros, attr, getxattr_out, dirent}
 
 -- a body of 56 bytes: the numbers 2, 1, 9 and 7 of 64 bits, and zeros. As items of a BATCH_FORGET
 -- it has three complete ones after the first 8 bytes, and the count says two
@@ -38,20 +38,22 @@ pub record OpcodeExamples : Type 0 where
         nlookup = 0;
       } ∷ []))
   pub readdirplus_44 : op_of 44 some_body ≡ at_node (readdirplus 1 9)
+  pub getxattr_22 : op_of 22 (u32 65536 ++ zeros 4 ++ codes "user.a" ++ zeros 1)
+      ≡ at_node (getxattr 65536 (codes "user.a"))
+  pub listxattr_23 : op_of 23 some_body ≡ at_node (listxattr 2)
   -- SETATTR, SYMLINK, MKNOD, MKDIR, UNLINK, RMDIR, RENAME, LINK, WRITE, SETXATTR, REMOVEXATTR,
   -- CREATE, FALLOCATE, RENAME2, COPY_FILE_RANGE
   pub modifying :
       map (λ opcode. op_of opcode some_body)
       (4 ∷ 6 ∷ 8 ∷ 9 ∷ 10 ∷ 11 ∷ 12 ∷ 13 ∷ 16 ∷ 21 ∷ 24 ∷ 35 ∷ 43 ∷ 45 ∷ 47 ∷ [])
       ≡ replicate 15 modify
-  -- every other number up to 60, among them GETXATTR 22, LISTXATTR 23, ACCESS 34 and LSEEK 46, and
-  -- one far beyond
+  -- every other number up to 60, among them ACCESS 34 and LSEEK 46, and one far beyond
   pub others :
       map (λ opcode. op_of opcode some_body)
-      (0 ∷ 7 ∷ 19 ∷ 22 ∷ 23 ∷ 31 ∷ 32 ∷ 33 ∷ 34 ∷ 37 ∷ 39 ∷ 40 ∷ 41 ∷ 46 ∷ 48 ∷ 49 ∷ 50 ∷ 51 ∷ 52 ∷
+      (0 ∷ 7 ∷ 19 ∷ 31 ∷ 32 ∷ 33 ∷ 34 ∷ 37 ∷ 39 ∷ 40 ∷ 41 ∷ 46 ∷ 48 ∷ 49 ∷ 50 ∷ 51 ∷ 52 ∷
       53 ∷ 54 ∷ 55 ∷ 56 ∷ 57
       ∷ 58 ∷ 59 ∷ 60 ∷ 4096 ∷ [])
-      ≡ replicate 28 other
+      ≡ replicate 26 other
 
 -- a message's unique and node lie before its body, in this order
 pub record MessageExamples : Type 0 where
@@ -70,6 +72,19 @@ pub record ForgetExamples : Type 0 where
   pub half_an_item : op_of 42 (u32 2 ++ zeros 4 ++ u64 3 ++ u64 4 ++ zeros 15) ≡ silent
       (batch_forget (record { node = 3; nlookup = 4 } ∷ []))
   pub short : op_of 42 (zeros 7) ≡ malformed 42
+
+-- the name of a GETXATTR follows its structure, and ends with the only zero byte behind that
+pub record XattrExamples : Type 0 where
+  pub one_byte : op_of 22 (zeros 8 ++ codes "a" ++ zeros 1) ≡ at_node (getxattr 0 (codes "a"))
+  pub short : op_of 22 (zeros 7) ≡ malformed 22
+  pub nameless : op_of 22 (zeros 8) ≡ malformed 22
+  pub empty : op_of 22 (zeros 9) ≡ malformed 22
+  pub unended : op_of 22 (zeros 8 ++ codes "user.a") ≡ malformed 22
+  pub two_zeros : op_of 22 (zeros 8 ++ codes "a" ++ zeros 2) ≡ malformed 22
+  pub zero_within : op_of 22 (zeros 8 ++ codes "a" ++ zeros 1 ++ codes "b" ++ zeros 1) ≡ malformed 22
+  pub short_list : op_of 23 (zeros 7) ≡ malformed 23
+  pub longer_list : op_of 23 (u32 5 ++ zeros 4 ++ codes "a") ≡ at_node (listxattr 5)
+  pub out : getxattr_out 0x10203 ≡ 3 ∷ 2 ∷ 1 ∷ 0 ∷ 0 ∷ 0 ∷ 0 ∷ 0 ∷ []
 
 -- names and their zeros fill a multiple of 8 bytes
 pub record DirentExamples : Type 0 where
@@ -115,6 +130,7 @@ pub record FlagExamples : Type 0 where
   pub readdirplus_auto : READDIRPLUS_AUTO ≡ 2 ^ 14
   pub no_open_support : NO_OPEN_SUPPORT ≡ 2 ^ 17
   pub parallel_dirops : PARALLEL_DIROPS ≡ 2 ^ 18
+  pub posix_acl : POSIX_ACL ≡ 2 ^ 20
   pub max_pages : MAX_PAGES ≡ 2 ^ 22
   pub cache_symlinks : CACHE_SYMLINKS ≡ 2 ^ 23
   pub no_opendir_support : NO_OPENDIR_SUPPORT ≡ 2 ^ 24

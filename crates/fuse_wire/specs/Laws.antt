@@ -3,14 +3,15 @@ use Rattle.std.specs.Prelude.{◌≡◌, ◌≢◌, ℕ, ◌+◌, ◌%◌, ◌<�
 use Rattle.stack_model.specs.declared.attr.Attr.{Attr}
 use Rattle.fuse_wire.specs.declared.reply.InitOut.TheVariants.{Version, Terms}
 use Rattle.fuse_wire.specs.Requests.{malformed, op_of}
-use Rattle.fuse_wire.specs.Structures.{init_out, entry_out, negative_entry_out, attr_out, open_out, statfs_out, dirent_size, dirent, direntplus}
+use Rattle.fuse_wire.specs.Structures.{init_out, entry_out, negative_entry_out, attr_out, open_out, getxattr_out, statfs_out, dirent_size, dirent, direntplus}
 
 -- the opcode needs a body of n bytes, and asks for no more
 pub record Needs (opcode n : ℕ) : Type 0 where
   pub short : (body : List ℕ) → length body < n → op_of opcode body ≡ malformed opcode
   pub whole : (body : List ℕ) → n ≤ length body → op_of opcode body ≢ malformed opcode
 
--- forget_in, getattr_in, open_in, read_in, init_in, batch_forget_in
+-- forget_in, getattr_in, open_in, read_in, init_in, batch_forget_in; and getxattr_in, if it has no
+-- name
 pub record BodySizes : Type 0 where
   pub forget : Needs 2 8
   pub getattr : Needs 3 16
@@ -21,17 +22,19 @@ pub record BodySizes : Type 0 where
   pub readdir : Needs 28 40
   pub batch_forget : Needs 42 8
   pub readdirplus : Needs 44 40
+  pub listxattr : Needs 23 8
 
 -- the structures of replies
 pub record ReplySizes : Type 0 where
   pub version : length (init_out Version) ≡ 64
-  pub terms : (lasting : Bool) (minor readahead flags : ℕ)
-      → length (init_out (Terms lasting minor readahead flags))
+  pub terms : (lasting acls : Bool) (minor readahead flags : ℕ)
+      → length (init_out (Terms lasting acls minor readahead flags))
       ≡ (if nat_lt minor 23 then 24 else 64)
   pub entry : (a : Attr) → length (entry_out a) ≡ 128
   pub negative_entry : length negative_entry_out ≡ 128
   pub attr : (a : Attr) → length (attr_out a) ≡ 104
   pub open_file : (flags : ℕ) → length (open_out flags) ≡ 16
+  pub getxattr : (size : ℕ) → length (getxattr_out size) ≡ 8
   pub statfs : (blocks files : ℕ) → length (statfs_out blocks files) ≡ 80
 
 -- rows fill a multiple of 8 bytes, and are no longer than needed

@@ -3,9 +3,9 @@ use Rattle.std.specs.Prelude.{◌≡◌, ◌/◌, List, [], ◌∷◌, length, O
 use Rattle.fuse_wire.specs.declared.forget.Forget.{Forget}
 use Rattle.fuse_wire.specs.declared.forget.Forgets.{Forgets}
 use Rattle.fuse_wire.specs.declared.request.Op.{Op as Read}
-use Rattle.fuse_wire.specs.declared.request.Op.TheVariants.{Init, Lookup, Forget as ForgetOne, Getattr, Readlink, Open, Read as ReadFile, Statfs, Release, Fsync, Flush, Opendir, Readdir, Releasedir, Fsyncdir, Interrupt, Destroy, BatchForget, Readdirplus, Modify, Other, Malformed}
+use Rattle.fuse_wire.specs.declared.request.Op.TheVariants.{Init, Lookup, Forget as ForgetOne, Getattr, Readlink, Open, Read as ReadFile, Statfs, Release, Fsync, Flush, Opendir, Readdir, Releasedir, Fsyncdir, Interrupt, Destroy, BatchForget, Readdirplus, Getxattr, Listxattr, Modify, Other, Malformed}
 use Rattle.fuse_wire.specs.declared.request.Request.{Request}
-use Rattle.fuse_wire.specs.Requests.{Op, init, at_node, lookup, getattr, readlink, open_file, read, opendir, readdir, readdirplus, statfs, done, release, fsync, flush, releasedir, fsyncdir, destroy, silent, forget, batch_forget, interrupt, modify, other, malformed, forgets_in, Asked}
+use Rattle.fuse_wire.specs.Requests.{Op, init, at_node, lookup, getattr, readlink, open_file, read, opendir, readdir, readdirplus, getxattr, listxattr, statfs, done, release, fsync, flush, releasedir, fsyncdir, destroy, silent, forget, batch_forget, interrupt, modify, other, malformed, forgets_in, Asked}
 
 -- the items, which lie side by side in their message
 abbrev pub items_of : Forgets → List Forget
@@ -36,6 +36,8 @@ op_said Interrupt = silent interrupt
 op_said Destroy = done destroy
 op_said (BatchForget items) = silent (batch_forget (items_of items))
 op_said (Readdirplus offset size) = at_node (readdirplus offset size)
+op_said (Getxattr size name) = at_node (getxattr size name.now)
+op_said (Listxattr size) = at_node (listxattr size)
 op_said Modify = modify
 op_said Other = other
 op_said (Malformed opcode) = malformed opcode

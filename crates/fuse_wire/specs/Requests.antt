@@ -4,7 +4,7 @@ use Rattle.std.specs.List.{list_any}
 use Rattle.std.specs.Option.{option_map, option_map_or}
 use Rattle.fuse_wire.specs.declared.limits.TheConstants.{HEADER_SIZE}
 use Rattle.fuse_wire.specs.declared.forget.Forget.{Forget}
-use Rattle.fuse_wire.specs.declared.opcode.TheConstants.{LOOKUP, FORGET, GETATTR, SETATTR, READLINK, SYMLINK, MKNOD, MKDIR, UNLINK, RMDIR, RENAME, LINK, OPEN, READ, WRITE, STATFS, RELEASE, FSYNC, SETXATTR, REMOVEXATTR, FLUSH, INIT, OPENDIR, READDIR, RELEASEDIR, FSYNCDIR, CREATE, INTERRUPT, DESTROY, BATCH_FORGET, FALLOCATE, READDIRPLUS, RENAME2, COPY_FILE_RANGE}
+use Rattle.fuse_wire.specs.declared.opcode.TheConstants.{LOOKUP, FORGET, GETATTR, SETATTR, READLINK, SYMLINK, MKNOD, MKDIR, UNLINK, RMDIR, RENAME, LINK, OPEN, READ, WRITE, STATFS, RELEASE, FSYNC, SETXATTR, GETXATTR, LISTXATTR, REMOVEXATTR, FLUSH, INIT, OPENDIR, READDIR, RELEASEDIR, FSYNCDIR, CREATE, INTERRUPT, DESTROY, BATCH_FORGET, FALLOCATE, READDIRPLUS, RENAME2, COPY_FILE_RANGE}
 use Rattle.fuse_wire.specs.Stream.{field}
 
 -- what is requested about a node, with the fields that answers use
@@ -15,6 +15,8 @@ pub data NodeOp : Type 0 where
   read : (offset size : ℕ) → NodeOp
   opendir : NodeOp
   readdir readdirplus : (offset size : ℕ) → NodeOp
+  getxattr : (size : ℕ) (name : List ℕ) → NodeOp
+  listxattr : (size : ℕ) → NodeOp
 
 -- what is answered without data, whatever the node
 pub data DoneOp : Type 0 where
@@ -61,6 +63,12 @@ sized opcode n op body = if nat_lt (length body) n then malformed opcode else op
 abbrev pub read_of : ℕ → (ℕ → ℕ → NodeOp) → List ℕ → Op
 read_of opcode op = sized opcode 40 (λ body. at_node (op (field 8 8 body) (field 4 16 body)))
 
+-- getxattr_in: size, and then a name
+abbrev pub getxattr_of : List ℕ → Op
+getxattr_of body =
+    option_map_or (λ name. at_node (getxattr (field 4 0 body) name))
+    (body_name (cut_at_zero (drop 8 body))) (malformed GETXATTR)
+
 -- forget_one: nodeid and nlookup
 abbrev pub forget_one : List ℕ → Forget
 forget_one bytes = record { node = field 8 0 bytes; nlookup = field 8 8 bytes }
@@ -87,6 +95,8 @@ served =
     ∷ (STATFS, λ _. statfs)
     ∷ (RELEASE, λ _. done release)
     ∷ (FSYNC, λ _. done fsync)
+    ∷ (GETXATTR, sized GETXATTR 8 getxattr_of)
+    ∷ (LISTXATTR, sized LISTXATTR 8 (λ body. at_node (listxattr (field 4 0 body))))
     ∷ (FLUSH, λ _. done flush)
     ∷ (
       INIT,

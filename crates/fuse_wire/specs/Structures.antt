@@ -4,7 +4,7 @@ use Rattle.std.specs.Prelude.{ℕ, ◌+◌, ◌-◌, ◌*◌, ◌/◌, ◌%◌, 
 use Rattle.std.specs.Option.{option_map_or}
 use Rattle.byteorder.specs.Endian.{little_bytes}
 use Rattle.fuse_wire.specs.declared.errno.Errno.{Errno}
-use Rattle.fuse_wire.specs.declared.errno.Errno.TheVariants.{ENOENT, EIO, ENOTDIR, EISDIR, EINVAL, EROFS, ENAMETOOLONG, ENOSYS, EPROTO, ESTALE}
+use Rattle.fuse_wire.specs.declared.errno.Errno.TheVariants.{ENOENT, EIO, ENOTDIR, EISDIR, EINVAL, EROFS, ERANGE, ENAMETOOLONG, ENOSYS, ENODATA, EPROTO, EOPNOTSUPP, ESTALE}
 use Rattle.fuse_wire.specs.declared.limits.TheConstants.{MAX_READAHEAD, MAX_WRITE, MAX_NAME_SIZE}
 use Rattle.stack_model.specs.declared.attr.Attr.{Attr}
 use Rattle.fuse_wire.specs.declared.reply.Dirent.{Dirent}
@@ -35,9 +35,12 @@ errno_number ENOTDIR = 20
 errno_number EISDIR = 21
 errno_number EINVAL = 22
 errno_number EROFS = 30
+errno_number ERANGE = 34
 errno_number ENAMETOOLONG = 36
 errno_number ENOSYS = 38
+errno_number ENODATA = 61
 errno_number EPROTO = 71
+errno_number EOPNOTSUPP = 95
 errno_number ESTALE = 116
 
 -- the bit of this place is set in the flags of an INIT
@@ -56,22 +59,27 @@ has_no_open flags = has_bit 17 flags
 abbrev pub has_no_opendir : ℕ → Bool
 has_no_opendir flags = has_bit 24 flags
 
+-- the flags have POSIX_ACL
+abbrev pub has_acl : ℕ → Bool
+has_acl flags = has_bit 20 flags
+
 -- the flags that a session may have: ASYNC_READ (bit 0), EXPORT_SUPPORT (4), DO_READDIRPLUS (13),
 -- READDIRPLUS_AUTO (14), PARALLEL_DIROPS (18) and MAX_PAGES (22); of a lasting tree also
--- NO_OPEN_SUPPORT (17), CACHE_SYMLINKS (23) and NO_OPENDIR_SUPPORT (24)
-abbrev pub served_flags : Bool → ℕ
-served_flags lasting = if lasting then 0x01c66011 else 0x00446011
+-- NO_OPEN_SUPPORT (17), CACHE_SYMLINKS (23) and NO_OPENDIR_SUPPORT (24); of a tree with access
+-- control lists also POSIX_ACL (20)
+abbrev pub served_flags : Bool → Bool → ℕ
+served_flags lasting acls =
+    (if lasting then 0x01c66011 else 0x00446011) + (if acls then 0x00100000 else 0)
 
 -- max_pages, if the client's flags have MAX_PAGES
 abbrev pub max_pages : Bool → ℕ → ℕ
 max_pages lasting flags = if has_bit 22 flags then (if lasting then 256 else 32) else 0
 
 -- init_out up to max_write, which is all that clients of minor versions below 23 know
-unfoldable pub init_out_22 : Bool → ℕ → ℕ → List ℕ
-init_out_22 lasting readahead flags =
+unfoldable pub init_out_22 : ℕ → ℕ → List ℕ
+init_out_22 readahead session_flags =
     -- major, minor, max_readahead, flags
-    u32 7 ++ u32 31 ++ u32 (min readahead MAX_READAHEAD)
-    ++ u32 (bit_and flags (served_flags lasting))
+    u32 7 ++ u32 31 ++ u32 (min readahead MAX_READAHEAD) ++ u32 session_flags
     -- max_background, congestion_threshold, max_write
     ++ u16 12 ++ u16 9 ++ u32 MAX_WRITE
 
@@ -82,9 +90,9 @@ init_out_rest lasting flags = u32 1 ++ u16 (max_pages lasting flags) ++ u16 0 ++
 -- init_out: the version alone for a client of a later major version, else the session's terms
 unfoldable pub init_out : InitOut → List ℕ
 init_out Version = u32 7 ++ u32 31 ++ zeros 56
-init_out (Terms lasting minor readahead flags) =
-    if nat_lt minor 23 then init_out_22 lasting readahead flags
-    else init_out_22 lasting readahead flags ++ init_out_rest lasting flags
+init_out (Terms lasting acls minor readahead flags) =
+    let front = init_out_22 readahead (bit_and flags (served_flags lasting acls)) in
+    if nat_lt minor 23 then front else front ++ init_out_rest lasting flags
 
 -- attr: its three times are one
 unfoldable pub attr : Attr → List ℕ
@@ -120,6 +128,12 @@ unfoldable pub open_out : ℕ → List ℕ
 open_out flags =
     -- fh, open_flags, padding
     u64 0 ++ u32 flags ++ u32 0
+
+-- getxattr_out: how many bytes there are
+unfoldable pub getxattr_out : ℕ → List ℕ
+getxattr_out size =
+    -- size, padding
+    u32 size ++ u32 0
 
 -- statfs_out, which holds a kstatfs
 unfoldable pub statfs_out : ℕ → ℕ → List ℕ

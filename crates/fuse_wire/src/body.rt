@@ -5,7 +5,7 @@ ghost use Rattle.std.specs.Prelude.{◌≡◌, ◌+◌, ◌≤◌, length, drop}
 ghost use Rattle.std.specs.Option.{option_map};
 ghost use Rattle.fuse_wire.specs.declared.limits.TheConstants.{HEADER_SIZE, MAX_MESSAGE_SIZE};
 ghost use Rattle.fuse_wire.specs.Stream.{field};
-ghost use Rattle.fuse_wire.specs.Requests.{op_of, cut_at_zero, body_name, lookup_of};
+ghost use Rattle.fuse_wire.specs.Requests.{op_of, cut_at_zero, body_name, lookup_of, getxattr_of};
 ghost use Rattle.fuse_wire.specs.Reads.{op_said};
 
 use crate::forget::{BATCH_FORGET_IN_SIZE, Forgets};
@@ -29,6 +29,9 @@ const OPEN_IN_SIZE: usize = 8;
 
 /// The size of a `struct fuse_read_in`.
 const READ_IN_SIZE: usize = 40;
+
+/// The size of a `struct fuse_getxattr_in`.
+const GETXATTR_IN_SIZE: usize = 8;
 
 // What an opcode asks with this body of a message.
 #[tactic(auto, unfolding(crate::specs::Requests::op_of))]
@@ -77,6 +80,10 @@ pub fn read_op<'a>(opcode: u32, message: &[u8], body: &'a [u8]) -> Op<'a>
             offset: wide(body, 8),
             size: word(body, 16),
         },
+        opcode::GETXATTR if GETXATTR_IN_SIZE <= body.len() => read_getxattr(message, body),
+        opcode::LISTXATTR if GETXATTR_IN_SIZE <= body.len() => Op::Listxattr {
+            size: word(body, 0),
+        },
         opcode::FORGET
         | opcode::GETATTR
         | opcode::OPEN
@@ -85,7 +92,9 @@ pub fn read_op<'a>(opcode: u32, message: &[u8], body: &'a [u8]) -> Op<'a>
         | opcode::OPENDIR
         | opcode::READDIR
         | opcode::BATCH_FORGET
-        | opcode::READDIRPLUS => Op::Malformed { opcode },
+        | opcode::READDIRPLUS
+        | opcode::GETXATTR
+        | opcode::LISTXATTR => Op::Malformed { opcode },
         opcode::SETATTR
         | opcode::SYMLINK
         | opcode::MKNOD
@@ -126,7 +135,7 @@ fn read_lookup<'a>(message: &[u8], body: &'a [u8]) -> Op<'a>
     requires { body.now ≡ drop HEADER_SIZE message.now }
     ensures { op_said result ≡ lookup_of body.now }
 {
-    match read_name(message, body) {
+    match read_name(message, HEADER_SIZE, body) {
         Some(name) => Op::Lookup { name },
         None => Op::Malformed {
             opcode: opcode::LOOKUP,
@@ -134,21 +143,40 @@ fn read_lookup<'a>(message: &[u8], body: &'a [u8]) -> Op<'a>
     }
 }
 
-// The name in a body, whose last byte is its only zero byte. A name is not empty.
+// What a GETXATTR asks with this body of a message, which holds its structure.
+fn read_getxattr<'a>(message: &[u8], body: &'a [u8]) -> Op<'a>
+    requires rest { body.now ≡ drop HEADER_SIZE message.now }
+    requires whole { 8 ≤ length body.now }
+    ensures { op_said result ≡ getxattr_of body.now }
+{
+    let start = HEADER_SIZE + GETXATTR_IN_SIZE;
+    match read_name(message, start, &body[GETXATTR_IN_SIZE..]) {
+        Some(name) => Op::Getxattr {
+            size: word(body, 0),
+            name,
+        },
+        None => Op::Malformed {
+            opcode: opcode::GETXATTR,
+        },
+    }
+}
+
+// The name at the end of a message, from a place on: its last byte is its only zero byte. A name is
+// not empty.
 //
-// The search for another one begins behind the name, and may end in the message's header. So there
-// are 32 bytes to look at at once, and few names are longer.
+// The search for another one begins behind the name, and may end in what precedes it. So there are
+// 32 bytes to look at at once, and few names are longer.
 #[tactic(auto, using(crate::proofs::Names::named))]
-fn read_name<'a>(message: &[u8], body: &'a [u8]) -> Option<&'a [u8]>
-    requires { body.now ≡ drop HEADER_SIZE message.now }
+fn read_name<'a>(message: &[u8], start: usize, body: &'a [u8]) -> Option<&'a [u8]>
+    requires { body.now ≡ drop start message.now }
     ensures { option_map (λ name. name.now) result ≡ body_name (cut_at_zero body.now) }
 {
     if body.len() < 2 {
         return None;
     }
     let end = body.len() - 1;
-    match memrchr(0, &message[..HEADER_SIZE + end]) {
-        Some(place) if HEADER_SIZE <= place => None,
+    match memrchr(0, &message[..start + end]) {
+        Some(place) if start <= place => None,
         _ if body[end] != 0 => None,
         _ => Some(&body[..end]),
     }

@@ -18,12 +18,18 @@ pub enum Errno {
     EINVAL = 22,
     /// The tree is read-only, 30.
     EROFS = 30,
+    /// A size that is too small for what was asked, 34.
+    ERANGE = 34,
     /// A name above 255 bytes, 36.
     ENAMETOOLONG = 36,
     /// A request that is not served, 38.
     ENOSYS = 38,
+    /// No such extended attribute, 61.
+    ENODATA = 61,
     /// A protocol version that is not spoken, 71.
     EPROTO = 71,
+    /// An extended attribute that is not served, 95.
+    EOPNOTSUPP = 95,
     /// A node number that is not in use, 116.
     ESTALE = 116,
 }

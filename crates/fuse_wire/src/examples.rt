@@ -1,7 +1,7 @@
 //! Worked examples: what messages ask, and rows and attributes as bytes, by computation.
 #![tactic(auto, unfolding(crate::proofs::Computing::wire_on_literals))]
 
-ghost use Rattle.fuse_wire.specs.Examples.{OpcodeExamples, MessageExamples, ForgetExamples, DirentExamples, AttributesExample, FlagExamples, LimitExamples};
+ghost use Rattle.fuse_wire.specs.Examples.{OpcodeExamples, MessageExamples, ForgetExamples, XattrExamples, DirentExamples, AttributesExample, FlagExamples, LimitExamples};
 
 /// What each opcode asks, by its number.
 pub fn opcodes_example()
@@ -16,6 +16,11 @@ pub fn message_example()
 /// Which items a BATCH_FORGET has.
 pub fn forgets_example()
     ensures { ForgetExamples }
+{}
+
+/// Requests for extended attributes, and their length as an answer.
+pub fn xattrs_example()
+    ensures { XattrExamples }
 {}
 
 /// Names of several lengths in rows.

@@ -2,7 +2,7 @@
 //! so).
 
 ghost use Rattle.std.specs.Prelude.{◌≡◌};
-ghost use Rattle.fuse_wire.specs.Structures.{has_export, has_no_open, has_no_opendir};
+ghost use Rattle.fuse_wire.specs.Structures.{has_export, has_no_open, has_no_opendir, has_acl};
 
 /// Of INIT: the client reads ahead without waiting.
 pub const ASYNC_READ: u32 = 0x0000_0001;
@@ -21,6 +21,9 @@ pub const NO_OPEN_SUPPORT: u32 = 0x0002_0000;
 
 /// Of INIT: LOOKUP and READDIR of one directory may come side by side.
 pub const PARALLEL_DIROPS: u32 = 0x0004_0000;
+
+/// Of INIT: the client enforces the access control lists of files, which it gets by GETXATTR.
+pub const POSIX_ACL: u32 = 0x0010_0000;
 
 /// Of INIT: the reply's field `max_pages` counts.
 pub const MAX_PAGES: u32 = 0x0040_0000;
@@ -61,4 +64,12 @@ pub fn has_no_opendir(flags: u32) -> bool
     ensures { result ≡ has_no_opendir flags }
 {
     flags & NO_OPENDIR_SUPPORT != 0
+}
+
+/// Whether the flags of an INIT have [`POSIX_ACL`].
+#[tactic(auto, using(crate::proofs::FlagBits::acl_bit))]
+pub fn has_acl(flags: u32) -> bool
+    ensures { result ≡ has_acl flags }
+{
+    flags & POSIX_ACL != 0
 }

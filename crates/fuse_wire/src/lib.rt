@@ -34,7 +34,7 @@ pub use framing::{Framed, frame};
 pub use put::{
     SHORT_ROW_SIZE, dirent_size, put_attr, put_data, put_data_head, put_dirent, put_direntplus,
     put_entry, put_error, put_head, put_init, put_negative_entry, put_open, put_short_direntplus,
-    put_statfs, set_data_head,
+    put_statfs, put_xattr_size, set_data_head,
 };
 pub use read::put_read;
 pub use replies::Replies;

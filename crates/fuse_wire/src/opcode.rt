@@ -39,6 +39,10 @@ pub const FSYNC: u32 = 20;
 
 pub const SETXATTR: u32 = 21;
 
+pub const GETXATTR: u32 = 22;
+
+pub const LISTXATTR: u32 = 23;
+
 pub const REMOVEXATTR: u32 = 24;
 
 pub const FLUSH: u32 = 25;

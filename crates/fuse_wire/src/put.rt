@@ -4,7 +4,7 @@
 
 ghost use Rattle.std.specs.Prelude.{◌≡◌, ◌++◌, ◌<◌, ◌≤◌, ◌+◌, ◌-◌, ◌^◌, [], length, take, drop, vec_len, IsFalse};
 ghost use Rattle.std.specs.Option.{option_copied, option_map_or};
-ghost use Rattle.fuse_wire.specs.Structures.{zeros, init_out, entry_out, negative_entry_out, attr_out, open_out, statfs_out, dirent_size, padding, row_bytes, plus_row_bytes};
+ghost use Rattle.fuse_wire.specs.Structures.{zeros, init_out, entry_out, negative_entry_out, attr_out, open_out, getxattr_out, statfs_out, dirent_size, padding, row_bytes, plus_row_bytes};
 ghost use Rattle.fuse_wire.specs.Replies.{reply_head, reply_with, error_reply};
 ghost use Rattle.fuse_wire.specs.Appends.{Appends, PutsUpTo, IsTooMuch};
 ghost use Rattle.fuse_wire.specs.declared.put.TheConstants.{DIRENT_FRONT_SIZE, SHORT_ROW_SIZE};
@@ -13,9 +13,9 @@ use crate::limits::OUT_HEADER_SIZE;
 use crate::replies::{Replies, clear_behind};
 use crate::structure::{set_bytes, set_zeros};
 use crate::structures::{
-    ATTR_OUT_SIZE, COMPAT_22_INIT_OUT_SIZE, ENTRY_OUT_SIZE, INIT_OUT_SIZE, OPEN_OUT_SIZE,
-    STATFS_OUT_SIZE, attr_out, dirent_front, entry_out, error_head, head, init_out,
-    negative_entry_out, open_out, statfs_out,
+    ATTR_OUT_SIZE, COMPAT_22_INIT_OUT_SIZE, ENTRY_OUT_SIZE, GETXATTR_OUT_SIZE, INIT_OUT_SIZE,
+    OPEN_OUT_SIZE, STATFS_OUT_SIZE, attr_out, dirent_front, entry_out, error_head, getxattr_out,
+    head, init_out, negative_entry_out, open_out, statfs_out,
 };
 use crate::{Attr, Dirent, Errno, InitOut};
 use std::alloc::{AllocError, Allocator};
@@ -178,6 +178,21 @@ pub fn put_open<A: Allocator>(
     let at = head(bytes, out.len, unique, OPEN_OUT_SIZE);
     out.len = open_out(bytes, at, open_flags);
     Ok(())
+}
+
+/// Appends the reply that says how long an extended attribute, or the list of them, is, of 24 bytes
+/// (`struct fuse_getxattr_out`).
+pub fn put_xattr_size<A: Allocator>(
+    out: &mut Replies<A>,
+    unique: u64,
+    size: u32,
+) -> Result<(), AllocError>
+    ensures { Appends result out.old out.new (reply_with unique (getxattr_out size)) }
+{
+    let mut reply = [0; OUT_HEADER_SIZE + GETXATTR_OUT_SIZE];
+    let at = head(&mut reply, 0, unique, GETXATTR_OUT_SIZE);
+    let end = getxattr_out(&mut reply, at, size);
+    out.append(&reply[..end])
 }
 
 /// Appends the reply to a STATFS, of 96 bytes (`struct fuse_statfs_out`): all blocks of 512 bytes,

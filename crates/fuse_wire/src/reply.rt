@@ -26,6 +26,9 @@ pub enum InitOut {
         /// [`NO_OPENDIR_SUPPORT`](crate::flags::NO_OPENDIR_SUPPORT), and requests of 256 pages
         /// instead of 32.
         lasting: bool,
+        /// Whether the tree has access control lists; then the session may have
+        /// [`POSIX_ACL`](crate::flags::POSIX_ACL).
+        acls: bool,
         /// The minor version that the client speaks: below 23 it knows the first 24 bytes alone.
         minor: u32,
         /// The client's limit of bytes that it reads ahead.

@@ -108,6 +108,18 @@ pub enum Op<'a> {
         /// How many bytes of rows at most.
         size: u32,
     },
+    /// An extended attribute of a node (`FUSE_GETXATTR`).
+    Getxattr {
+        /// How many bytes of it at most; with 0 its length is asked.
+        size: u32,
+        /// Its name, without the zero byte. It is not empty.
+        name: &'a [u8],
+    },
+    /// The names of a node's extended attributes (`FUSE_LISTXATTR`).
+    Listxattr {
+        /// How many bytes of them at most; with 0 their length is asked.
+        size: u32,
+    },
     /// An opcode that would change the tree.
     Modify,
     /// An opcode that is not served.

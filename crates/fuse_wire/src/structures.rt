@@ -2,7 +2,7 @@
 //! by field in order. Each function returns the place after it.
 
 ghost use Rattle.std.specs.Prelude.{◌≡◌, ◌++◌, ◌<◌, ◌≤◌, ◌+◌, ◌^◌, length, take};
-ghost use Rattle.fuse_wire.specs.Structures.{init_out, init_out_22, init_out_rest, max_pages, served_flags, attr, entry_out, negative_entry_out, attr_out, open_out, statfs_out, row_front};
+ghost use Rattle.fuse_wire.specs.Structures.{init_out, init_out_22, init_out_rest, max_pages, served_flags, attr, entry_out, negative_entry_out, attr_out, open_out, getxattr_out, statfs_out, row_front};
 ghost use Rattle.fuse_wire.specs.Replies.{reply_head, error_reply};
 
 use crate::limits::{MAX_NAME_SIZE, MAX_READAHEAD, MAX_WRITE, OUT_HEADER_SIZE};
@@ -24,6 +24,9 @@ pub const ATTR_OUT_SIZE: usize = 104;
 
 /// The size of a `struct fuse_open_out`.
 pub const OPEN_OUT_SIZE: usize = 16;
+
+/// The size of a `struct fuse_getxattr_out`.
+pub const GETXATTR_OUT_SIZE: usize = 8;
 
 /// The size of a `struct fuse_statfs_out`.
 pub const STATFS_OUT_SIZE: usize = 80;
@@ -107,11 +110,13 @@ pub fn init_out(fields: &mut [u8], at: usize, init: &InitOut) -> usize
         }
         InitOut::Terms {
             lasting,
+            acls,
             minor,
             max_readahead,
             flags,
         } => {
-            let at = init_out_22(fields, at, lasting, max_readahead, flags);
+            let session_flags = flags & served_flags(lasting, acls);
+            let at = init_out_22(fields, at, max_readahead, session_flags);
             if 23 <= minor {
                 init_out_rest(fields, at, lasting, flags)
             } else {
@@ -123,17 +128,17 @@ pub fn init_out(fields: &mut [u8], at: usize, init: &InitOut) -> usize
 
 // Its fields up to `max_write`.
 #[tactic(auto, unfolding(crate::specs::Structures::init_out_22))]
-fn init_out_22(fields: &mut [u8], at: usize, lasting: bool, max_readahead: u32, flags: u32) -> usize
+fn init_out_22(fields: &mut [u8], at: usize, max_readahead: u32, session_flags: u32) -> usize
     requires { at + 24 ≤ length fields.old }
     ensures fields { take result fields.new
-        ≡ take at fields.old ++ init_out_22 lasting max_readahead flags }
+        ≡ take at fields.old ++ init_out_22 max_readahead session_flags }
     ensures size { length fields.new ≡ length fields.old }
     ensures end { result ≡ at + 24 }
 {
     let at = set_u32(fields, at, MAJOR);
     let at = set_u32(fields, at, MINOR);
     let at = set_u32(fields, at, max_readahead.min(MAX_READAHEAD));
-    let at = set_u32(fields, at, flags & served_flags(lasting));
+    let at = set_u32(fields, at, session_flags);
     let at = set_u16(fields, at, MAX_BACKGROUND);
     let at = set_u16(fields, at, CONGESTION_THRESHOLD);
     set_u32(fields, at, MAX_WRITE)
@@ -155,10 +160,15 @@ fn init_out_rest(fields: &mut [u8], at: usize, lasting: bool, flags: u32) -> usi
 }
 
 // The flags that a session may have.
-fn served_flags(lasting: bool) -> u32
-    ensures { result ≡ served_flags lasting }
+fn served_flags(lasting: bool, acls: bool) -> u32
+    ensures { result ≡ served_flags lasting acls }
 {
-    if lasting { LASTING_FLAGS } else { SERVED_FLAGS }
+    let of_tree = if lasting { LASTING_FLAGS } else { SERVED_FLAGS };
+    if acls {
+        of_tree + flags::POSIX_ACL
+    } else {
+        of_tree
+    }
 }
 
 // How many pages a request may have, for a client with these flags.
@@ -259,6 +269,18 @@ pub fn open_out(fields: &mut [u8], at: usize, open_flags: u32) -> usize
 {
     let at = set_u64(fields, at, 0); // fh
     let at = set_u32(fields, at, open_flags);
+    set_u32(fields, at, 0) // padding
+}
+
+// `struct fuse_getxattr_out`.
+#[tactic(auto, unfolding(crate::specs::Structures::getxattr_out))]
+pub fn getxattr_out(fields: &mut [u8], at: usize, size: u32) -> usize
+    requires { at + 8 ≤ length fields.old }
+    ensures fields { take result fields.new ≡ take at fields.old ++ getxattr_out size }
+    ensures size { length fields.new ≡ length fields.old }
+    ensures end { result ≡ at + 8 }
+{
+    let at = set_u32(fields, at, size);
     set_u32(fields, at, 0) // padding
 }
 

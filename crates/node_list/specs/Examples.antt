@@ -17,6 +17,7 @@ sticky_root = record {
     seconds = 0;
     nanoseconds = 0;
   } ∷ []) ∷ [];
+  lists = [];
   owner = ROOT;
   whole = true;
 }

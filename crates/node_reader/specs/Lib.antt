@@ -4,3 +4,4 @@ pub mod Directories
 pub mod Readers
 pub mod Stamps
 pub mod Held
+pub mod Xattrs

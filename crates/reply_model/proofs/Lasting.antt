@@ -2,22 +2,22 @@
 -- from the few facts that a row depends on; then those of all sessions (`replies_last`), what is moved (`moves_stay`), and how sessions go
 -- on.
 use Rattle.std.proofs.Common.{◌≡◌, ◌≢◌, ◌∙◌, sym, ap, ℕ, ◌-◌, ◌%◌, ◌^◌, List, [], ◌∷◌, ◌++◌, length, get_or, map, Bool, true, false, Option, Some, None, cond, refl}
-use Rattle.std.specs.Prelude.{nat_lt, not, ◌&&◌, ◌||◌, ◌==◌, is_none, is_some}
+use Rattle.std.specs.Prelude.{bit_and, nat_lt, not, ◌&&◌, ◌||◌, ◌==◌, is_none, is_some}
 use Rattle.std.specs.Option.{option_map_or, option_to_list}
 use Rattle.std.proofs.lemmas.Bool.{false≢true, eq-eqb}
 use Rattle.romfs_format.specs.declared.head.Kind.{Kind}
 use Rattle.romfs_format.specs.declared.head.Kind.TheVariants.{Directory, Regular}
 use Rattle.fuse_wire.specs.declared.errno.Errno.{Errno}
-use Rattle.fuse_wire.specs.declared.errno.Errno.TheVariants.{ENOENT, EIO, ENOTDIR, EISDIR, EINVAL, EROFS, ENAMETOOLONG, ENOSYS, EPROTO, ESTALE}
+use Rattle.fuse_wire.specs.declared.errno.Errno.TheVariants.{ENOENT, EIO, ENOTDIR, EISDIR, EINVAL, EROFS, ERANGE, ENAMETOOLONG, ENOSYS, ENODATA, EPROTO, EOPNOTSUPP, ESTALE}
 use Rattle.fuse_wire.specs.declared.flags.TheConstants.{FOPEN_KEEP_CACHE}
 use Rattle.fuse_wire.specs.declared.limits.TheConstants.{MAX_NAME_SIZE}
 use Rattle.fuse_wire.specs.declared.reply.InitOut.TheVariants.{Version, Terms}
 use Rattle.fuse_wire.specs.Requests.{NodeOp, Op, Asked, asked, init, at_node, lookup, open_file, opendir, done, flush, destroy}
-use Rattle.fuse_wire.specs.Structures.{u16, u32, u64, zeros, errno_number, has_export, has_no_open, has_no_opendir, init_out, init_out_22, init_out_rest, entry_out, negative_entry_out, open_out}
+use Rattle.fuse_wire.specs.Structures.{u16, u32, u64, zeros, errno_number, has_export, has_acl, has_no_open, has_no_opendir, served_flags, init_out, init_out_22, init_out_rest, entry_out, negative_entry_out, open_out}
 use Rattle.fuse_wire.specs.Replies.{reply_head, reply_with, error_reply}
 use Rattle.stack_model.specs.Listing.{Stacked}
 use Rattle.stack_model.specs.Numbers.{Place, node_of}
-use Rattle.stack_model.specs.Attributes.{is_directory, kind_at, attr_of}
+use Rattle.stack_model.specs.Attributes.{is_directory, kind_at, attr_of, has_acls}
 use Rattle.reply_model.specs.declared.session.Agreement.{Agreement}
 use Rattle.reply_model.specs.declared.session.Session.{Session}
 use Rattle.reply_model.specs.declared.session.Session.TheVariants.{Fresh, Ready, LastingFresh, LastingReady}
@@ -54,9 +54,12 @@ some_error ENOTDIR = refl
 some_error EISDIR = refl
 some_error EINVAL = refl
 some_error EROFS = refl
+some_error ERANGE = refl
 some_error ENAMETOOLONG = refl
 some_error ENOSYS = refl
+some_error ENODATA = refl
 some_error EPROTO = refl
+some_error EOPNOTSUPP = refl
 some_error ESTALE = refl
 
 -- an error is no reply with data, and no other error
@@ -77,30 +80,32 @@ other_error unique errno n e = false≢true (sym n ∙ eq-eqb ((2 ^ 32 - errno_n
 abbrev background_byte : List ℕ → ℕ
 background_byte bytes = get_or bytes 32 0
 
-version_no_terms : (unique : ℕ) (lasting : Bool) (minor readahead flags : ℕ)
-    → reply_with unique (init_out Version) ≢ reply_with unique (init_out (Terms lasting minor readahead flags))
+version_no_terms : (unique : ℕ) (lasting acls : Bool) (minor readahead flags : ℕ)
+    → reply_with unique (init_out Version) ≢ reply_with unique (init_out (Terms lasting acls minor readahead flags))
 unfolding reply_with reply_head init_out init_out_22 init_out_rest u16 u32 u64 zeros
-version_no_terms unique lasting minor readahead flags = either (nat_lt minor 23)
+version_no_terms unique lasting acls minor readahead flags = either (nat_lt minor 23)
   where
+    front : List ℕ
+    front = init_out_22 readahead (bit_and flags (served_flags lasting acls))
+
     either : (b : Bool) → reply_with unique (init_out Version)
-        ≢ reply_with unique (cond b (init_out_22 lasting readahead flags)
-        (init_out_22 lasting readahead flags ++ init_out_rest lasting flags))
+        ≢ reply_with unique (cond b front (front ++ init_out_rest lasting flags))
     either true e = false≢true (eq-eqb 0 12 (ap background_byte e))
     either false e = false≢true (eq-eqb 0 12 (ap background_byte e))
 
 -- INIT in a fresh session, off whether the major version is later and whether the version is spoken
-abbrev begun : ℕ → Bool → Bool → Bool → ℕ → ℕ → ℕ → List ℕ
-begun unique lasting later spoken minor readahead flags =
+abbrev begun : ℕ → Bool → Bool → Bool → Bool → ℕ → ℕ → ℕ → List ℕ
+begun unique lasting acls later spoken minor readahead flags =
     option_map_or (error_reply unique) (first_refusal (refuse_if (not (later || spoken)) EPROTO ∷ []))
-    (reply_with unique (init_out (cond later Version (Terms lasting minor readahead flags))))
+    (reply_with unique (init_out (cond later Version (Terms lasting acls minor readahead flags))))
 
-begun_lasts : (unique : ℕ) (later spoken : Bool) (minor readahead flags : ℕ)
-    → Becomes (reply_with unique (init_out (Terms false minor readahead flags)))
-    (reply_with unique (init_out (Terms true minor readahead flags)))
-    (begun unique false later spoken minor readahead flags) (begun unique true later spoken minor readahead flags)
-begun_lasts unique true spoken minor readahead flags = stays _ _ _ (version_no_terms unique false minor readahead flags)
-begun_lasts unique false true minor readahead flags = turns _ _
-begun_lasts unique false false minor readahead flags = stays _ _ _ (error_no_data unique EPROTO _)
+begun_lasts : (unique : ℕ) (acls later spoken : Bool) (minor readahead flags : ℕ)
+    → Becomes (reply_with unique (init_out (Terms false acls minor readahead flags)))
+    (reply_with unique (init_out (Terms true acls minor readahead flags)))
+    (begun unique false acls later spoken minor readahead flags) (begun unique true acls later spoken minor readahead flags)
+begun_lasts unique acls true spoken minor readahead flags = stays _ _ _ (version_no_terms unique false acls minor readahead flags)
+begun_lasts unique acls false true minor readahead flags = turns _ _
+begun_lasts unique acls false false minor readahead flags = stays _ _ _ (error_no_data unique EPROTO _)
 
 -- OPEN and OPENDIR of a node, off its kind
 abbrev opened : ℕ → Bool → Kind → Bool → List ℕ
@@ -166,12 +171,12 @@ module _ (stack : Stacked) where
   looked_moves true directory false None = refl
   looked_moves true directory false (Some c) = refl
 
-  module _ (export no_open no_opendir : Bool) where
+  module _ (export acls no_open no_opendir : Bool) where
     abbrev usually : Agreement
-    usually = agreement_of (Ready export)
+    usually = agreement_of (Ready export acls)
 
     abbrev lastingly : Agreement
-    lastingly = agreement_of (LastingReady export no_open no_opendir)
+    lastingly = agreement_of (LastingReady export acls no_open no_opendir)
 
     -- a request about a node in a ready session, off the place that its number finds
     abbrev replied : Agreement → ℕ → NodeOp → Option Place → List ℕ
@@ -180,7 +185,7 @@ module _ (stack : Stacked) where
         (reply_with unique (option_map_or (answer_at stack agreed op) o []))
 
     node_lasts : (unique : ℕ) (op : NodeOp) (o : Option Place)
-        → LastsAs lastingly unique (at_node op) (replied usually unique op o) (replied lastingly unique op o)
+        → LastsAs (has_acls stack) lastingly unique (at_node op) (replied usually unique op o) (replied lastingly unique op o)
     node_lasts unique (lookup name) None = stays _ _ _ (other_error unique ESTALE refl)
     node_lasts unique (lookup name) (Some p) =
         looked_lasts unique (is_itself export name) (is_directory (kind_at stack.layers p))
@@ -192,17 +197,20 @@ module _ (stack : Stacked) where
     node_lasts unique _ o = refl
 
     ready_lasts : (unique node : ℕ) (op : Op) →
-        LastsAs lastingly unique op (reply stack (Ready export) (asking unique node op))
-        (reply stack (LastingReady export no_open no_opendir) (asking unique node op))
+        LastsAs (has_acls stack) lastingly unique op (reply stack (Ready export acls) (asking unique node op))
+        (reply stack (LastingReady export acls no_open no_opendir) (asking unique node op))
     ready_lasts unique node (init major minor readahead flags) = stays _ _ _ (error_no_data unique EIO _)
-    ready_lasts unique node (at_node op) = node_lasts unique op (node_of stack.entries node)
+    ready_lasts unique node (at_node (lookup name)) = node_lasts unique (lookup name) (node_of stack.entries node)
+    ready_lasts unique node (at_node (open_file flags)) = node_lasts unique (open_file flags) (node_of stack.entries node)
+    ready_lasts unique node (at_node opendir) = node_lasts unique opendir (node_of stack.entries node)
+    ready_lasts unique node (at_node _) = refl
     ready_lasts unique node (done flush) = turns _ _
     ready_lasts unique node (done _) = refl
     ready_lasts unique node _ = refl
 
     looked_up_moves : (unique node : ℕ) (name : List ℕ) →
-        moves stack (LastingReady export no_open no_opendir) (asking unique node (at_node (lookup name)))
-        ≡ moves stack (Ready export) (asking unique node (at_node (lookup name)))
+        moves stack (LastingReady export acls no_open no_opendir) (asking unique node (at_node (lookup name)))
+        ≡ moves stack (Ready export acls) (asking unique node (at_node (lookup name)))
     looked_up_moves unique node name = at_place (node_of stack.entries node)
       where
         at_place : (o : Option Place)
@@ -215,14 +223,14 @@ module _ (stack : Stacked) where
             (nat_lt MAX_NAME_SIZE (length name)) (looked_up stack.entries export p name)
 
     none_moved : (q : Asked) → is_moving q.op ≡ false
-        → moves stack (LastingReady export no_open no_opendir) q ≡ moves stack (Ready export) q
+        → moves stack (LastingReady export acls no_open no_opendir) q ≡ moves stack (Ready export acls) q
     none_moved q e =
-        others_move_nothing stack (LastingReady export no_open no_opendir) q e
-        ∙ sym (others_move_nothing stack (Ready export) q e)
+        others_move_nothing stack (LastingReady export acls no_open no_opendir) q e
+        ∙ sym (others_move_nothing stack (Ready export acls) q e)
 
     ready_moves : (unique node : ℕ) (op : Op) →
-        moves stack (LastingReady export no_open no_opendir) (asking unique node op)
-        ≡ moves stack (Ready export) (asking unique node op)
+        moves stack (LastingReady export acls no_open no_opendir) (asking unique node op)
+        ≡ moves stack (Ready export acls) (asking unique node op)
     ready_moves unique node (at_node (lookup name)) = looked_up_moves unique node name
     ready_moves unique node (at_node (open_file flags)) =
         none_moved (asking unique node (at_node (open_file flags))) refl
@@ -232,10 +240,10 @@ module _ (stack : Stacked) where
     ready_moves unique node _ = refl
 
   fresh_lasts : (unique node : ℕ) (op : Op) →
-      LastsAs (agreement_of LastingFresh) unique op (reply stack Fresh (asking unique node op))
+      LastsAs (has_acls stack) (agreement_of LastingFresh) unique op (reply stack Fresh (asking unique node op))
       (reply stack LastingFresh (asking unique node op))
   fresh_lasts unique node (init major minor readahead flags) =
-      begun_lasts unique (nat_lt 7 major) (is_spoken major minor) minor readahead flags
+      begun_lasts unique (has_acls stack) (nat_lt 7 major) (is_spoken major minor) minor readahead flags
   fresh_lasts unique node (at_node (lookup name)) = stays _ _ _ (other_error unique EIO refl)
   fresh_lasts unique node (at_node (open_file flags)) = stays _ _ _ (error_no_data unique EIO _)
   fresh_lasts unique node (at_node opendir) = stays _ _ _ (error_no_data unique EIO _)
@@ -246,42 +254,42 @@ module _ (stack : Stacked) where
 
   -- a lasting session replies what the usual one does, but in the cases that `LastsAs` lists
   pub replies_last : (s : Session) (q : Asked) → (agreement_of s).lasting ≡ true
-      → LastsAs (agreement_of s) q.unique q.op (reply stack (usual_of s) q) (reply stack s q)
+      → LastsAs (has_acls stack) (agreement_of s) q.unique q.op (reply stack (usual_of s) q) (reply stack s q)
   replies_last Fresh q e = absurd (cc)
-  replies_last (Ready export) q e = absurd (cc)
+  replies_last (Ready export acls) q e = absurd (cc)
   replies_last LastingFresh q e = fresh_lasts q.unique q.node q.op
-  replies_last (LastingReady export no_open no_opendir) q e = ready_lasts export no_open no_opendir q.unique q.node q.op
+  replies_last (LastingReady export acls no_open no_opendir) q e = ready_lasts export acls no_open no_opendir q.unique q.node q.op
 
   -- a request moves in a lasting session what it moves in the usual one
   pub moves_stay : (s : Session) (q : Asked) → moves stack s q ≡ moves stack (usual_of s) q
   moves_stay Fresh q = refl
-  moves_stay (Ready export) q = refl
+  moves_stay (Ready export acls) q = refl
   moves_stay LastingFresh q = fresh_moves_nothing stack LastingFresh q refl ∙ sym (fresh_moves_nothing stack Fresh q refl)
-  moves_stay (LastingReady export no_open no_opendir) q = ready_moves export no_open no_opendir q.unique q.node q.op
+  moves_stay (LastingReady export acls no_open no_opendir) q = ready_moves export acls no_open no_opendir q.unique q.node q.op
 
 -- sessions go on as the usual ones do
-begun_goes_on : (spoken export no_open no_opendir : Bool)
-    → usual_of (cond spoken (LastingReady export no_open no_opendir) LastingFresh) ≡ cond spoken (Ready export) Fresh
-begun_goes_on true export no_open no_opendir = refl
-begun_goes_on false export no_open no_opendir = refl
+begun_goes_on : (spoken export acls no_open no_opendir : Bool)
+    → usual_of (cond spoken (LastingReady export acls no_open no_opendir) LastingFresh) ≡ cond spoken (Ready export acls) Fresh
+begun_goes_on true export acls no_open no_opendir = refl
+begun_goes_on false export acls no_open no_opendir = refl
 
-usual_begun : (spoken export : Bool) → usual_of (cond spoken (Ready export) Fresh) ≡ cond spoken (Ready export) Fresh
-usual_begun true export = refl
-usual_begun false export = refl
+usual_begun : (spoken export acls : Bool) → usual_of (cond spoken (Ready export acls) Fresh) ≡ cond spoken (Ready export acls) Fresh
+usual_begun true export acls = refl
+usual_begun false export acls = refl
 
 -- a lasting session goes on, request by request, as the usual one in its place does
 pub session_goes_on : (s : Session) (op : Op) → usual_of (session_after s op) ≡ session_after (usual_of s) op
-session_goes_on Fresh (init major minor readahead flags) = usual_begun (is_spoken major minor) (has_export flags)
+session_goes_on Fresh (init major minor readahead flags) = usual_begun (is_spoken major minor) (has_export flags) (has_acl flags)
 session_goes_on Fresh _ = refl
 session_goes_on LastingFresh (init major minor readahead flags) =
-    begun_goes_on (is_spoken major minor) (has_export flags) (has_no_open flags) (has_no_opendir flags)
+    begun_goes_on (is_spoken major minor) (has_export flags) (has_acl flags) (has_no_open flags) (has_no_opendir flags)
 session_goes_on LastingFresh _ = refl
-session_goes_on (Ready export) (done destroy) = refl
-session_goes_on (Ready export) (done _) = refl
-session_goes_on (Ready export) _ = refl
-session_goes_on (LastingReady export no_open no_opendir) (done destroy) = refl
-session_goes_on (LastingReady export no_open no_opendir) (done _) = refl
-session_goes_on (LastingReady export no_open no_opendir) _ = refl
+session_goes_on (Ready export acls) (done destroy) = refl
+session_goes_on (Ready export acls) (done _) = refl
+session_goes_on (Ready export acls) _ = refl
+session_goes_on (LastingReady export acls no_open no_opendir) (done destroy) = refl
+session_goes_on (LastingReady export acls no_open no_opendir) (done _) = refl
+session_goes_on (LastingReady export acls no_open no_opendir) _ = refl
 
 module _ (stack : Stacked) where
   -- so a stream moves what it moves usually

@@ -24,12 +24,12 @@ use Rattle.fuse_wire.specs.declared.reply.InitOut.{InitOut}
 use Rattle.fuse_wire.specs.declared.reply.InitOut.TheVariants.{Version, Terms}
 use Rattle.fuse_wire.specs.declared.limits.TheConstants.{MAX_DATA_SIZE, MAX_REPLY_SIZE}
 use Rattle.fuse_wire.specs.Stream.{said_length}
-use Rattle.fuse_wire.specs.Requests.{NodeOp, Op, Asked, init, at_node, lookup, getattr, readlink, open_file, read, opendir, readdir, readdirplus, statfs}
+use Rattle.fuse_wire.specs.Requests.{NodeOp, Op, Asked, init, at_node, lookup, getattr, readlink, open_file, read, opendir, readdir, readdirplus, getxattr, listxattr, statfs}
 use Rattle.fuse_wire.specs.Structures.{u32, u64, init_out, entry_out, negative_entry_out}
 use Rattle.fuse_wire.specs.Replies.{reply_with, error_reply}
 use Rattle.stack_model.specs.Listing.{Stacked, IsListing}
 use Rattle.stack_model.specs.Numbers.{Place, nodes, node_of}
-use Rattle.stack_model.specs.Attributes.{blocks_all, kind_at, size_at, layer_of, data_of, attr_of}
+use Rattle.stack_model.specs.Attributes.{blocks_all, has_acls, xattrs_of, kind_at, size_at, layer_of, data_of, attr_of}
 use Rattle.stack_model.proofs.Listings.{IsLedTo, led_to}
 use Rattle.stack_model.proofs.Numbering.{number_listed}
 use Rattle.reply_model.specs.declared.session.Agreement.{Agreement}
@@ -38,20 +38,22 @@ use Rattle.reply_model.specs.Sessions.{agreement_of}
 use Rattle.reply_model.specs.Lookups.{looked_up}
 use Rattle.reply_model.specs.Rows.{Row, dirent_of, direntplus_of, fitting}
 use Rattle.reply_model.specs.Services.{unless_link, is_too_large, refused_rows, opendir_flags, service}
-use Rattle.reply_model.specs.Refusals.{refused_by_itself, refused_at, refusal}
+use Rattle.reply_model.specs.Refusals.{refused_by_op, refused_at, refusal}
 use Rattle.reply_model.specs.Replies.{is_silent, answer_at, answer, reply}
 use Rattle.fuse_wire.proofs.Sizes.{length-error_reply, length-reply_with, length-version, length-terms, length-entry_out, length-negative_entry_out, length-attr_out, length-open_out, length-statfs_out}
 use Rattle.reply_model.proofs.Fronts.{front}
-use Rattle.reply_model.proofs.Refused.{both_none, if_none, not_by_itself}
+use Rattle.reply_model.proofs.Refused.{both_none, if_none, not_by_op}
+use Rattle.reply_model.specs.Laws.{AreListed}
+use Rattle.reply_model.proofs.Xattrs.{short_value, short_names}
 use Rattle.reply_model.proofs.Headers.{headed}
 
 -- INIT is answered 64 bytes at most
 short_init : (o : InitOut) → length (init_out o) ≤ 64
 short_init Version = let l = length-version in omega arith
-short_init (Terms lasting minor readahead flags) = either (nat_lt minor 23) (length-terms lasting minor readahead flags)
+short_init (Terms lasting acls minor readahead flags) = either (nat_lt minor 23) (length-terms lasting acls minor readahead flags)
   where
-    either : (b : Bool) → length (init_out (Terms lasting minor readahead flags)) ≡ cond b 24 64
-        → length (init_out (Terms lasting minor readahead flags)) ≤ 64
+    either : (b : Bool) → length (init_out (Terms lasting acls minor readahead flags)) ≡ cond b 24 64
+        → length (init_out (Terms lasting acls minor readahead flags)) ≤ 64
     either true e = omega arith
     either false e = omega arith
 
@@ -92,7 +94,7 @@ unfolding u32 u64
 said_header n error unique rest l = little_number-reads_back 4 n (u32 error ++ (u64 unique ++ rest)) l
 
 module _ (bs : List (List ℕ)) (stack : Stacked) (sound : All (IsSound Usual) bs) (are : stack.layers ≡ map image bs)
-    (l : IsListing stack.layers stack.entries) where
+    (l : IsListing stack.layers stack.entries) (listed : AreListed stack) where
   -- a symbolic link with a number has a short target
   short_link : (node : ℕ) (p : Place) → node_of stack.entries node ≡ Some p → kind_at stack.layers p ≡ SymLink
       → length (data_of stack.layers p) ≤ MAX_TARGET_SIZE
@@ -140,6 +142,10 @@ module _ (bs : List (List ℕ)) (stack : Stacked) (sound : All (IsSound Usual) b
       omega arith
   short_at x node (readdir offset n) p e r = short_rows (dirent_of stack) _ n (by_arguments x (readdir offset n) p r)
   short_at x node (readdirplus offset n) p e r = short_rows (direntplus_of stack) _ n (by_arguments x (readdirplus offset n) p r)
+  short_at x node (getxattr n name) p e r =
+      let l = short_value n name (xattrs_of stack p) (listed.each p) in omega arith
+  short_at x node (listxattr n) p e r =
+      let l = short_names n x.acls (xattrs_of stack p) (listed.each p) in omega arith
 
   -- the answer to a request about a node
   short_node : (x : Agreement) (node : ℕ) (op : NodeOp) (o : Option Place) → node_of stack.entries node ≡ o
@@ -149,10 +155,10 @@ module _ (bs : List (List ℕ)) (stack : Stacked) (sound : All (IsSound Usual) b
   short_node x node op (Some p) e r = short_at x node op p e r
 
   -- the answer to a request that is not refused
-  short_answer : (x : Agreement) (node : ℕ) (op : Op) → refused_by_itself stack x node op ≡ None
+  short_answer : (x : Agreement) (node : ℕ) (op : Op) → refused_by_op stack x node op ≡ None
       → length (answer stack x node op) ≤ MAX_DATA_SIZE
   short_answer x node (init major minor readahead flags) r = let l =
-      short_init (cond (nat_lt 7 major) Version (Terms x.lasting minor readahead flags)) in omega arith
+      short_init (cond (nat_lt 7 major) Version (Terms x.lasting (has_acls stack) minor readahead flags)) in omega arith
   short_answer x node (at_node op) r = short_node x node op (node_of stack.entries node) refl r
   short_answer x node statfs r = let l = length-statfs_out (blocks_all stack.layers) (length (nodes stack.entries)) in omega arith
   short_answer x node _ r = lit≤ tt
@@ -166,7 +172,7 @@ module _ (bs : List (List ℕ)) (stack : Stacked) (sound : All (IsSound Usual) b
           ≤ MAX_REPLY_SIZE
       replied (Some errno) e = let x = length-error_reply q.unique errno in omega arith
       replied None e =
-          let a = short_answer (agreement_of s) q.node q.op (not_by_itself stack s q.node q.op e) in
+          let a = short_answer (agreement_of s) q.node q.op (not_by_op stack s q.node q.op e) in
           let x = length-reply_with q.unique (answer stack (agreement_of s) q.node q.op) in
           omega arith
 

@@ -11,3 +11,5 @@ pub mod Widths
 pub mod Following
 pub mod HeldData
 pub mod Sums
+pub mod Xattrs
+pub mod Served

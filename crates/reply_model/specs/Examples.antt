@@ -117,7 +117,7 @@ over_empty s m = reply empty_stack s (asked m)
 
 -- the reply to a message over the sample image, in a session without EXPORT_SUPPORT
 abbrev pub over_sample : List ℕ → List ℕ
-over_sample m = reply sample_stack (Ready false) (asked m)
+over_sample m = reply sample_stack (Ready false false) (asked m)
 
 -- which of two faults is named
 pub record FaultOrder : Type 0 where
@@ -231,16 +231,17 @@ pub record InitExamples : Type 0 where
 
 -- when sessions begin and end, and that the accepted INIT alone says whether . and .. are looked up
 pub record SessionExamples : Type 0 where
-  pub begins : session_after Fresh (init 7 31 131072 0x6001) ≡ Ready false
-  pub exports : session_after Fresh (init 7 12 0 0x10) ≡ Ready true
-  pub other_flags : session_after Fresh (init 7 31 0 0xffffffef) ≡ Ready false
+  pub begins : session_after Fresh (init 7 31 131072 0x6001) ≡ Ready false false
+  pub exports : session_after Fresh (init 7 12 0 0x10) ≡ Ready true false
+  pub other_flags : session_after Fresh (init 7 31 0 0xffefffef) ≡ Ready false false
+  pub acls : session_after Fresh (init 7 31 0 0x100000) ≡ Ready false true
   pub minor_11 : session_after Fresh (init 7 11 0 0x10) ≡ Fresh
   pub major_8 : session_after Fresh (init 8 31 0 0x10) ≡ Fresh
   pub destroyed_fresh : session_after Fresh (done destroy) ≡ Fresh
-  pub init_again : session_after (Ready true) (init 7 31 0 0) ≡ Ready true
-  pub destroyed : session_after (Ready true) (done destroy) ≡ Fresh
+  pub init_again : session_after (Ready true false) (init 7 31 0 0) ≡ Ready true false
+  pub destroyed : session_after (Ready true false) (done destroy) ≡ Fresh
   pub ended :
-      replies empty_stack (Ready false)
+      replies empty_stack (Ready false false)
       (request 38 1 0 [] ∷ request 3 2 1 (zeros 16) ∷ request 38 3 0 [] ∷ [])
       ≡ headed 1 16 ++ refused 2 0xfffffffb ++ refused 3 0xfffffffb
 
@@ -255,11 +256,11 @@ root_attr_reply = dump (
 
 -- GETATTR of the root, of numbers that are not in use, and of a short body
 pub record GetattrExamples : Type 0 where
-  pub of_root : over_empty (Ready false) (request 3 2 1 (zeros 16)) ≡ root_attr_reply
-  pub of_two : over_empty (Ready false) (request 3 3 2 (zeros 16))
+  pub of_root : over_empty (Ready false false) (request 3 2 1 (zeros 16)) ≡ root_attr_reply
+  pub of_two : over_empty (Ready false false) (request 3 3 2 (zeros 16))
       ≡ dump (0x10000000 ∷ 0x8cffffff ∷ 0x03000000 ∷ 0x00000000 ∷ [])
-  pub of_zero : over_empty (Ready false) (request 3 4 0 (zeros 16)) ≡ refused 4 0xffffff8c
-  pub short : over_empty (Ready false) (request 3 5 2 (zeros 15)) ≡ refused 5 0xffffffea
+  pub of_zero : over_empty (Ready false false) (request 3 4 0 (zeros 16)) ≡ refused 4 0xffffff8c
+  pub short : over_empty (Ready false false) (request 3 5 2 (zeros 15)) ≡ refused 5 0xffffffea
 
 -- the row . of the root of the empty image
 abbrev pub own_row : List ℕ
@@ -275,15 +276,15 @@ upper_row =
 
 -- READDIR of the root: both rows, one, one that just fits, or none; and after the last one
 pub record ReaddirExamples : Type 0 where
-  pub both : over_empty (Ready false) (request 28 2 1 (read_in 0 4096))
+  pub both : over_empty (Ready false false) (request 28 2 1 (read_in 0 4096))
       ≡ headed 2 80 ++ own_row ++ upper_row
-  pub one : over_empty (Ready false) (request 28 2 1 (read_in 0 63)) ≡ headed 2 48 ++ own_row
-  pub just_one : over_empty (Ready false) (request 28 2 1 (read_in 0 32)) ≡ headed 2 48 ++ own_row
-  pub too_small : over_empty (Ready false) (request 28 2 1 (read_in 0 31)) ≡ refused 2 0xffffffea
-  pub no_room : over_empty (Ready false) (request 28 2 1 (read_in 0 0)) ≡ refused 2 0xffffffea
-  pub too_large : over_empty (Ready false) (request 28 2 1 (read_in 0 (MAX_DATA_SIZE + 1)))
+  pub one : over_empty (Ready false false) (request 28 2 1 (read_in 0 63)) ≡ headed 2 48 ++ own_row
+  pub just_one : over_empty (Ready false false) (request 28 2 1 (read_in 0 32)) ≡ headed 2 48 ++ own_row
+  pub too_small : over_empty (Ready false false) (request 28 2 1 (read_in 0 31)) ≡ refused 2 0xffffffea
+  pub no_room : over_empty (Ready false false) (request 28 2 1 (read_in 0 0)) ≡ refused 2 0xffffffea
+  pub too_large : over_empty (Ready false false) (request 28 2 1 (read_in 0 (MAX_DATA_SIZE + 1)))
       ≡ refused 2 0xffffffea
-  pub at_end : over_empty (Ready false) (request 28 2 1 (read_in 2 0)) ≡ headed 2 16
+  pub at_end : over_empty (Ready false false) (request 28 2 1 (read_in 2 0)) ≡ headed 2 16
 
 -- READDIRPLUS of the directory d: three rows in 4,096 bytes, one in 319; . has no entry
 pub record ReaddirplusExamples : Type 0 where
@@ -349,13 +350,14 @@ owned_stack = record {
     seconds = 1700000000;
     nanoseconds = 5;
   } ∷ []) ∷ [];
+  lists = [];
   owner = record { uid = 1; gid = 2 };
   whole = true;
 }
 
 -- the reply to a message over it
 abbrev pub over_owned : List ℕ → List ℕ
-over_owned m = reply owned_stack (Ready false) (asked m)
+over_owned m = reply owned_stack (Ready false false) (asked m)
 
 -- the entry of x in the directory d, with what its row says: three times the seconds, three times
 -- the nanoseconds, mode, nlink, uid and gid
@@ -386,7 +388,7 @@ pub record OwnedExamples : Type 0 where
 
 -- the reply to a message over the sample image, in a session with EXPORT_SUPPORT
 abbrev pub over_exported : List ℕ → List ℕ
-over_exported m = reply sample_stack (Ready true) (asked m)
+over_exported m = reply sample_stack (Ready true false) (asked m)
 
 -- the body of a LOOKUP of .
 abbrev pub itself : List ℕ
@@ -458,7 +460,7 @@ pub record NodeExamples : Type 0 where
       ++ zeros 28
   pub statfs_of_two_paths :
       take 8 (drop 40
-      (reply (stacked (empty_image ∷ []) two_paths) (Ready false) (asked (request 17 2 0 []))))
+      (reply (stacked (empty_image ∷ []) two_paths) (Ready false false) (asked (request 17 2 0 []))))
       ≡ u64 1
   pub readdir_of_file : over_sample (request 28 2 2 (read_in 0 4096)) ≡ refused 2 0xffffffec
   pub readdirplus_of_link : over_sample (request 44 2 5 (read_in 0 4096)) ≡ refused 2 0xffffffec
@@ -563,17 +565,17 @@ pub record BalanceExamples : Type 0 where
       map held (1 ∷ 2 ∷ 3 ∷ 4 ∷ 5 ∷ 6 ∷ 7 ∷ 9 ∷ [])
       ≡ pos 1 ∷ pos 1 ∷ pos 2 ∷ pos 0 ∷ pos 1 ∷ negsuc 3 ∷ pos 0 ∷ pos 0 ∷ []
   pub rows_in_order :
-      moved_over_sample (Ready false) (request 44 7 1 (read_in 0 4096))
+      moved_over_sample (Ready false false) (request 44 7 1 (read_in 0 4096))
       ≡ record { node = 2; amount = pos 1 } ∷ record { node = 3; amount = pos 1 }
       ∷ record { node = 5; amount = pos 1 } ∷ record { node = 6; amount = pos 1 } ∷ []
   pub later_rows :
-      moved_over_sample (Ready false) (request 44 7 1 (read_in 2 320))
+      moved_over_sample (Ready false false) (request 44 7 1 (read_in 2 320))
       ≡ record { node = 2; amount = pos 1 } ∷ record { node = 3; amount = pos 1 } ∷ []
-  pub listed : moved_over_sample (Ready false) (request 28 7 1 (read_in 0 4096)) ≡ []
-  pub forgotten : moved_over_sample (Ready false) (request 2 7 4 (u64 3))
+  pub listed : moved_over_sample (Ready false false) (request 28 7 1 (read_in 0 4096)) ≡ []
+  pub forgotten : moved_over_sample (Ready false false) (request 2 7 4 (u64 3))
       ≡ record { node = 4; amount = negsuc 2 } ∷ []
   pub counted_items :
-      moved_over_sample (Ready false)
+      moved_over_sample (Ready false false)
       (request 42 8 0 (u32 1 ++ u32 0 ++ u64 2 ++ u64 2 ++ u64 3 ++ u64 1))
       ≡ record { node = 2; amount = negsuc 1 } ∷ []
   pub fresh : moved_over_sample Fresh (request 2 7 4 (u64 3)) ≡ []

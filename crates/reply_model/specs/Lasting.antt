@@ -14,7 +14,7 @@ use Rattle.reply_model.specs.declared.session.Session.TheVariants.{Fresh, Ready,
 -- the usual session in the place of a lasting one
 abbrev pub usual_of : Session → Session
 usual_of LastingFresh = Fresh
-usual_of (LastingReady export no_open no_opendir) = Ready export
+usual_of (LastingReady export acls no_open no_opendir) = Ready export acls
 usual_of s = s
 
 -- if the usual reply is the first of two, the lasting one is the second; else they are the same
@@ -27,21 +27,22 @@ abbrev pub told_of_opening : Bool → ℕ → ℕ → List ℕ
 told_of_opening need_not unique flags =
     if need_not then error_reply unique ENOSYS else reply_with unique (open_out flags)
 
--- the usual and the lasting reply to a request: INIT is answered other terms; that LOOKUP finds no
+-- the usual and the lasting reply to a request, over a tree with access control lists or without:
+-- INIT is answered other terms; that LOOKUP finds no
 -- entry is an entry of no node; OPEN and OPENDIR are answered that the client need not ask, or
 -- OPENDIR other flags; and FLUSH that it need not ask. Every other reply is the same
-abbrev pub LastsAs : Agreement → ℕ → Op → List ℕ → List ℕ → Type 0
-LastsAs agreed unique (init major minor readahead flags) usual lasting =
-    Becomes (reply_with unique (init_out (Terms false minor readahead flags)))
-    (reply_with unique (init_out (Terms true minor readahead flags))) usual lasting
-LastsAs agreed unique (at_node (lookup name)) usual lasting =
+abbrev pub LastsAs : Bool → Agreement → ℕ → Op → List ℕ → List ℕ → Type 0
+LastsAs acls agreed unique (init major minor readahead flags) usual lasting =
+    Becomes (reply_with unique (init_out (Terms false acls minor readahead flags)))
+    (reply_with unique (init_out (Terms true acls minor readahead flags))) usual lasting
+LastsAs acls agreed unique (at_node (lookup name)) usual lasting =
     Becomes (error_reply unique ENOENT) (reply_with unique negative_entry_out) usual lasting
-LastsAs agreed unique (at_node (open_file flags)) usual lasting =
+LastsAs acls agreed unique (at_node (open_file flags)) usual lasting =
     Becomes (reply_with unique (open_out FOPEN_KEEP_CACHE))
     (told_of_opening agreed.no_open unique FOPEN_KEEP_CACHE) usual lasting
-LastsAs agreed unique (at_node opendir) usual lasting =
+LastsAs acls agreed unique (at_node opendir) usual lasting =
     Becomes (reply_with unique (open_out 0))
     (told_of_opening agreed.no_opendir unique (FOPEN_KEEP_CACHE + FOPEN_CACHE_DIR)) usual lasting
-LastsAs agreed unique (done flush) usual lasting =
+LastsAs acls agreed unique (done flush) usual lasting =
     Becomes (reply_with unique []) (error_reply unique ENOSYS) usual lasting
-LastsAs agreed unique _ usual lasting = lasting ≡ usual
+LastsAs acls agreed unique _ usual lasting = lasting ≡ usual

@@ -15,7 +15,7 @@ use Rattle.reply_model.specs.Examples.{dump, sample_stack, request, init_in, ref
 -- a ready session whose client said EXPORT_SUPPORT, NO_OPEN_SUPPORT, NO_OPENDIR_SUPPORT or not
 abbrev pub over_lasting : Bool → Bool → Bool → List ℕ → List ℕ
 over_lasting export no_open no_opendir m =
-    reply sample_stack (LastingReady export no_open no_opendir) (asked m)
+    reply sample_stack (LastingReady export false no_open no_opendir) (asked m)
 
 -- INIT 7.39 of 104 bytes, as Linux 6 sends it, with all flags
 abbrev pub longer_init : List ℕ
@@ -61,20 +61,21 @@ pub record LastingInitExamples : Type 0 where
 -- which flags a lasting session remembers, and that it ends as a lasting one
 pub record LastingSessionExamples : Type 0 where
   pub no_flags : session_after LastingFresh (init 7 31 131072 0x6001)
-      ≡ LastingReady false false false
-  pub export : session_after LastingFresh (init 7 12 0 0x10) ≡ LastingReady true false false
-  pub no_open : session_after LastingFresh (init 7 31 0 0x20000) ≡ LastingReady false true false
+      ≡ LastingReady false false false false
+  pub export : session_after LastingFresh (init 7 12 0 0x10) ≡ LastingReady true false false false
+  pub no_open : session_after LastingFresh (init 7 31 0 0x20000) ≡ LastingReady false false true false
+  pub acls : session_after LastingFresh (init 7 31 0 0x100000) ≡ LastingReady false true false false
   pub no_opendir : session_after LastingFresh (init 7 31 0 0x1000000)
-      ≡ LastingReady false false true
-  pub all_flags : session_after LastingFresh (init 7 39 0 0x73fffffb) ≡ LastingReady true true true
-  pub other_flags : session_after LastingFresh (init 7 31 0 0xfefdffef)
-      ≡ LastingReady false false false
-  pub usually : session_after Fresh (init 7 39 0 0x73fffffb) ≡ Ready true
+      ≡ LastingReady false false false true
+  pub all_flags : session_after LastingFresh (init 7 39 0 0x73fffffb) ≡ LastingReady true true true true
+  pub other_flags : session_after LastingFresh (init 7 31 0 0xfeedffef)
+      ≡ LastingReady false false false false
+  pub usually : session_after Fresh (init 7 39 0 0x73fffffb) ≡ Ready true true
   pub minor_11 : session_after LastingFresh (init 7 11 0 0x10) ≡ LastingFresh
   pub major_8 : session_after LastingFresh (init 8 31 0 0x10) ≡ LastingFresh
-  pub begun_again : session_after (LastingReady true true true) (init 7 31 0 0)
-      ≡ LastingReady true true true
-  pub destroyed : session_after (LastingReady true true true) (done destroy) ≡ LastingFresh
+  pub begun_again : session_after (LastingReady true true true true) (init 7 31 0 0)
+      ≡ LastingReady true true true true
+  pub destroyed : session_after (LastingReady true true true true) (done destroy) ≡ LastingFresh
   pub destroyed_fresh : session_after LastingFresh (done destroy) ≡ LastingFresh
 
 -- an entry of no node: entry_valid is an hour, and all else 0
@@ -143,10 +144,10 @@ pub record LastingFlushExamples : Type 0 where
 -- of a LOOKUP that is refused ENAMETOOLONG, and of one that finds no entry: the one reply has to
 -- stay, and the other has to become an entry of no node
 pub record LastingStayExamples : Type 0 where
-  pub too_long : (lasting : List ℕ) → LastsAs (agreement_of (LastingReady false false false)) 2
+  pub too_long : (lasting : List ℕ) → LastsAs false (agreement_of (LastingReady false false false false)) 2
       (at_node (lookup (codes "x"))) (error_reply 2 ENAMETOOLONG) lasting
       → lasting ≡ error_reply 2 ENAMETOOLONG
-  pub missing : (lasting : List ℕ) → LastsAs (agreement_of (LastingReady false false false)) 2
+  pub missing : (lasting : List ℕ) → LastsAs false (agreement_of (LastingReady false false false false)) 2
       (at_node (lookup (codes "x"))) (error_reply 2 ENOENT) lasting
       → lasting ≡ reply_with 2 negative_entry_out
 
@@ -187,9 +188,9 @@ pub record LastingStreamExamples : Type 0 where
       ++ begun_with 6 0x1000000
       ++ headed 7 32 ++ zeros 8 ++ u32 2 ++ zeros 4
       ++ refused 8 0xffffffda
-  pub found : moved_over_sample (LastingReady false false false)
+  pub found : moved_over_sample (LastingReady false false false false)
       (request 1 2 1 (codes "big" ++ zeros 1)) ≡ record { node = 2; amount = pos 1 } ∷ []
-  pub missing : moved_over_sample (LastingReady false false false)
+  pub missing : moved_over_sample (LastingReady false false false false)
       (request 1 2 1 (codes "x" ++ zeros 1)) ≡ []
   pub balances :
       map (balance_after sample_stack LastingFresh looking_up)

@@ -1,17 +1,18 @@
 -- What holds for replies and moves, whatever the layers.
-use Rattle.std.specs.Prelude.{◌≡◌, ℕ, ◌⊎◌, ◌+◌, ◌<◌, ◌≤◌, List, [], ◌∷◌, ◌++◌, length, map, filter, take, slice_get, slice_index, slice_index_or, ◌^◌, Some, Bool, true, false}
-use Rattle.std.specs.List.{flat_map}
+use Rattle.std.specs.Prelude.{◌≡◌, ℕ, ◌⊎◌, ◌+◌, ◌<◌, ◌≤◌, List, [], ◌∷◌, ◌++◌, length, map, filter, take, slice_get, slice_index, slice_index_or, ◌^◌, Some, Bool, true, false, IsTrue, bytes_eq}
+use Rattle.std.specs.List.{flat_map, list_any}
 use Rattle.fuse_wire.specs.declared.errno.Errno.{Errno}
 use Rattle.stack_model.specs.declared.attr.Attr.{Attr}
 use Rattle.stack_model.specs.declared.owner.Owner.{Owner}
 use Rattle.romfs_format.specs.declared.attribute_row.AttributeRow.{AttributeRow}
+use Rattle.romfs_format.specs.Extended.{Extended, is_list}
 use Rattle.fuse_wire.specs.Requests.{Op, Asked, at_node, lookup, readdirplus, silent, forget, batch_forget}
 use Rattle.fuse_wire.specs.Structures.{u32, u64, entry_out, negative_entry_out}
 use Rattle.fuse_wire.specs.Replies.{reply_with, error_reply}
 use Rattle.stack_model.specs.Listing.{Stacked}
 use Rattle.stack_model.specs.Numbers.{Place}
 use Rattle.reply_model.specs.declared.session.Session.{Session}
-use Rattle.stack_model.specs.Attributes.{row_of, attr_of}
+use Rattle.stack_model.specs.Attributes.{row_of, attr_of, xattrs_of}
 use Rattle.reply_model.specs.Rows.{Row, is_child, direntplus_of}
 use Rattle.reply_model.specs.Replies.{reply}
 use Rattle.reply_model.specs.Services.{give}
@@ -94,6 +95,14 @@ pub record IsRow (row : AttributeRow) : Type 0 where
 pub record AreOwned (stack : Stacked) : Type 0 where
   pub owner : IsOwner stack.owner
   pub rows : (p : Place) (row : AttributeRow) → row_of stack p ≡ Some row → IsRow row
+
+-- the extended attributes of each place are a list that a file may have
+pub record AreListed (stack : Stacked) : Type 0 where
+  pub each : (p : Place) → IsTrue (is_list (xattrs_of stack p))
+
+-- one of them has this name
+abbrev pub is_listed : List ℕ → List Extended → Bool
+is_listed name xs = list_any (λ x. bytes_eq x.name name) xs
 
 -- the attributes fit the fields of an attr, if the number does
 pub record FitsFields (a : Attr) : Type 0 where

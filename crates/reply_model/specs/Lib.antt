@@ -1,6 +1,7 @@
 pub mod Sessions
 pub mod Lookups
 pub mod Rows
+pub mod Xattrs
 pub mod Services
 pub mod Refusals
 pub mod Replies
@@ -10,6 +11,7 @@ pub mod Moves
 pub mod Streams
 pub mod Examples
 pub mod LastingExamples
+pub mod XattrExamples
 pub mod Laws
 pub mod Lasting
 pub mod Balances

@@ -8,7 +8,7 @@ use Rattle.fuse_wire.specs.Structures.{init_out, statfs_out}
 use Rattle.fuse_wire.specs.Replies.{reply_with, error_reply}
 use Rattle.stack_model.specs.Listing.{Stacked}
 use Rattle.stack_model.specs.Numbers.{Place, nodes, node_of}
-use Rattle.stack_model.specs.Attributes.{blocks_all}
+use Rattle.stack_model.specs.Attributes.{blocks_all, has_acls}
 use Rattle.reply_model.specs.declared.session.Agreement.{Agreement}
 use Rattle.reply_model.specs.declared.session.Session.{Session}
 use Rattle.reply_model.specs.Sessions.{agreement_of}
@@ -34,7 +34,9 @@ module _ (stack : Stacked) where
   -- what a request is answered that is not refused
   abbrev pub answer : Agreement → ℕ → Op → List ℕ
   answer agreed node (init major minor readahead flags) =
-      init_out (if nat_lt 7 major then Version else Terms agreed.lasting minor readahead flags)
+      init_out
+      (if nat_lt 7 major then Version
+      else Terms agreed.lasting (has_acls stack) minor readahead flags)
   answer agreed node (at_node op) =
       option_map_or (answer_at agreed op) (node_of stack.entries node) []
   answer agreed node statfs = statfs_out (blocks_all stack.layers) (length (nodes stack.entries))

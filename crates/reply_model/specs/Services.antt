@@ -8,14 +8,16 @@ use Rattle.fuse_wire.specs.declared.errno.Errno.{Errno}
 use Rattle.fuse_wire.specs.declared.errno.Errno.TheVariants.{ENOENT, ENOTDIR, EISDIR, EINVAL, EROFS, ENAMETOOLONG, ENOSYS}
 use Rattle.fuse_wire.specs.declared.flags.TheConstants.{FOPEN_KEEP_CACHE, FOPEN_CACHE_DIR}
 use Rattle.fuse_wire.specs.declared.limits.TheConstants.{MAX_DATA_SIZE, MAX_NAME_SIZE}
-use Rattle.fuse_wire.specs.Requests.{NodeOp, lookup, getattr, readlink, open_file, read, opendir, readdir, readdirplus}
+use Rattle.fuse_wire.specs.Requests.{NodeOp, lookup, getattr, readlink, open_file, read, opendir, readdir, readdirplus, getxattr, listxattr}
 use Rattle.fuse_wire.specs.Structures.{entry_out, negative_entry_out, attr_out, open_out}
 use Rattle.stack_model.specs.Listing.{Stacked}
 use Rattle.stack_model.specs.Numbers.{Place, number}
-use Rattle.stack_model.specs.Attributes.{is_directory, data_of, attr_of}
+use Rattle.romfs_format.specs.Extended.{Extended, names_of}
+use Rattle.stack_model.specs.Attributes.{is_directory, data_of, attr_of, xattrs_of}
 use Rattle.reply_model.specs.declared.moves.Move.{Move}
 use Rattle.reply_model.specs.declared.session.Agreement.{Agreement}
 use Rattle.reply_model.specs.Lookups.{is_itself, looked_up}
+use Rattle.reply_model.specs.Xattrs.{xattrs_told, refused_size, sized_answer, refused_xattr, xattr_answer}
 use Rattle.reply_model.specs.Rows.{Row, is_child, is_too_small, rows_after, rows_answered, dirent_of, direntplus_of}
 
 -- this error, if something is wrong
@@ -80,6 +82,10 @@ module _ (stack : Stacked) where
         by_arguments = λ p. refused_rows form size (rows_after stack.entries p offset);
       }
 
+  -- the names of the extended attributes at a place that a client gets, each with a zero byte
+  abbrev pub names_told : Agreement → Place → List ℕ
+  names_told agreed p = names_of (xattrs_told agreed.acls (xattrs_of stack p))
+
   -- each of them. With EXPORT_SUPPORT the name . finds a node of any kind; an access mode other
   -- than 0 is not O_RDONLY; READDIRPLUS gives the nodes of its rows but . and ... Lastingly a
   -- missing name is answered so, and gives nothing; a client that need not open learns so last
@@ -116,4 +122,12 @@ module _ (stack : Stacked) where
         gives = λ p.
             map (λ r. give r.1.place)
             (filter is_child (rows_answered stack.entries (direntplus_of stack) p offset size));
+      }
+  service agreed (getxattr size name) =
+      record (tells of_any_kind (λ p. xattr_answer size name (xattrs_of stack p))) {
+        by_arguments = λ p. refused_xattr agreed.acls size name (xattrs_of stack p);
+      }
+  service agreed (listxattr size) =
+      record (tells of_any_kind (λ p. sized_answer size (names_told agreed p))) {
+        by_arguments = λ p. refused_size size (names_told agreed p);
       }

@@ -3,6 +3,7 @@
 #![tactic(auto, unfolding(crate::proofs::Computing::replies_on_literals))]
 
 ghost use Rattle.reply_model.specs.Examples.{StreamExamples, FaultOrder, FaultExamples, EmptyImageFields, InitExamples, GetattrExamples, ReaddirExamples, ReaddirplusExamples, ReadExamples, LookupExamples, OwnedExamples, NodeExamples, OpenExamples, SessionExamples, ExportExamples, SilentExamples, RefusalOrder, TwelveRequests, BalanceExamples};
+ghost use Rattle.reply_model.specs.XattrExamples.{GetxattrExamples, ListxattrExamples, AclReplyExamples, UnservedExamples};
 ghost use Rattle.reply_model.specs.LastingExamples.{LastingInitExamples, LastingSessionExamples, LastingLookupExamples, LastingOpenExamples, LastingFlushExamples, LastingStayExamples, LastingStreamExamples};
 
 /// The fields of the empty image.
@@ -73,6 +74,26 @@ pub fn silent_example()
 /// Which of two refusals is answered.
 pub fn order_of_refusals_example()
     ensures { RefusalOrder }
+{}
+
+/// GETXATTR over the sample image with extended attributes.
+pub fn getxattr_example()
+    ensures { GetxattrExamples }
+{}
+
+/// LISTXATTR over it.
+pub fn listxattr_example()
+    ensures { ListxattrExamples }
+{}
+
+/// Access control lists, and the terms of a session with them.
+pub fn acl_replies_example()
+    ensures { AclReplyExamples }
+{}
+
+/// Requests for extended attributes where no node has any.
+pub fn unserved_example()
+    ensures { UnservedExamples }
 {}
 
 /// A complete session of twelve requests over the sample image.

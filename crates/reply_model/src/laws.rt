@@ -1,31 +1,34 @@
 //! What holds of every reply.
 
-ghost use Rattle.std.specs.Prelude.{◌≡◌, ◌⊎◌, ◌≤◌, ◌+◌, [], ◌∷◌, ◌++◌, ℕ, List, length, drop, map, slice_get, Some, All, true, false, ◌+ℤ◌};
+ghost use Rattle.std.specs.Prelude.{◌≡◌, ◌⊎◌, ◌≤◌, ◌+◌, [], ◌∷◌, ◌++◌, ℕ, List, length, drop, map, slice_get, Some, All, true, false, ◌+ℤ◌, ◌≢◌, ◌↔◌, Bool, IsTrue, None};
 ghost use Rattle.devices.specs.Sources.{Source, Shows, sealed, held};
 ghost use Rattle.devices.specs.Honest.{IsHonest};
 ghost use Rattle.devices.specs.Seal.{Seal};
 ghost use Rattle.romfs_format.specs.declared.rule.Profile.TheVariants.{Usual};
 ghost use Rattle.romfs_format.specs.Fields.{image};
 ghost use Rattle.romfs_format.specs.Rules.{IsSound};
-ghost use Rattle.fuse_wire.specs.Requests.{Op, Asked, at_node, lookup, read, readdirplus, done, destroy};
+ghost use Rattle.fuse_wire.specs.Requests.{Op, Asked, at_node, lookup, read, readdirplus, done, destroy, getxattr, listxattr};
 ghost use Rattle.fuse_wire.specs.declared.limits.TheConstants.{MAX_REPLY_SIZE, OUT_HEADER_SIZE};
-ghost use Rattle.fuse_wire.specs.declared.errno.Errno.TheVariants.{EIO};
+ghost use Rattle.fuse_wire.specs.declared.errno.Errno.TheVariants.{EIO, ENOSYS};
 ghost use Rattle.fuse_wire.specs.Replies.{error_reply};
+ghost use Rattle.romfs_format.specs.Extended.{Extended};
 ghost use Rattle.fuse_wire.specs.Stream.{said_length};
 ghost use Rattle.stack_model.specs.Listing.{Entry, Stacked, IsListing};
 ghost use Rattle.reply_model.specs.declared.session.Session.{Session};
 ghost use Rattle.reply_model.specs.Replies.{reply};
 ghost use Rattle.reply_model.specs.Holding.{Holds, AreHeldBy};
 ghost use Rattle.reply_model.specs.Readings.{sourced, AreShown, AreVouched, IsReplyOver, IsRightOver};
+ghost use Rattle.reply_model.specs.Refusals.{asks_xattrs, refusal};
+ghost use Rattle.reply_model.specs.Xattrs.{xattrs_told, refused_xattr};
 ghost use Rattle.reply_model.specs.declared.session.Session.TheVariants.{Fresh, LastingFresh};
 ghost use Rattle.reply_model.specs.Sessions.{is_fresh, session_after, agreement_of};
 ghost use Rattle.reply_model.specs.Lasting.{usual_of, LastsAs};
 ghost use Rattle.reply_model.specs.declared.moves.Move.{Move};
 ghost use Rattle.reply_model.specs.Moves.{moves, balance};
 ghost use Rattle.reply_model.specs.Streams.{session_at, replies_by, moves_by, balance_after};
-ghost use Rattle.reply_model.specs.Laws.{IsReplyTo, AreFirstThatFit, GivesEntry, GivesRows, is_moving, AreLayersOfBytes, AreOwned, FitsFields};
+ghost use Rattle.reply_model.specs.Laws.{IsReplyTo, AreFirstThatFit, GivesEntry, GivesRows, is_moving, AreLayersOfBytes, AreOwned, FitsFields, AreListed, is_listed};
 ghost use Rattle.stack_model.specs.Numbers.{Place, nodes, node_of, number};
-ghost use Rattle.stack_model.specs.Attributes.{attr_of, data_start};
+ghost use Rattle.stack_model.specs.Attributes.{attr_of, data_start, has_acls, has_xattrs};
 ghost use Rattle.reply_model.specs.Rows.{Row, fitting};
 
 /// A reply is empty, or it begins with its own length, as a word of 32 bits, and carries its
@@ -36,15 +39,16 @@ pub fn replies_are_headed()
         (reply stack s q ≡ []) ⊎ IsReplyTo q.unique (reply stack s q) }
 {}
 
-/// Over sound images a reply has at most 1 MiB of data behind its header of 16 bytes. So the length
+/// Over sound images, whose files have lists of extended attributes that Linux allows, a reply has
+/// at most 1 MiB of data behind its header of 16 bytes. So the length
 /// that a reply begins with is its true length, which fits in 32 bits.
 #[tactic(auto, using(crate::proofs::Lengths::short, crate::proofs::Lengths::said))]
 pub fn replies_are_short()
     ensures short { (bs : List (List ℕ)) (stack : Stacked) → All (IsSound Usual) bs →
-        stack.layers ≡ map image bs → IsListing stack.layers stack.entries →
+        stack.layers ≡ map image bs → IsListing stack.layers stack.entries → AreListed stack →
         (s : Session) (q : Asked) → length (reply stack s q) ≤ MAX_REPLY_SIZE }
     ensures said { (bs : List (List ℕ)) (stack : Stacked) → All (IsSound Usual) bs →
-        stack.layers ≡ map image bs → IsListing stack.layers stack.entries →
+        stack.layers ≡ map image bs → IsListing stack.layers stack.entries → AreListed stack →
         (s : Session) (q : Asked) → (reply stack s q ≡ [])
         ⊎ (said_length (reply stack s q)
         ≡ length (reply stack s q)) }
@@ -106,7 +110,7 @@ pub fn destroy_leaves_balances()
 pub fn lasting_replies_differ_in_four_ways()
     ensures replies { (stack : Stacked) (s : Session) (q : Asked) →
         (agreement_of s).lasting ≡ true →
-        LastsAs (agreement_of s) q.unique q.op
+        LastsAs (has_acls stack) (agreement_of s) q.unique q.op
         (reply stack (usual_of s) q) (reply stack s q) }
     ensures moves { (stack : Stacked) (s : Session) (q : Asked) →
         moves stack s q ≡ moves stack (usual_of s) q }
@@ -116,6 +120,37 @@ pub fn lasting_replies_differ_in_four_ways()
         (messages : List (List ℕ)) (node : ℕ) →
         balance_after stack LastingFresh messages node
         ≡ balance_after stack Fresh messages node }
+{}
+
+/// Whether a request for extended attributes is answered ENOSYS depends on the stack alone, never on
+/// a node or name: it is if no node has any.
+#[tactic(auto, using(crate::proofs::Served::served))]
+pub fn attributes_are_served_or_not()
+    ensures { (stack : Stacked) (s : Session) (node : ℕ) (op : Op) →
+        is_fresh s ≡ false → asks_xattrs op ≡ true →
+        (refusal stack s node op ≡ Some ENOSYS) ↔ (has_xattrs stack ≡ false) }
+{}
+
+/// A reply with a value or with names is no longer than the client's size.
+#[tactic(auto, using(crate::proofs::Served::value_within, crate::proofs::Served::names_within))]
+pub fn attributes_fit_the_size()
+    ensures value { (stack : Stacked) (s : Session) (unique node size : ℕ) (name : List ℕ) →
+        size ≢ 0 →
+        length (reply stack s
+        (record { unique = unique; node = node; op = at_node (getxattr size name) }))
+        ≤ OUT_HEADER_SIZE + size }
+    ensures names { (stack : Stacked) (s : Session) (unique node size : ℕ) →
+        size ≢ 0 →
+        length (reply stack s
+        (record { unique = unique; node = node; op = at_node (listxattr size) }))
+        ≤ OUT_HEADER_SIZE + size }
+{}
+
+/// A listing has exactly the names that GETXATTR finds a value for.
+#[tactic(auto, using(crate::proofs::Xattrs::listed))]
+pub fn listed_names_have_values()
+    ensures { (acls : Bool) (name : List ℕ) (xs : List Extended) →
+        IsTrue (is_listed name (xattrs_told acls xs)) ↔ (refused_xattr acls 0 name xs ≡ None) }
 {}
 
 /// Attributes fit their fields if those of the rows and of the owner do, and numbers are at most

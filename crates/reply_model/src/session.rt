@@ -11,6 +11,8 @@ pub enum Session {
     Ready {
         /// Whether the client sent `FUSE_EXPORT_SUPPORT`; then LOOKUP also finds `.` and `..`.
         export: bool,
+        /// Whether it sent `FUSE_POSIX_ACL`; then it gets access control lists, which it enforces.
+        acls: bool,
     },
     /// As `Fresh`, of a stream that is served lastingly.
     LastingFresh,
@@ -18,6 +20,8 @@ pub enum Session {
     LastingReady {
         /// Whether the client sent `FUSE_EXPORT_SUPPORT`; then LOOKUP also finds `.` and `..`.
         export: bool,
+        /// Whether it sent `FUSE_POSIX_ACL`; then it gets access control lists, which it enforces.
+        acls: bool,
         /// Whether it sent `FUSE_NO_OPEN_SUPPORT`; then it need not ask to open files.
         no_open: bool,
         /// Whether it sent `FUSE_NO_OPENDIR_SUPPORT`; then it need not ask to open directories.
@@ -32,6 +36,8 @@ pub struct Agreement {
     pub lasting: bool,
     /// Whether LOOKUP finds `.` and `..` too.
     pub export: bool,
+    /// Whether the client enforces access control lists, if the tree has any.
+    pub acls: bool,
     /// Whether the client need not ask to open files.
     pub no_open: bool,
     /// Whether it need not ask to open directories.

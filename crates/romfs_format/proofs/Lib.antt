@@ -6,3 +6,4 @@ pub mod Trailers
 pub mod Worked
 pub mod WorkedTrailers
 pub mod WorkedExtended
+pub mod Values

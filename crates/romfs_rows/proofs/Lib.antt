@@ -6,3 +6,6 @@ pub mod Slices
 pub mod Tables
 pub mod Runs
 pub mod Halves
+pub mod Listed
+pub mod OneList
+pub mod Shortness

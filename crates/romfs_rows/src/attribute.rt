@@ -38,9 +38,9 @@ fn is_xattr_name(name: &[u8]) -> bool
         && !is_overlay_name(name)
 }
 
-// Whether a name is that of an access control list.
+/// Whether a name is that of an access control list.
 #[tactic(auto, unfolding(romfs_format::specs::Extended::access_name, romfs_format::specs::Extended::default_name))]
-fn is_acl_name(name: &[u8]) -> bool
+pub fn is_acl_name(name: &[u8]) -> bool
     ensures { result ≡ is_acl_name name.now }
 {
     name == b"system.posix_acl_access".as_slice() || name == b"system.posix_acl_default".as_slice()

@@ -1,16 +1,18 @@
--- Attributes of a place, as Linux's stat has them, and its data: what its header says, and what a
--- row of its layer's trailer does.
-use Rattle.std.specs.Prelude.{ℕ, ◌+◌, ◌-◌, ◌*◌, ◌/◌, ◌%◌, ◌^◌, List, [], min, Bool, Option, None, Some, take, drop, sum_by, count_by, slice_index_or, bit_and, bit_or, if◌then◌else◌, true, false}
+-- Attributes of a place, as Linux's stat has them, its extended attributes (xattr(7)), and its data:
+-- what its header says, and what a row of its layer's trailer does.
+use Rattle.std.specs.Prelude.{ℕ, ◌+◌, ◌-◌, ◌*◌, ◌/◌, ◌%◌, ◌^◌, List, [], min, Bool, Option, None, Some, take, drop, sum_by, count_by, slice_index_or, bit_and, bit_or, if◌then◌else◌, true, false, not, nat_eq}
+use Rattle.std.specs.List.{list_any}
 use Rattle.std.specs.Option.{option_map_or}
 use Rattle.romfs_format.specs.declared.head.Kind.{Kind}
 use Rattle.romfs_format.specs.declared.head.Kind.TheVariants.{HardLink, Directory, Regular, SymLink, Block, Character, Socket, Fifo}
 use Rattle.romfs_format.specs.declared.attribute_row.AttributeRow.{AttributeRow}
 use Rattle.romfs_format.specs.Fields.{kind, exec, size, spec, name, data_at}
-use Rattle.romfs_format.specs.Trailer.{row_at}
+use Rattle.romfs_format.specs.Extended.{Extended, is_acl_name}
+use Rattle.romfs_format.specs.Trailer.{row_at, list_at}
 use Rattle.stack_model.specs.declared.attr.Attr.{Attr}
 use Rattle.stack_model.specs.declared.owner.Owner.{Owner}
 use Rattle.stack_model.specs.Listing.{Stacked}
-use Rattle.stack_model.specs.Numbers.{Place, place, same_place, number, children}
+use Rattle.stack_model.specs.Numbers.{Place, place, same_place, number, nodes, children}
 use Rattle.std.specs.Prelude.{length}
 
 -- whether the kind is a directory's
@@ -64,6 +66,10 @@ owner_by (Some row) owner = record { uid = row.uid; gid = row.gid }
 abbrev pub row_in : List (List AttributeRow) → Place → Option AttributeRow
 row_in rows p = row_at (slice_index_or rows p.0 []) p.1
 
+-- the extended attributes of a place: those that its layer's row leads to
+abbrev pub list_in : List (List AttributeRow) → List (List (List Extended)) → Place → List Extended
+list_in rows lists p = list_at (slice_index_or rows p.0 []) (slice_index_or lists p.0 []) p.1
+
 -- the blocks of all layers
 abbrev pub blocks_all : List (List ℕ) → ℕ
 blocks_all layers = sum_by (λ a. blocks_of (length a)) layers
@@ -116,6 +122,19 @@ module _ (stack : Stacked) where
   -- the row of a place
   abbrev pub row_of : Place → Option AttributeRow
   row_of p = row_in stack.rows p
+
+  -- its extended attributes: none without a row
+  abbrev pub xattrs_of : Place → List Extended
+  xattrs_of p = list_in stack.rows stack.lists p
+
+  -- some node has one
+  abbrev pub has_xattrs : Bool
+  has_xattrs = list_any (λ p. not (nat_eq (length (xattrs_of p)) 0)) (nodes stack.entries)
+
+  -- some node has an access control list
+  abbrev pub has_acls : Bool
+  has_acls =
+      list_any (λ p. list_any (λ x. is_acl_name x.name) (xattrs_of p)) (nodes stack.entries)
 
   -- the mode of a place: the header's type, and the row's permissions
   abbrev pub mode_at : Place → ℕ

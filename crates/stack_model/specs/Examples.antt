@@ -6,8 +6,9 @@ use Rattle.stack_model.specs.Listing.{Entry, Stacked, stacked, path_cmp}
 use Rattle.stack_model.specs.Numbers.{place, path_of, number, parent, children, child}
 use Rattle.romfs_format.specs.declared.head.Kind.TheVariants.{Directory, Regular, SymLink, Block, Character, Socket, Fifo}
 use Rattle.romfs_format.specs.declared.attribute_row.AttributeRow.{AttributeRow}
+use Rattle.romfs_format.specs.Extended.{Extended, access_name}
 use Rattle.stack_model.specs.declared.owner.TheConstants.Owner.{ROOT}
-use Rattle.stack_model.specs.Attributes.{mode_of, mode_by, size_of, device, rdev_of, blocks_of, blocks_all, links, data_of, mode_at, attr_of}
+use Rattle.stack_model.specs.Attributes.{mode_of, mode_by, size_of, device, rdev_of, blocks_of, blocks_all, links, data_of, mode_at, attr_of, xattrs_of, has_xattrs, has_acls}
 use Rattle.stack_model.specs.declared.limits.TheConstants.{MAX_LAYERS}
 
 -- without and with the bit that says executable
@@ -142,6 +143,7 @@ owned_stack = record {
   layers = six_headers ∷ [];
   entries = nested;
   rows = (row_for 12 0o1777 ∷ row_for 13 0o777 ∷ row_for 20 0o4640 ∷ []) ∷ [];
+  lists = [];
   owner = record { uid = 7; gid = 8 };
   whole = true;
 }
@@ -152,6 +154,7 @@ elsewhere = record {
   layers = six_headers ∷ [];
   entries = nested;
   rows = [] ∷ (row_for 12 0o1777 ∷ row_for 20 0o4640 ∷ []) ∷ [];
+  lists = [];
   owner = ROOT;
   whole = true;
 }
@@ -197,6 +200,35 @@ pub record RowExamples : Type 0 where
   pub root_without : mode_at owned_stack (0, 0) ≡ 0x41ed
   pub of_other_layer : attr_of elsewhere (0, 20) ≡ attr_of nested_stack (0, 20)
   pub of_no_layer : mode_at nested_stack (0, 20) ≡ 0x81a4
+
+-- the attribute user.a with a value
+abbrev pub user_a : List ℕ → Extended
+user_a value = record { name = codes "user.a"; value = value }
+
+-- the same rows: the directory c has user.a, and so has what no header is; the file g has an
+-- attribute of this name alone
+abbrev pub listed_stack : List ℕ → Stacked
+listed_stack name =
+    record owned_stack {
+      lists =
+          ((user_a (codes "b") ∷ []) ∷ (user_a (codes "c") ∷ [])
+          ∷ (record { name = name; value = [] } ∷ []) ∷ []) ∷ [];
+    }
+
+-- a node has the list of its row; where no shown node has any, the stack has none
+pub record XattrExamples : Type 0 where
+  pub directory : xattrs_of (listed_stack (codes "user.b")) (0, 12) ≡ user_a (codes "b") ∷ []
+  pub file : xattrs_of (listed_stack (codes "user.b")) (0, 20)
+      ≡ record { name = codes "user.b"; value = [] } ∷ []
+  pub without_row : xattrs_of (listed_stack (codes "user.b")) (0, 16) ≡ []
+  pub without_lists : xattrs_of owned_stack (0, 12) ≡ []
+  pub some : has_xattrs (listed_stack (codes "user.b")) ≡ true
+  pub no_acls : has_acls (listed_stack (codes "user.b")) ≡ false
+  pub acls : has_acls (listed_stack access_name) ≡ true
+  pub none : has_xattrs owned_stack ≡ false
+  pub of_no_node : has_xattrs (record owned_stack {
+    lists = ([] ∷ (user_a (codes "c") ∷ []) ∷ [] ∷ []) ∷ [];
+  }) ≡ false
 
 -- the limit of a stack
 pub record LimitExamples : Type 0 where

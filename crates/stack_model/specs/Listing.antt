@@ -9,6 +9,7 @@ use Rattle.std.specs.Ordering.{nat_cmp}
 use Rattle.stack_model.specs.declared.owner.Owner.{Owner}
 use Rattle.stack_model.specs.declared.owner.TheConstants.Owner.{ROOT}
 use Rattle.romfs_format.specs.declared.attribute_row.AttributeRow.{AttributeRow}
+use Rattle.romfs_format.specs.Extended.{Extended}
 use Rattle.romfs_format.specs.Links.{IsFinal}
 use Rattle.stack_model.specs.Stack.{Path, Shows}
 
@@ -18,13 +19,14 @@ pub record Entry : Type 0 where
   pub layer : ℕ
   pub header : ℕ
 
--- layers, lowest first, and entries that they show; the rows of attributes of each layer, and the
--- owner of nodes without one; and whether the layers are complete, or have zeros where nothing is
+-- layers, lowest first, and entries that they show; the rows of attributes of each layer, the list
+-- of extended attributes for each row, and the owner of nodes without a row; and whether the layers are complete, or have zeros where nothing is
 -- held of them
 pub record Stacked : Type 0 where
   pub layers : List (List ℕ)
   pub entries : List Entry
   pub rows : List (List AttributeRow)
+  pub lists : List (List (List Extended))
   pub owner : Owner
   pub whole : Bool
 
@@ -34,6 +36,7 @@ stacked layers entries = record {
   layers = layers;
   entries = entries;
   rows = [];
+  lists = [];
   owner = ROOT;
   whole = true;
 }

@@ -1,7 +1,7 @@
 //! Worked examples of attributes and of listed paths, by computation.
 #![tactic(auto, unfolding(crate::proofs::Computing::stacks_on_literals))]
 
-ghost use Rattle.stack_model.specs.Examples.{ModeExamples, DeviceExamples, SizeExamples, LayerExamples, LimitExamples, NestedExamples, RowModeExamples, RowExamples};
+ghost use Rattle.stack_model.specs.Examples.{ModeExamples, DeviceExamples, SizeExamples, LayerExamples, LimitExamples, NestedExamples, RowModeExamples, RowExamples, XattrExamples};
 
 /// The mode of each kind.
 pub fn modes_example()
@@ -36,6 +36,11 @@ pub fn row_modes_example()
 /// Attributes of nodes with and without a row.
 pub fn rows_example()
     ensures { RowExamples }
+{}
+
+/// Extended attributes of nodes with and without a list.
+pub fn xattrs_example()
+    ensures { XattrExamples }
 {}
 
 /// The number of the limit.
