@@ -20,6 +20,7 @@ use Rattle.node_reader.specs.Rows.{names}
 use Rattle.node_reader.specs.Stamps.{held_at}
 use Rattle.node_reader.specs.Directories.{HeldDirectories}
 use Rattle.node_reader.specs.Readers.{placed, rows_of, HoldsData}
+use Rattle.node_reader.specs.Xattrs.{HeldXattrs, AreXattrsOf}
 
 -- what is held of a node that is a directory
 abbrev pub kept_of : HeldDirectories → Node → Option Directory
@@ -150,12 +151,14 @@ pub record AreNotedUpTo (held : List Node) (directories : HeldDirectories) (filt
       → All (IsNoted filter n) (slice_range directories.keys d.rows_start d.rows_end)
 
 -- what a table holds: the attributes of its nodes are held once more, with the modes that rows say;
--- the stamps are those of its nodes; and all keys are noted
+-- the stamps and the extended attributes are those of its nodes; and all keys are noted
 pub record IsHeld (stack : Stacked) (held : List Node) (briefs : List Brief) (stamps : List Stamp)
-    (directories : HeldDirectories) (filter : List Bool) (blocks : ℕ) : Type 0 where
+    (xattrs : HeldXattrs) (directories : HeldDirectories) (filter : List Bool) (blocks : ℕ)
+    : Type 0 where
   pub table : IsTable stack held directories blocks
   pub briefs_are : briefs ≡ briefs_of stack.rows held
   pub stamps_are : AreStampsOf stack.rows stack.owner held stamps
+  pub xattrs_are : AreXattrsOf stack.rows held xattrs
   pub noted : AreNotedUpTo held directories filter (length held)
 
 -- some listing of the layers makes it a table

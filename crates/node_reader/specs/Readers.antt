@@ -5,7 +5,8 @@ use Rattle.std.specs.Option.{option_map, option_map_or, option_and_then}
 use Rattle.romfs_reader.specs.Readers.{bytes_at, IsPart}
 use Rattle.stack_model.specs.Listing.{Stacked}
 use Rattle.stack_model.specs.Numbers.{Place as ModelPlace, number, node_of, parent, children, child}
-use Rattle.stack_model.specs.Attributes.{is_directory_at, kind_at, attr_of, data_start, data_of}
+use Rattle.romfs_format.specs.Extended.{Extended}
+use Rattle.stack_model.specs.Attributes.{is_directory_at, kind_at, attr_of, data_start, data_of, xattrs_of}
 use Rattle.layer_paths.specs.declared.entries.Place.{Place}
 use Rattle.stack_model.specs.declared.attr.Attr.{Attr}
 use Rattle.node_reader.specs.declared.node.Node.{Node}
@@ -61,6 +62,10 @@ TellsNode stack n found =
 -- the attributes of a number
 abbrev pub attr_at : Stacked → ℕ → Option Attr
 attr_at stack n = option_map (attr_of stack) (node_of stack.entries n)
+
+-- the extended attributes of a number; none if it is not in use
+abbrev pub xattrs_at : Stacked → ℕ → List Extended
+xattrs_at stack n = option_map_or (xattrs_of stack) (node_of stack.entries n) []
 
 -- the number of the directory above
 abbrev pub parent_at : Stacked → ℕ → Option ℕ

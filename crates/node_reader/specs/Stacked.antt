@@ -4,22 +4,25 @@ use Rattle.std.specs.Coded.{Coded, Coded-set, code_by, coded×, coded_ℕ, coded
 use mathlib.Core.HLevel.{Σ_prop_path}
 use mathlib.Core.Logic.{∥∥₁_elim, ∥∥₁_prop}
 use Rattle.romfs_format.specs.declared.attribute_row.AttributeRow.{AttributeRow}
+use Rattle.romfs_format.specs.Extended.{Extended}
 use Rattle.stack_model.specs.declared.owner.Owner.{Owner}
 use Rattle.stack_model.specs.declared.owner.TheConstants.Owner.{ROOT}
 use Rattle.stack_model.specs.Listing.{Entry, Stacked, IsListing}
 use Rattle.stack_model.proofs.Listings.{one_listing}
 
--- the stack of these layers with these rows, and this owner of everything without one
-pub record IsTableWith (layers : List (List ℕ)) (rows : List (List AttributeRow)) (owner : Owner)
-    (stack : Stacked) : Type 0 where
+-- the stack of these layers with these rows and the lists for them, and this owner of everything
+-- without a row
+pub record IsTableWith (layers : List (List ℕ)) (rows : List (List AttributeRow))
+    (lists : List (List (List Extended))) (owner : Owner) (stack : Stacked) : Type 0 where
   pub layers_are : stack.layers ≡ layers
   pub rows_are : stack.rows ≡ rows
+  pub lists_are : stack.lists ≡ lists
   pub owner_is : stack.owner ≡ owner
   pub listing : IsListing stack.layers stack.entries
 
 -- the stack of these layers without rows, with the superuser as owner of everything
 abbrev pub IsTableOf : List (List ℕ) → Stacked → Type 0
-IsTableOf layers stack = IsTableWith layers [] ROOT stack
+IsTableOf layers stack = IsTableWith layers [] [] ROOT stack
 
 -- a listing of the layers
 abbrev pub Listed : List (List ℕ) → Type 0

@@ -11,29 +11,32 @@ use crate::next_rows::NextRows;
 use crate::node::{Brief, Node};
 use layer_paths::Place;
 use romfs_format::AttributeRow;
-use romfs_rows::Rows;
+use romfs_rows::{RowLists, Rows};
 use stack_model::Owner;
 use std::alloc::{AllocError, Allocator};
 
 /// The bits of a mode below its type, and one more.
 const PERMISSIONS: u32 = 0o1_0000;
 
-/// What a table gets besides its images: the rows of attributes of each layer, lowest first, and
-/// the owner of nodes without a row.
+/// What a table gets besides its images: the rows of attributes of each layer, lowest first, the
+/// lists of extended attributes for these, and the owner of nodes without a row.
 #[derive(Drop)]
 pub struct Attributes<A: Allocator> {
     pub rows: Vec<Rows<A>, A>,
+    pub lists: Vec<RowLists<A>, A>,
     pub owner: Owner,
 }
 
-impl<A: Allocator> Attributes<A> {
+impl<A: Allocator + Copy> Attributes<A> {
     /// No rows: all belongs to the superuser.
     pub fn none(alloc: A) -> Self
         ensures rows { result.rows.items ≡ [] }
+        ensures lists { result.lists.items ≡ [] }
         ensures owner { result.owner ≡ ROOT }
     {
         Attributes {
             rows: Vec::new(alloc),
+            lists: Vec::new(alloc),
             owner: Owner::ROOT,
         }
     }

@@ -6,7 +6,8 @@
 //! every number up to 2^64 - 1, and takes no memory. What the table's parts must say about the
 //! listing is its invariant (`specs/Held.antt`). Rows of attributes are given as `romfs_rows`
 //! reads them, and held in another form: owners and times by the numbers of nodes, 20 bytes each,
-//! and 12 bytes a row for the rest (`specs/Stamps.antt`).
+//! and 12 bytes a row for the rest (`specs/Stamps.antt`). Extended attributes stay as `romfs_rows`
+//! keeps them, and a node has the position of its row (`specs/Xattrs.antt`).
 //!
 //! `node_table` makes tables: the crates are two, so what answers from a table is proved beside its
 //! making, not after it. The crate uses `layer_paths` for places, `romfs_reader` for images,
@@ -26,6 +27,7 @@ mod slim_rows;
 mod stamp;
 mod stamped_rows;
 mod table;
+mod xattrs;
 
 pub use attributes::Attributes;
 pub use directory::{Directories, Directory};
@@ -34,7 +36,7 @@ pub use layer_names::hashed;
 pub use layer_paths::Place;
 pub use node::Node;
 pub use romfs_reader::{Image, ImageView, Kind, Part};
-pub use romfs_rows::Rows;
+pub use romfs_rows::{FileXattrs, RowLists, Rows, is_acl_name};
 pub use row::Row;
 pub use stack_model::{Attr, Owner};
 pub use table::Table;

@@ -1,6 +1,6 @@
 //! The places of nodes' rows of attributes, for nodes that mostly come in the order of rows.
 
-ghost use Rattle.std.specs.Prelude.{◌≡◌};
+ghost use Rattle.std.specs.Prelude.{◌≡◌, ◌+◌, ◌<◌, ◌^◌, IfSome};
 ghost use Rattle.node_reader.specs.Held.{position_held};
 
 use layer_paths::Place;
@@ -26,7 +26,8 @@ impl<A: Allocator> NextRows<A> {
 
     /// The position of a place's row among those of its layer, counted from 0.
     pub(crate) fn position<B: Allocator>(&mut self, rows: &[Rows<B>], place: Place) -> Option<u32>
-        ensures { result ≡ position_held rows.now place }
+        ensures value { result ≡ position_held rows.now place }
+        ensures small { IfSome result (λ position. position + 1 < 2 ^ 32) }
     {
         let layer = place.layer as usize;
         let of_layer = rows.get(layer)?;

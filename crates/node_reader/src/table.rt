@@ -1,13 +1,14 @@
 //! The table of a stack.
 
-ghost use Rattle.std.specs.Prelude.{◌≡◌, ◌<◌, ◌+◌, ◌^◌, length, true, slice_get, Some, None, MatchOption, IfOk};
+ghost use Rattle.std.specs.Prelude.{◌≡◌, ◌<◌, ◌+◌, ◌^◌, [], length, true, slice_get, Some, None, MatchOption, IfOk, IfSome};
 ghost use Rattle.romfs_reader.specs.Images.{all_whole, bytes_of};
 ghost use Rattle.stack_model.specs.Listing.{IsListing};
 ghost use Rattle.stack_model.specs.Numbers.{nodes};
-ghost use Rattle.stack_model.specs.Attributes.{blocks_all};
+ghost use Rattle.romfs_format.specs.Extended.{is_list};
+ghost use Rattle.stack_model.specs.Attributes.{blocks_all, has_acls, has_xattrs};
 ghost use Rattle.node_reader.specs.Stacked.{Listed, listed_once, IsTableWith};
 ghost use Rattle.node_reader.specs.Held.{IsSomeTable};
-ghost use Rattle.node_reader.specs.Readers.{TellsNode, attr_at, parent_at, child_at, rows_at, data_of_number};
+ghost use Rattle.node_reader.specs.Readers.{TellsNode, attr_at, parent_at, child_at, rows_at, data_of_number, xattrs_at};
 
 use crate::attributes::{Attributes, briefs_of};
 use crate::directory::{Directories, Directory};
@@ -17,18 +18,22 @@ use crate::lookup::{Hints, attr_of, directory_at, hints_of, node_at, numbered, p
 use crate::node::{Brief, Node};
 use crate::row::Row;
 use crate::stamped_rows::StampedRows;
+use crate::xattrs::NodeXattrs;
 use romfs_reader::{Image, ImageView};
+use romfs_rows::FileXattrs;
 use stack_model::{Attr, Owner};
 use std::alloc::{AllocError, Allocator, Global};
 use std::marker::Model;
 
 /// The nodes of a stack of layers, by number: attributes, rows and data.
 ///
-/// A clause sees the layers, their listing, the layers' rows of attributes, the owner of nodes
-/// without a row, and whether the images are held in full. Each node and row takes at most 113
+/// A clause sees the layers, their listing, the layers' rows of attributes and lists of extended
+/// ones, the owner of nodes without a row, and whether the images are held in full. Each node and
+/// row takes at most 113
 /// bytes besides a name of more than 22 (16 of them for guesses of places), and a directory 32
 /// more. If any layer has a row of attributes, each node takes 20 more, and such a row 12, or 32 if
-/// it belongs to no node. No reader takes memory, and each answers for every number: 1 is the root,
+/// it belongs to no node. If any has a list of extended attributes, each node and row takes 4 more,
+/// and the lists what they take in the image. No reader takes memory, and each answers for every number: 1 is the root,
 /// and a number that is not in use has nothing.
 ///
 /// ```text
@@ -54,6 +59,7 @@ pub struct Table<A: Allocator> {
     briefs: Vec<Brief, A>,
     // The rows of attributes of each layer, and whose the nodes are, in the same order.
     rows: StampedRows<A>,
+    xattrs: NodeXattrs<A>,
     owner: Owner,
     directories: Directories<A>,
     hints: Hints<A>,
@@ -80,6 +86,7 @@ impl<A: Allocator> Model for Table<A> {
       layers = bytes_of held.layers.items;
       entries = held.listing.0;
       rows = held.rows.rows;
+      lists = held.xattrs.lists;
       owner = held.owner;
       whole = all_whole held.layers.items;
     } };
@@ -90,10 +97,11 @@ impl<A: Allocator> Model for Table<A> {
           layers = bytes_of held.layers.items;
           entries = held.listing.0;
           rows = held.rows.rows;
+          lists = held.xattrs.lists;
           owner = held.owner;
           whole = all_whole held.layers.items;
         })
-        held.nodes.items held.briefs.items held.rows.stamps held.directories
+        held.nodes.items held.briefs.items held.rows.stamps held.xattrs held.directories
         held.hints.filter held.blocks };
 }
 
@@ -110,18 +118,20 @@ impl<A: Allocator + Copy> Table<A> {
     ) -> Result<Self, AllocError>
         requires { IsSomeTable (bytes_of layers.items) nodes.items directories blocks }
         ensures stack { IfOk result (λ table. IsTableWith (bytes_of layers.items)
-            attributes.rows.items attributes.owner table) }
+            attributes.rows.items attributes.lists.items attributes.owner table) }
         ensures whole { IfOk result (λ table. table.whole ≡ all_whole layers.items) }
     {
         let hints = hints_of(alloc, &nodes, &directories)?;
-        let Attributes { rows, owner } = attributes;
+        let Attributes { rows, lists, owner } = attributes;
         let briefs = briefs_of(alloc, &nodes, &rows)?;
-        let rows = StampedRows::of(alloc, &rows, &nodes, owner)?;
+        let stamped = StampedRows::of(alloc, &rows, &nodes, owner)?;
+        let xattrs = NodeXattrs::of(alloc, lists, &rows, &nodes)?;
         Ok(Table {
             layers,
             nodes,
             briefs,
-            rows,
+            rows: stamped,
+            xattrs,
             owner,
             directories,
             hints,
@@ -236,6 +246,32 @@ impl<A: Allocator> Table<A> {
         let brief = numbered(&self.briefs, number)?;
         let stamp = self.rows.stamp(number, self.owner);
         Some(attr_of(number, brief, stamp))
+    }
+
+    /// The extended attributes of a node; none if it has none, or if the number is not in use.
+    pub fn xattrs(&self, number: u64) -> Option<FileXattrs<'_>>
+        ensures value { MatchOption result (xattrs_at self.now number ≡ [])
+            (λ found. xattrs_at self.now number ≡ found) }
+        ensures right { IfSome result (λ found. is_list found ≡ true) }
+    {
+        let node = node_at(&self.nodes, number)?;
+        self.xattrs.of_node(number, node)
+    }
+
+    /// Whether any node has an extended attribute.
+    #[inline(always)]
+    pub fn has_xattrs(&self) -> bool
+        ensures { result ≡ has_xattrs self.now }
+    {
+        self.xattrs.has_some()
+    }
+
+    /// Whether any node has an access control list.
+    #[inline(always)]
+    pub fn has_acls(&self) -> bool
+        ensures { result ≡ has_acls self.now }
+    {
+        self.xattrs.has_acls()
     }
 
     /// The data of a regular file, or the target of a symbolic link; empty if the number is

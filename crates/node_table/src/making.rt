@@ -97,7 +97,7 @@ pub fn table_of_layers<R: Threads + Sync, A: Allocator + Copy>(
     requires tree { IsTreeOf 0 (bytes_of layers.items) tree }
     requires few { length layers.items ≤ MAX_LAYERS }
     ensures stack { IfOk result (λ table. IsTableWith (bytes_of layers.items)
-        attributes.rows.items attributes.owner table) }
+        attributes.rows.items attributes.lists.items attributes.owner table) }
     ensures whole { IfOk result (λ table. table.whole ≡ all_whole layers.items) }
 {
     let (blocks, parts) = read_all(alloc, &tree, &layers)?;

@@ -2,7 +2,7 @@
 
 ghost use Rattle.std.specs.Prelude.{◌≡◌, true, IfOk, IfErr};
 ghost use Rattle.romfs_format.specs.Rules.{IsSound};
-ghost use Rattle.romfs_format.specs.Trailer.{rows_shown};
+ghost use Rattle.romfs_format.specs.Trailer.{lists_shown, rows_shown};
 ghost use Rattle.romfs_held.specs.Images.{held_bytes, is_whole};
 ghost use Rattle.romfs_image.specs.Checks.{IsChecked, IsCheckedWithRows};
 ghost use Rattle.romfs_image.specs.Refusals.{IsRefusal};
@@ -11,7 +11,7 @@ use crate::refusal::CheckFault;
 use romfs_format::Profile;
 use romfs_held::{Held, HeldImage};
 use romfs_reader::Image;
-use romfs_rows::Rows;
+use romfs_rows::{RowLists, Rows};
 use romfs_rules::first_fault;
 use std::alloc::{AllocError, Allocator};
 
@@ -74,9 +74,10 @@ impl<A: Allocator + Copy> Check for Image<A> {
 }
 
 /// Checks that what is held of an image keeps the rules of a profile, and keeps what is held of its
-/// accessible bytes, with the rows of its attribute trailer beside it: none where it has no
-/// trailer, or the profile is one without attributes. They take 28 bytes each. Of an image that
-/// stays in its file nothing else is looked at: of a trailer that was not kept nothing is said.
+/// accessible bytes, with the rows of its attribute trailer beside it, and the list of extended
+/// attributes of each: none where it has no trailer, or the profile is one without attributes. A
+/// row takes 28 bytes, and 4 more where the trailer has lists, which are kept once. Of an image
+/// that stays in its file nothing else is looked at: of a trailer that was not kept nothing is said.
 ///
 /// `Broken` names the fault as [`Check::check_as`] does; of what was gathered from known bytes it
 /// is the fault of these ([`laws`](crate::laws)). `Memory` comes only if memory was refused. It
@@ -86,15 +87,16 @@ pub fn check_held<A: Allocator + Copy>(
     alloc: A,
     held: HeldImage<A>,
     profile: Profile,
-) -> Result<(Image<A>, Rows<A>), CheckFault>
-    ensures ok { IfOk result (λ both.
-        IsCheckedWithRows profile (held_bytes held) both.0.bytes both.1) }
-    ensures whole { IfOk result (λ both. both.0.whole ≡ is_whole held) }
+) -> Result<(Image<A>, Rows<A>, RowLists<A>), CheckFault>
+    ensures ok { IfOk result (λ all.
+        IsCheckedWithRows profile (held_bytes held) all.0.bytes all.1 all.2) }
+    ensures whole { IfOk result (λ all. all.0.whole ≡ is_whole held) }
     ensures err { IfErr result (IsRefusal profile (held_bytes held)) }
 {
     hold(alloc, &held.held(), profile)?;
     let rows = rows_of(alloc, &held.held(), profile)?;
-    Ok((Image::of_sound(held), rows))
+    let lists = lists_of(alloc, &held.held(), profile)?;
+    Ok((Image::of_sound(held), rows, lists))
 }
 
 /// Holds an image to the rules of a profile.
@@ -121,5 +123,21 @@ fn rows_of<A: Allocator>(
         Rows::of(alloc, image)
     } else {
         Ok(Rows::none(alloc))
+    }
+}
+
+/// Their extended attributes.
+fn lists_of<A: Allocator + Copy>(
+    alloc: A,
+    image: &Held<'_>,
+    profile: Profile,
+) -> Result<RowLists<A>, AllocError>
+    requires { IsSound profile image.now }
+    ensures { IfOk result (λ lists. lists ≡ lists_shown profile image.now) }
+{
+    if profile.reads_attributes() {
+        RowLists::of(alloc, image)
+    } else {
+        Ok(RowLists::none(alloc))
     }
 }

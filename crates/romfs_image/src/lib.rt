@@ -4,7 +4,7 @@
 //! otherwise it names the rule that is broken first, and where. It answers for every list of bytes.
 //! [`Image::check_as`](Check::check_as) takes every profile. [`check_held`] checks an image as it
 //! is held, all its bytes or what is kept of one that stays in its file, and gives the rows of its
-//! attribute trailer too; [`laws`] says that what is kept is judged as the image is. [`Image`]
+//! attribute trailer and their lists too; [`laws`] says that what is kept is judged as the image is. [`Image`]
 //! gives headers, names and data, as `romfs_reader` has them.
 //!
 //! What a check promises is said by the definitions of `romfs_format`, and in `specs/`: which bytes
@@ -25,4 +25,4 @@ pub use refusal::CheckFault;
 pub use romfs_format::{AttributeRow, Head, ImageFault, Kind, Profile, Rule};
 pub use romfs_held::{HeldImage, Kept};
 pub use romfs_reader::{Ends, Image, ImageView, Members, Part, views_of};
-pub use romfs_rows::Rows;
+pub use romfs_rows::{RowLists, Rows};

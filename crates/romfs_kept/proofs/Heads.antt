@@ -1,5 +1,5 @@
--- What is kept of a trailer is judged as the trailer is (judged), and says the same rows where it is
--- right (rows_same). Words and rows that lie in it are the trailer's (word_kept, row_kept). Where the
+-- What is kept of a trailer is judged as the trailer is (judged), and says the same rows and lists where
+-- it is right (rows_same, lists_same). Words and rows that lie in it are the trailer's (word_kept, row_kept). Where the
 -- head alone is kept the trailer is broken, since rows that are right lie 16 bytes apart (apart, few).
 use Rattle.std.proofs.Common.{◌≡◌, ◌∙◌, sym, ap, subst, ℕ, zero, suc, ◌+◌, ◌*◌, ◌/◌, ◌%◌, ◌^◌, ◌<◌, ◌≤◌, ◌⊎◌, ◌↔◌, inl, inr, List, [], ◌∷◌, ◌++◌, length, take, drop, IsTrue, refl, arith, length-take}
 use Rattle.std.specs.Prelude.{nat_eq, codes}
@@ -10,12 +10,12 @@ use Rattle.std.proofs.lemmas.Bool.Decides.{nat_tests}
 use Rattle.std.proofs.lemmas.List.{get_or-take, take-take, drop-take}
 use Rattle.romfs_format.specs.declared.attribute_row.AttributeRow.{AttributeRow}
 use Rattle.romfs_format.specs.Fields.{word, padded, word_sum}
-use Rattle.romfs_format.specs.Trailer.{row_count, row_start, row_of, long_word, trailer_end, trailer_bytes, first_rows, part, has_part, mode_of, IsRow, AreRows, IsTrailer}
+use Rattle.romfs_format.specs.Trailer.{row_count, row_start, row_of, long_word, trailer_end, trailer_bytes, first_rows, extended_of, first_lists, part, has_part, mode_of, IsRow, AreRows, IsTrailer}
 use Rattle.romfs_format.specs.Part.{IsPart}
 use Rattle.romfs_held.proofs.Fields.{word_same}
 use Rattle.romfs_held.proofs.Views.{long_by_words}
 use Rattle.romfs_kept.specs.Gathered.{kept_part, kept_end, kept_tail}
-use Rattle.romfs_kept.proofs.Parts.{begins, part_judged}
+use Rattle.romfs_kept.proofs.Parts.{begins, list_by, part_judged, part_lists}
 
 -- a row by its numbers
 abbrev row : ℕ → ℕ → ℕ → ℕ → ℕ → ℕ → AttributeRow
@@ -170,6 +170,22 @@ module _ (t : List ℕ) (n : ℕ) where
     whole_rows : first_rows (take n t) (row_count (take n t)) ≡ first_rows t (row_count t)
     whole_rows = ap (λ k. first_rows (take n t) k) count_kept ∙ first_kept (row_count t) (omega arith)
 
+    -- the lists of rows, where the part is right
+    module _ (right : IsTrue (has_part t) → IsPart (row_count t) (mode_of t) (part t)) where
+      list_kept : (i : ℕ) → i < row_count t → extended_of (take n t) i ≡ extended_of t i
+      list_kept i l =
+          ap (λ k. list_by k (part (take n t)) i) count_kept ∙ ap (λ xs. list_by (row_count t) xs i) part_kept
+          ∙ part_lists (part t) (row_count t) (mode_of t) right i l
+
+      lists_kept : (k : ℕ) → k ≤ row_count t → first_lists (take n t) k ≡ first_lists t k
+      lists_kept zero l = refl
+      lists_kept (suc k) l =
+          ap (λ xs. xs ++ extended_of (take n t) k ∷ []) (lists_kept k (omega arith))
+          ∙ ap (λ x. first_lists t k ++ x ∷ []) (list_kept k (omega arith))
+
+      whole_lists : first_lists (take n t) (row_count (take n t)) ≡ first_lists t (row_count t)
+      whole_lists = ap (λ k. first_lists (take n t) k) count_kept ∙ lists_kept (row_count t) (omega arith)
+
 -- the head alone is broken
 module _ (t : List ℕ) (full : ℕ) where
   head_broken : (length t < trailer_end t) ⊎ (padded full / 16 < row_count t) → ¬ IsTrailer full (take 16 t)
@@ -206,6 +222,13 @@ module _ (t : List ℕ) (full : ℕ) where
   rows_same y = elim which [
     | inl x ↦ subst (λ n. first_rows (take n t) (row_count (take n t)) ≡ first_rows t (row_count t)) (sym x.0)
         (whole_rows t (trailer_end t + kept_part (part t)) full refl x.1)
+    | inr x ↦ absurd (all_broken x.1 y)
+  ]
+
+  pub lists_same : IsTrailer full t → first_lists (kept_tail full t) (row_count (kept_tail full t)) ≡ first_lists t (row_count t)
+  lists_same y = elim which [
+    | inl x ↦ subst (λ n. first_lists (take n t) (row_count (take n t)) ≡ first_lists t (row_count t)) (sym x.0)
+        (whole_lists t (trailer_end t + kept_part (part t)) full refl x.1 y.part)
     | inr x ↦ absurd (all_broken x.1 y)
   ]
 

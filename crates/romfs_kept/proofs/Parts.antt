@@ -1,6 +1,7 @@
 -- What is kept of a part after the rows is judged as the part is (part_judged): nothing if there is
--- none, all if it is there in full, and otherwise its letters, which are broken as it is.
-use Rattle.std.proofs.Common.{◌≡◌, ◌∙◌, sym, ap, subst, ℕ, ◌+◌, ◌*◌, ◌%◌, ◌^◌, ◌<◌, ◌≤◌, ◌⊎◌, ◌↔◌, inl, inr, List, length, take, drop, IsTrue, refl, arith, length-take, length-take-le}
+-- none, all if it is there in full, and otherwise its letters, which are broken as it is. Where it is
+-- right it has the same lists (part_lists).
+use Rattle.std.proofs.Common.{◌≡◌, ◌∙◌, sym, ap, subst, ℕ, ◌+◌, ◌*◌, ◌%◌, ◌^◌, ◌<◌, ◌≤◌, ◌⊎◌, ◌↔◌, inl, inr, List, [], length, take, drop, IsTrue, if◌then◌else◌, refl, arith, length-take, length-take-le}
 use Rattle.std.specs.Prelude.{Bool, true, false, nat_eq, codes}
 use Rattle.std.specs.List.{starts_with}
 use Rattle.std.specs.Cmp.Lexicographic.{pointwise}
@@ -9,7 +10,8 @@ use Rattle.std.proofs.lemmas.Bool.Decides.{nat_tests}
 use Rattle.std.proofs.lemmas.List.{get_or-take, take-take}
 use Rattle.romfs_format.specs.Fields.{word, word_sum}
 use Rattle.romfs_format.specs.Below.{holds_below}
-use Rattle.romfs_format.specs.Part.{part_size, part_bytes, lists_in, lists_start, list_number, leads, AreLists, IsFramed, IsPart}
+use Rattle.romfs_format.specs.Extended.{Extended}
+use Rattle.romfs_format.specs.Part.{part_size, part_bytes, lists_in, lists_start, list_number, numbered, leads, AreLists, IsFramed, IsPart}
 use Rattle.romfs_format.proofs.Below.{holds_alike}
 use Rattle.romfs_held.proofs.Fields.{word_same}
 use Rattle.romfs_held.proofs.Views.{short_front}
@@ -18,6 +20,10 @@ use Rattle.romfs_kept.specs.Gathered.{kept_part}
 -- a part begins here
 abbrev pub begins : List ℕ → Bool
 begins x = starts_with nat_eq x (codes "-attr02-")
+
+-- the list of row i, if a part after n rows begins here
+abbrev pub list_by : ℕ → List ℕ → ℕ → List Extended
+list_by n x i = if begins x then numbered (lists_in n x) (list_number x i) else []
 
 begins_kept : (x : List ℕ) (k : ℕ) → 8 ≤ k → begins (take k x) ≡ begins x
 begins_kept x k l = ap (λ xs. pointwise nat_eq (codes "-attr02-") xs) (take-take 8 k x l)
@@ -73,6 +79,13 @@ module _ (x : List ℕ) (low : 16 ≤ part_size x) (high : part_size x ≤ lengt
 
       rows_alike : holds_below n (leads n other kept) ≡ holds_below n (leads n mode x)
       rows_alike = holds_alike n (leads n other kept) (leads n mode x) leads_same
+
+    list_same : (i : ℕ) → i < n → lists_start n + 4 ≤ part_size x → list_by n kept i ≡ list_by n x i
+    list_same i l fit =
+        let a = begins_kept x (part_size x) (omega arith) in
+        let b = lists_same in
+        let c = word_kept x (part_size x) (16 + 4 * i) (omega arith) in
+        rw (a, b, c) refl
 
     whole_forth : (mode other : ℕ → ℕ) → ((i : ℕ) → i < n → other i ≡ mode i) → IsPart n mode x → IsPart n other kept
     whole_forth mode other modes p = record {
@@ -142,4 +155,18 @@ module _ (x : List ℕ) where
           (λ p h. absurd (cut_broken n mode w.1 (p (sym (begins_kept x 8 (omega arith)) ∙ h)))),
           (λ p h. absurd (letters_broken n other (p (begins_kept x 8 (omega arith) ∙ h)))),
         )
+  ]
+
+  pub part_lists : (n : ℕ) (mode : ℕ → ℕ) → (IsTrue (begins x) → IsPart n mode x) → (i : ℕ) → i < n
+      → list_by n (take (kept_part x) x) i ≡ list_by n x i
+  part_lists n mode p i l = elim which [
+    | inl w ↦ subst (λ k. list_by n (take k x) i ≡ list_by n x i) (sym w.1) (let e = w.0 in rw e refl)
+    | inr (inl w) ↦ subst (λ k. list_by n (take k x) i ≡ list_by n x i) (sym w.0) (elim (cases_Bool (begins x)) [
+      | inl t ↦ list_same x w.1 w.2 n i l (p t).frame.rows_fit
+      | inr f ↦ (let e = begins_kept x (part_size x) (let low = w.1 in omega arith) ∙ f in rw (e, f) refl)
+    ])
+    | inr (inr w) ↦ subst (λ k. list_by n (take k x) i ≡ list_by n x i) (sym w.0) (elim (cases_Bool (begins x)) [
+      | inl t ↦ absurd (cut_broken n mode w.1 (p t))
+      | inr f ↦ (let e = begins_kept x 8 (omega arith) ∙ f in rw (e, f) refl)
+    ])
   ]

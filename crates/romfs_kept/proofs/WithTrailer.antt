@@ -1,5 +1,6 @@
 -- What was gathered with its trailer breaks the rules that the bytes break (twins_forth, twins_back),
--- those of attributes, too (broken_forth, broken_back), and shows the same rows (rows_alike). Its front
+-- those of attributes, too (broken_forth, broken_back), and shows the same rows and lists (rows_alike,
+-- lists_alike). Its front
 -- looks the same to the volume's rules (front_volume), and has the same accessible bytes (image_is).
 use Rattle.std.proofs.Common.{◌≡◌, ◌∙◌, sym, ap, subst, ℕ, ◌+◌, ◌^◌, ◌<◌, ◌≤◌, ◌&&◌, inl, inr, min, Bool, List, [], length, take, drop, get_or, Option, if◌then◌else◌, refl, arith, length-drop, length-take, take_all}
 use Rattle.std.specs.Prelude.{nat_eq, nat_le, nat_lt, codes}
@@ -16,14 +17,14 @@ use Rattle.romfs_format.specs.declared.rule.Rule.TheVariants.{Short, Magic, Full
 use Rattle.romfs_format.specs.Fields.{word, image, summed, text_at, root, padded}
 use Rattle.romfs_format.specs.Profiles.{reads_attributes}
 use Rattle.romfs_format.specs.Rules.{HasNoRoot, Breaks, BreaksHeader, IsSound, IsFaultOf}
-use Rattle.romfs_format.specs.Trailer.{trailer, trailer_at, has_trailer, HasTrailer, IsTrailer, IsTrailerBroken, row_count, first_rows, rows, rows_shown}
+use Rattle.romfs_format.specs.Trailer.{trailer, trailer_at, has_trailer, HasTrailer, IsTrailer, IsTrailerBroken, row_count, first_rows, first_lists, rows, rows_shown, lists, lists_shown}
 use Rattle.romfs_format.proofs.Faults.{full_size}
 use Rattle.romfs_format.proofs.Trailers.{kept_trailer}
 use Rattle.romfs_held.proofs.Fields.{word_same}
 use Rattle.romfs_held.proofs.Views.{short_front}
 use Rattle.romfs_kept.specs.Footprint.{reach}
 use Rattle.romfs_kept.specs.Gathered.{begins_trailer, kept_tail, IsGatheredWithTrailerOf}
-use Rattle.romfs_kept.proofs.Heads.{judged, rows_same, letters_same}
+use Rattle.romfs_kept.proofs.Heads.{judged, rows_same, lists_same, letters_same}
 use Rattle.romfs_kept.proofs.Tails.{and_false}
 use Rattle.romfs_kept.proofs.Volumes.{SameVolume, same_volume, volume_sym, volume_goes, header_forth, header_back, root_forth, root_back, roots, Twins, fault_of_goes}
 
@@ -45,7 +46,7 @@ reach_full : (b : List ℕ) → 16 ≤ word b 8 → word b 8 ≤ length b → re
 reach_full b l h =
     let f : (if nat_le HEAD_SIZE (word b 8) then word b 8 else HEAD_SIZE) ≡ word b 8 = grind (arith, nat_tests) in omega arith
 
-abbrev shown : Bool → List AttributeRow → List AttributeRow
+abbrev shown : {X : Type 0} → Bool → List X → List X
 shown h xs = if h then xs else []
 
 module _ (b a : List ℕ) (g : IsGatheredWithTrailerOf b a) where
@@ -189,6 +190,19 @@ module _ (b a : List ℕ) (g : IsGatheredWithTrailerOf b a) where
             → rows a ≡ rows b
         by_has e f = ap (λ x. shown x (first_rows (trailer a) (row_count (trailer a)))) e ∙ ap (λ xs. shown (has_trailer b) xs) f
 
+    pub lists_alike : ¬ IsTrailerBroken b → lists a ≡ lists b
+    lists_alike k = elim (cases_Bool (has_trailer b)) [
+      | inl h ↦ by_has has_same (ap (λ t. first_lists t (row_count t)) (tail_is h)
+          ∙ lists_same (trailer b) (reach b) (subst (λ n. IsTrailer n (trailer b)) full_is (kept_trailer b h k)))
+      | inr e ↦ ap (λ x. shown x (first_lists (trailer a) (row_count (trailer a)))) (has_same ∙ e)
+          ∙ sym (ap (λ x. shown x (first_lists (trailer b) (row_count (trailer b)))) e)
+    ]
+      where
+        by_has : has_trailer a ≡ has_trailer b → first_lists (trailer a) (row_count (trailer a)) ≡ first_lists (trailer b) (row_count
+            (trailer b))
+            → lists a ≡ lists b
+        by_has e f = ap (λ x. shown x (first_lists (trailer a) (row_count (trailer a)))) e ∙ ap (λ xs. shown (has_trailer b) xs) f
+
     no_root_forth : HasNoRoot (image b) → HasNoRoot (image a)
     unfolding front
     no_root_forth n = subst (λ xs. HasNoRoot xs) (sym image_front) (root_forth b front g.front least most n)
@@ -251,6 +265,16 @@ module _ (b a : List ℕ) (g : IsGatheredWithTrailerOf b a) where
       → (IsFaultOf profile b fault → IsFaultOf profile a fault) × (IsFaultOf profile a fault → IsFaultOf profile b fault)
   same_fault_with_trailer profile fault =
       (fault_of_goes profile b a (twins_forth profile) fault, fault_of_goes profile a b (twins_back profile) fault)
+
+  pub same_lists_shown : (profile : Profile) → IsSound profile b → lists_shown profile a ≡ lists_shown profile b
+  same_lists_shown profile s = elim (cases_Bool (reads_attributes profile)) [
+    | inl e ↦ ap (λ x. shown x (lists a)) e ∙ lists_alike full.0 full.1 (λ x. s.keeps Attributes (trailer_at b) (e, x, refl))
+        ∙ sym (ap (λ x. shown x (lists b)) e)
+    | inr e ↦ ap (λ x. shown x (lists a)) e ∙ sym (ap (λ x. shown x (lists b)) e)
+  ]
+    where
+      full : (16 ≤ word b 8) × (word b 8 ≤ length b)
+      full = full_size profile b s
 
   pub same_rows_shown : (profile : Profile) → IsSound profile b → rows_shown profile a ≡ rows_shown profile b
   same_rows_shown profile s = elim (cases_Bool (reads_attributes profile)) [

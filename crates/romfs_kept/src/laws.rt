@@ -12,7 +12,7 @@ ghost use Rattle.romfs_format.specs.Heads.{head_of};
 ghost use Rattle.romfs_format.specs.Links.{IsFinal};
 ghost use Rattle.romfs_format.specs.Profiles.{reads_attributes};
 ghost use Rattle.romfs_format.specs.Rules.{Breaks, BreaksHeader, IsFaultOf, IsSound};
-ghost use Rattle.romfs_format.specs.Trailer.{rows_shown};
+ghost use Rattle.romfs_format.specs.Trailer.{lists_shown, rows_shown};
 ghost use Rattle.romfs_kept.specs.Gathered.{IsGatheredOf, IsGatheredWithTrailerOf};
 ghost use Rattle.romfs_kept.specs.Footprint.{Agrees, IsClosed};
 
@@ -57,6 +57,12 @@ pub fn same_fault_with_trailer()
 pub fn same_rows_with_trailer()
     ensures { (profile : Profile) → (b a : List ℕ) → IsGatheredWithTrailerOf b a →
         IsSound profile b → rows_shown profile a ≡ rows_shown profile b }
+{}
+
+/// And their extended attributes.
+pub fn same_lists_with_trailer()
+    ensures { (profile : Profile) → (b a : List ℕ) → IsGatheredWithTrailerOf b a →
+        IsSound profile b → lists_shown profile a ≡ lists_shown profile b }
 {}
 
 /// In lists that agree on the kept parts of a closed set of headers, paths lead to the same

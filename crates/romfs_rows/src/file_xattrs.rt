@@ -1,10 +1,10 @@
 //! The extended attributes of one file.
 
-ghost use Rattle.std.specs.Prelude.{◌≡◌, ◌≤◌, [], length, slice_get, IfSome, MatchOption, Some};
+ghost use Rattle.std.specs.Prelude.{◌≡◌, ◌≤◌, [], length, slice_get, true, IfSome, MatchOption, Some};
 ghost use Rattle.std.specs.List.{list_any};
 ghost use Rattle.std.specs.Option.{option_map};
 ghost use Rattle.romfs_format.specs.declared.limits.TheConstants.{MAX_XATTR_SIZE};
-ghost use Rattle.romfs_format.specs.Extended.{is_acl_name, value_of};
+ghost use Rattle.romfs_format.specs.Extended.{is_acl_name, is_list, value_of};
 ghost use Rattle.romfs_format.specs.Part.{list_count, numbered, AreLists};
 
 use crate::attribute::is_acl_name;
@@ -38,8 +38,9 @@ impl<'t> FileXattrs<'t> {
     pub(crate) fn of(bytes: &'t [u8], number: u32) -> Option<FileXattrs<'t>>
         requires lists { AreLists bytes.now }
         requires there { number ≤ list_count bytes.now }
-        ensures { MatchOption result (numbered bytes.now number ≡ [])
-            (λ found. found ≡ numbered bytes.now number) }
+        ensures value { MatchOption result (numbered bytes.now number ≡ [])
+            (λ found. numbered bytes.now number ≡ found) }
+        ensures right { IfSome result (λ found. is_list found ≡ true) }
     {
         if number == 0 {
             return None;

@@ -1,8 +1,10 @@
 //! The extended attributes of an image's rows.
 
-ghost use Rattle.std.specs.Prelude.{◌≡◌, ◌≤◌, ◌<◌, [], length, map, slice_index_or, IfOk, MatchOption};
+ghost use Rattle.std.specs.Prelude.{◌≡◌, ◌≤◌, ℕ, [], length, replicate, false, true, IfOk, IfSome, MatchOption};
+ghost use Rattle.std.specs.List.{slice_index_or};
 ghost use Rattle.romfs_format.specs.declared.limits.TheConstants.{HEAD_SIZE};
-ghost use Rattle.romfs_format.specs.Part.{list_number, IsFramed};
+ghost use Rattle.romfs_format.specs.Extended.{is_list};
+ghost use Rattle.romfs_format.specs.Part.{IsFramed};
 ghost use Rattle.romfs_format.specs.Trailer.{IsTrailerBroken, lists};
 ghost use Rattle.romfs_rows.specs.Listed.{numbers_of};
 
@@ -84,10 +86,18 @@ impl<A: Allocator + Copy> RowLists<A> {
 }
 
 impl<A: Allocator> RowLists<A> {
+    /// Whether any row may have a list. If not, none has.
+    pub fn may_have_some(&self) -> bool
+        ensures { result ≡ false → (position : ℕ) → slice_index_or self.now position [] ≡ [] }
+    {
+        !self.numbers.is_empty()
+    }
+
     /// Those of the row at a position, counted from 0; none if it has no list.
     pub fn of_row(&self, position: u32) -> Option<FileXattrs<'_>>
-        ensures { MatchOption result (slice_index_or self.now position [] ≡ [])
+        ensures value { MatchOption result (slice_index_or self.now position [] ≡ [])
             (λ found. slice_index_or self.now position [] ≡ found) }
+        ensures right { IfSome result (λ found. is_list found ≡ true) }
     {
         let number = *self.numbers.get(position as usize)?;
         FileXattrs::of(&self.bytes, number)

@@ -5,6 +5,7 @@ use Rattle.std.proofs.Common.{◌≡◌, ◌∙◌, sym, ap, ℕ, ◌+◌, ◌�
 use Rattle.std.proofs.lemmas.List.{length-map, length-append, map-append, take-append-drop, length-take-le}
 use Rattle.std.proofs.lemmas.List.Elements.{All-push, All-append}
 use Rattle.romfs_format.specs.Rules.{IsFault, IsSound}
+use Rattle.romfs_format.specs.Extended.{Extended}
 use Rattle.romfs_format.specs.declared.attribute_row.AttributeRow.{AttributeRow}
 use Rattle.romfs_format.specs.declared.rule.ImageFault.{ImageFault}
 use Rattle.romfs_format.specs.declared.rule.Profile.{Profile}
@@ -15,16 +16,17 @@ use Rattle.stack_prepare.specs.declared.checking.Checked.{Checked}
 use Rattle.stack_prepare.specs.declared.refusal.Refusal.{Refusal}
 use Rattle.stack_prepare.specs.declared.refusal.Refusal.TheVariants.{Layer, Layers, Memory}
 use Rattle.stack_prepare.specs.Layers.{IsFew, IsLowestBroken, AreRefused}
-use Rattle.stack_prepare.specs.Checking.{accessible, rows_of, AreChecked, AreBoth, IsBroken, Checks, IsFirstRefusal, Joins}
+use Rattle.stack_prepare.specs.Checking.{accessible, rows_of, lists_of, AreChecked, AreBoth, IsBroken, Checks, IsFirstRefusal, Joins}
 
 -- the images before those that are left keep the rules, and this is what is kept of them
 pub record AreTaken {A : Type 0} (profile : Profile) (all left : List (HeldImage A)) (kept : List HeldBytes) (rows : List (List AttributeRow))
-    : Type 0 where
+    (lists : List (List (List Extended))) : Type 0 where
   pub below : List (HeldImage A)
   pub split : all ≡ below ++ left
   pub sound : All (IsSound profile) (map held_bytes below)
   pub are : kept ≡ map accessible below
   pub rows_are : rows ≡ map (rows_of profile) below
+  pub lists_are : lists ≡ map (lists_of profile) below
 
 -- an image that has these bytes, and all or not
 pub held_as : (held : HeldBytes) (bytes : List ℕ) (whole : Bool) → held.bytes ≡ bytes → held.whole ≡ whole
@@ -33,21 +35,23 @@ held_as held bytes whole e f =
     ap (λ (b : List ℕ). record { bytes = b; whole = held.whole }) e ∙ ap (λ (w : Bool). record { bytes = bytes; whole = w }) f
 
 -- before the first image none is taken
-pub none_taken : {A : Type 0} (profile : Profile) (all : List (HeldImage A)) → AreTaken profile all all [] []
+pub none_taken : {A : Type 0} (profile : Profile) (all : List (HeldImage A)) → AreTaken profile all all [] [] []
 none_taken profile all = record {
   below = [];
   split = refl;
   sound = λ k d l. absurd (omega arith);
   are = refl;
   rows_are = refl;
+  lists_are = refl;
 }
 
 module _ {A : Type 0} {profile : Profile} {all left : List (HeldImage A)} {kept : List HeldBytes} {rows : List (List AttributeRow)}
-    (t : AreTaken profile all left kept rows) (x : HeldImage A) (rest : List (HeldImage A)) (next : left ≡ x ∷ rest) where
+    {lists : List (List (List Extended))} (t : AreTaken profile all left kept rows lists) (x : HeldImage A) (rest : List (HeldImage A)) (next : left ≡ x ∷ rest) where
   -- an image that keeps the rules goes from what is left to what is taken
-  pub one_more : (sound : HeldBytes) (its : List AttributeRow) → sound ≡ accessible x → its ≡ rows_of profile x
-      → IsSound profile (held_bytes x) → AreTaken profile all rest (kept ++ sound ∷ []) (rows ++ its ∷ [])
-  one_more sound its e f d = record {
+  pub one_more : (sound : HeldBytes) (its : List AttributeRow) (those : List (List Extended)) → sound ≡ accessible x
+      → its ≡ rows_of profile x → those ≡ lists_of profile x → IsSound profile (held_bytes x)
+      → AreTaken profile all rest (kept ++ sound ∷ []) (rows ++ its ∷ []) (lists ++ those ∷ [])
+  one_more sound its those e f g d = record {
     below = t.below ++ x ∷ [];
     split = t.split ∙ ap (λ xs. t.below ++ xs) next ∙ sym (append_assoc t.below (x ∷ []) rest);
     sound = subst (All (IsSound profile)) (sym (map-append held_bytes t.below (x ∷ [])))
@@ -56,6 +60,8 @@ module _ {A : Type 0} {profile : Profile} {all left : List (HeldImage A)} {kept 
         ∙ sym (map-append accessible t.below (x ∷ []));
     rows_are = ap (λ xs. xs ++ its ∷ []) t.rows_are ∙ ap (λ y. map (rows_of profile) t.below ++ y ∷ []) f
         ∙ sym (map-append (rows_of profile) t.below (x ∷ []));
+    lists_are = ap (λ xs. xs ++ those ∷ []) t.lists_are ∙ ap (λ y. map (lists_of profile) t.below ++ y ∷ []) g
+        ∙ sym (map-append (lists_of profile) t.below (x ∷ []));
   }
 
   -- where the next image breaks a rule, it is the lowest that does
@@ -77,7 +83,8 @@ module _ {A : Type 0} {profile : Profile} {all left : List (HeldImage A)} {kept 
 
 -- no more images are taken than there are
 pub taken_within : {A : Type 0} {profile : Profile} {all left : List (HeldImage A)} {kept : List HeldBytes}
-    {rows : List (List AttributeRow)} → AreTaken profile all left kept rows → length kept ≤ length all
+    {rows : List (List AttributeRow)} {lists : List (List (List Extended))} → AreTaken profile all left kept rows lists
+    → length kept ≤ length all
 taken_within {left = left} {kept} t =
     let same = ap length t.are ∙ length-map t.below accessible in
     let whole = ap length t.split ∙ length-append t.below left in
@@ -89,14 +96,16 @@ nothing (x ∷ xs) none = absurd (omega (arith, none))
 
 -- where none is left, all are checked
 pub all_checked : {A : Type 0} {profile : Profile} {all left : List (HeldImage A)} {kept : List HeldBytes}
-    {rows : List (List AttributeRow)} (checked : Checked A) → AreTaken profile all left kept rows → length left ≡ 0
-    → checked.images.items ≡ kept → checked.rows.items ≡ rows → AreChecked profile all checked
-all_checked {profile = profile} {all} {left} checked t none e f =
+    {rows : List (List AttributeRow)} {lists : List (List (List Extended))} (checked : Checked A)
+    → AreTaken profile all left kept rows lists → length left ≡ 0 → checked.images.items ≡ kept → checked.rows.items ≡ rows
+    → checked.lists.items ≡ lists → AreChecked profile all checked
+all_checked {profile = profile} {all} {left} checked t none e f g =
     let same : all ≡ t.below = t.split ∙ ap (λ xs. t.below ++ xs) (nothing left none) ∙ append-nil t.below in
     record {
       sound = subst (λ xs. All (IsSound profile) (map held_bytes xs)) (sym same) t.sound;
       are = e ∙ t.are ∙ ap (map accessible) (sym same);
       rows_are = f ∙ t.rows_are ∙ ap (map (rows_of profile)) (sym same);
+      lists_are = g ∙ t.lists_are ∙ ap (map (lists_of profile)) (sym same);
     }
 
 -- two halves that keep the rules
@@ -109,6 +118,8 @@ whole profile lows highs low high all l h both = record {
       ∙ sym (map-append accessible lows highs);
   rows_are = both.rows_are ∙ ap (λ xs. xs ++ high.rows.items) l.rows_are ∙ ap (λ xs. map (rows_of profile) lows ++ xs) h.rows_are
       ∙ sym (map-append (rows_of profile) lows highs);
+  lists_are = both.lists_are ∙ ap (λ xs. xs ++ high.lists.items) l.lists_are
+      ∙ ap (λ xs. map (lists_of profile) lows ++ xs) h.lists_are ∙ sym (map-append (lists_of profile) lows highs);
 }
 
 -- the lower half's broken image is the lowest of both

@@ -3,7 +3,8 @@ use Rattle.std.specs.Prelude.{◌≡◌, ℕ, ◌+◌, ◌⊎◌, List, ◌++◌
 use Rattle.std.specs.declared.result.Result.{Result}
 use Rattle.romfs_format.specs.Fields.{image}
 use Rattle.romfs_format.specs.Rules.{IsSound}
-use Rattle.romfs_format.specs.Trailer.{rows_shown}
+use Rattle.romfs_format.specs.Extended.{Extended}
+use Rattle.romfs_format.specs.Trailer.{lists_shown, rows_shown}
 use Rattle.romfs_format.specs.declared.attribute_row.AttributeRow.{AttributeRow}
 use Rattle.romfs_format.specs.declared.rule.Profile.{Profile}
 use Rattle.romfs_held.specs.declared.image.HeldImage.{HeldImage}
@@ -22,12 +23,18 @@ accessible held = record { bytes = image (held_bytes held); whole = is_whole hel
 abbrev pub rows_of : {A : Type 0} → Profile → HeldImage A → List AttributeRow
 rows_of profile held = rows_shown profile (held_bytes held)
 
--- all images keep the rules of the profile, and these are their accessible bytes and their rows
+-- and their lists of extended attributes
+abbrev pub lists_of : {A : Type 0} → Profile → HeldImage A → List (List Extended)
+lists_of profile held = lists_shown profile (held_bytes held)
+
+-- all images keep the rules of the profile, and these are their accessible bytes, their rows and
+-- the lists of these
 pub record AreChecked {A : Type 0} (profile : Profile) (images : List (HeldImage A))
     (checked : Checked A) : Type 0 where
   pub sound : All (IsSound profile) (map held_bytes images)
   pub are : checked.images.items ≡ map accessible images
   pub rows_are : checked.rows.items ≡ map (rows_of profile) images
+  pub lists_are : checked.lists.items ≡ map (lists_of profile) images
 
 -- of images that are numbered from this number on, the lowest that breaks a rule, and its fault; or
 -- memory ran out
@@ -48,6 +55,7 @@ Checks first profile images result =
 pub record AreBoth {A : Type 0} (low high all : Checked A) : Type 0 where
   pub images_are : all.images.items ≡ low.images.items ++ high.images.items
   pub rows_are : all.rows.items ≡ low.rows.items ++ high.rows.items
+  pub lists_are : all.lists.items ≡ low.lists.items ++ high.lists.items
 
 -- both halves of a run were checked, and these are the images of both
 abbrev pub AreJoined : {A : Type 0} → Result (Checked A) Refusal → Result (Checked A) Refusal

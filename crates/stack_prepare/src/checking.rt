@@ -14,15 +14,17 @@ use draw_board::{Gate, Work, forks_of};
 use romfs_format::Profile;
 use romfs_held::HeldImage;
 use romfs_image::{CheckFault, Image, check_held};
-use romfs_rows::Rows;
+use romfs_rows::{RowLists, Rows};
 use std::alloc::Allocator;
 use std::thread::{Threads, join};
 
-/// Images that were checked, and the rows of attributes of each, where the profile reads them.
+/// Images that were checked, and the rows of attributes of each and the lists of extended ones for
+/// these, where the profile reads them.
 #[derive(Drop)]
 pub(crate) struct Checked<A: Allocator> {
     pub(crate) images: Vec<Image<A>, A>,
     pub(crate) rows: Vec<Rows<A>, A>,
+    pub(crate) lists: Vec<RowLists<A>, A>,
 }
 
 /// The images, checked by the rules of a profile, in their order.
@@ -111,14 +113,21 @@ fn joined<A: Allocator>(low: Checked<A>, high: Checked<A>) -> Result<Checked<A>,
     let Checked {
         mut images,
         mut rows,
+        mut lists,
     } = low;
     let Checked {
         images: mut more_images,
         rows: mut more_rows,
+        lists: mut more_lists,
     } = high;
     images.append(&mut more_images)?;
     rows.append(&mut more_rows)?;
-    Ok(Checked { images, rows })
+    lists.append(&mut more_lists)?;
+    Ok(Checked {
+        images,
+        rows,
+        lists,
+    })
 }
 
 /// A run of images, of which the lowest has the number `first`, checked from the lowest up.
@@ -134,13 +143,15 @@ fn check_in_turn<A: Allocator + Copy, G: Gate>(
 {
     let mut checked = Vec::with_capacity(alloc, images.len())?;
     let mut rows = Vec::with_capacity(alloc, images.len())?;
+    let mut lists = Vec::with_capacity(alloc, images.len())?;
     for image in images {
         let layer = first + checked.len() as u16;
         gate.pass(Work::Check, u32::from(layer));
         match check_held(alloc, image, profile) {
-            Ok((sound, its_rows)) => {
+            Ok((sound, its_rows, its_lists)) => {
                 checked.push(sound)?;
                 rows.push(its_rows)?;
+                lists.push(its_lists)?;
             }
             Err(CheckFault::Broken(fault)) => return Err(Refusal::Layer { layer, fault }),
             Err(CheckFault::Memory) => return Err(Refusal::Memory),
@@ -149,5 +160,6 @@ fn check_in_turn<A: Allocator + Copy, G: Gate>(
     Ok(Checked {
         images: checked,
         rows,
+        lists,
     })
 }

@@ -2,12 +2,13 @@
 //! what [`crate::prepare`] promises.
 
 ghost use Rattle.std.specs.Prelude.{◌≡◌, ◌⊎◌, List, ℕ, false};
+ghost use Rattle.stack_model.specs.declared.owner.Owner.{Owner};
 ghost use Rattle.stack_model.specs.declared.owner.TheConstants.Owner.{ROOT};
 ghost use Rattle.romfs_format.specs.declared.rule.Profile.{Profile};
 ghost use Rattle.romfs_format.specs.Profiles.{reads_attributes};
 ghost use Rattle.stack_model.specs.Listing.{Stacked, stacked};
 ghost use Rattle.stack_model.specs.Numbers.{Place};
-ghost use Rattle.stack_model.specs.Attributes.{attr_of};
+ghost use Rattle.stack_model.specs.Attributes.{attr_of, has_xattrs};
 ghost use Rattle.stack_prepare.specs.declared.refusal.Refusal.{Refusal};
 ghost use Rattle.stack_prepare.specs.declared.refusal.Refusal.TheVariants.{Memory};
 ghost use Rattle.stack_prepare.specs.Layers.{AreLayers, AreRefused};
@@ -24,10 +25,14 @@ pub fn refusals_are_one()
 {}
 
 /// Where a profile reads no attributes, and all belongs to the superuser, the attributes of each
-/// place are those of the layers without any rows, whatever stands behind the images.
-#[tactic(auto, using(crate::proofs::Stacked::unasked))]
+/// place are those of the layers without any rows, whatever stands behind the images. No node has
+/// an extended attribute then, whoever is the owner.
+#[tactic(auto, using(crate::proofs::Stacked::unasked, crate::proofs::Stacked::unasked_xattrs))]
 pub fn attributes_are_asked_for()
-    ensures { (profile : Profile) (images : List (List ℕ)) (stack : Stacked) (p : Place) →
+    ensures usual { (profile : Profile) (images : List (List ℕ)) (stack : Stacked) (p : Place) →
         reads_attributes profile ≡ false → AreStacked profile ROOT images stack →
         attr_of stack p ≡ attr_of (stacked stack.layers stack.entries) p }
+    ensures extended { (profile : Profile) (owner : Owner) (images : List (List ℕ))
+        (stack : Stacked) → reads_attributes profile ≡ false →
+        AreStacked profile owner images stack → has_xattrs stack ≡ false }
 {}

@@ -20,7 +20,8 @@ use std::alloc::{AllocError, Allocator};
 use std::thread::Threads;
 
 /// Checks images by the rules of a profile and stacks them, the lowest layer first, into one table,
-/// with the rows of attributes that the profile reads; all that has no row belongs to an owner. Of
+/// with the rows of attributes that the profile reads, and the extended attributes of these; all
+/// that has no row belongs to an owner. Of
 /// images that stay in their files the table holds what is kept of their accessible bytes, and no
 /// more: where files have their data it has zeros.
 ///
@@ -40,9 +41,14 @@ pub fn prepare<R: Threads + Sync, A: SharedAllocator, G: Gate + Sync>(
     ensures whole { IfOk result (λ table. table.whole ≡ are_whole images.items) }
 {
     few(images.len())?;
-    let Checked { images, rows } = check_all(rt, alloc, images, profile, gate)?;
+    let Checked {
+        images,
+        rows,
+        lists,
+    } = check_all(rt, alloc, images, profile, gate)?;
     let tree = stack(rt, alloc, &images, gate)?;
-    Ok(table_of_layers(rt, alloc, tree, images, Attributes { rows, owner })?)
+    let attributes = Attributes { rows, lists, owner };
+    Ok(table_of_layers(rt, alloc, tree, images, attributes)?)
 }
 
 /// Images that are held whole, 1 to 128 of them: `Layers` comes exactly where there are none or

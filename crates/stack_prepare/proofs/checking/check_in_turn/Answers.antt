@@ -11,7 +11,8 @@ pub loop-image-init : goal.loop-image-init
 loop-image-init g c = record {
   can_next = tt;
   is_finite = tt;
-  done = rw (c.into_iter-image-iterator.ensures.into_iter_gives.0, c.in_ok-checked.ensures.items, c.in_ok-rows.ensures.items)
+  done = rw (c.into_iter-image-iterator.ensures.into_iter_gives.0, c.in_ok-checked.ensures.items, c.in_ok-rows.ensures.items,
+          c.in_ok-lists.ensures.items)
       (none_taken c.args.profile c.args.images.items);
 }
 
@@ -21,9 +22,10 @@ loop-image-preserved g c =
     record {
       can_next = tt;
       is_finite = tt;
-      done = rw (c.in_ok-push-in-Ok.ensures.items, c.in_ok-push-in-Ok-2.ensures.items)
+      done = rw (c.in_ok-push-in-Ok.ensures.items, c.in_ok-push-in-Ok-2.ensures.items, c.in_ok-push-in-Ok-3.ensures.items)
           (one_more c.loop-image.invariant.done c.in-Some.image _ c.in-Some.ensures.steps.0 c.in-Ok.sound c.in-Ok.its_rows
-          (held_as c.in-Ok.sound _ _ held.ok.0.0 held.whole) held.ok.1 held.ok.0.1);
+          c.in-Ok.its_lists (held_as c.in-Ok.sound _ _ held.ok.checked.0 held.whole) held.ok.rows_are held.ok.lists_are
+          held.ok.checked.1);
     }
 
 pub returns : goal.returns
@@ -33,7 +35,7 @@ returns g c =
       c.in-None.ensures.steps.0,
       c.loop-image.image-iterator.rest.ok,
     ) in (
-      all_checked _ c.loop-image.invariant.done none refl refl,
+      all_checked _ c.loop-image.invariant.done none refl refl refl,
       tt,
     )
 
