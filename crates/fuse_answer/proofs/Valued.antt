@@ -3,7 +3,7 @@
 -- (`names_decided`).
 use Rattle.std.proofs.Common.{◌≡◌, ◌≢◌, ◌∙◌, sym, ap, ℕ, ◌≤◌, List, [], length, Bool, true, false, cond, subst, Option, Some, None, Result, Ok, Err, MatchOption, MatchResult, refl}
 use Rattle.std.specs.Prelude.{Bor, nat_lt, not, ◌==◌, ◌&&◌}
-use Rattle.std.specs.Option.{option_map_or}
+use Rattle.std.specs.Option.{is_none, option_map_or}
 use Rattle.romfs_format.specs.declared.limits.TheConstants.{MAX_XATTR_SIZE}
 use Rattle.romfs_format.specs.Extended.{Extended, is_acl_name, names_of, value_of}
 use Rattle.devices.specs.Sources.{Source}
@@ -13,7 +13,8 @@ use Rattle.fuse_wire.specs.Requests.{NodeOp, getxattr, listxattr}
 use Rattle.stack_model.specs.Listing.{Stacked}
 use Rattle.stack_model.specs.Numbers.{Place, node_of}
 use Rattle.stack_model.specs.Attributes.{xattrs_of}
-use Rattle.node_reader.specs.Readers.{xattrs_at}
+use Rattle.node_reader.specs.declared.node.Node.{Node}
+use Rattle.node_reader.specs.Readers.{TellsNode, xattrs_at}
 use Rattle.reply_model.specs.declared.session.Agreement.{Agreement}
 use Rattle.reply_model.specs.Xattrs.{xattrs_told, refused_size, sized_answer, refused_xattr, xattr_answer}
 use Rattle.reply_model.specs.Services.{serves_acls}
@@ -63,6 +64,16 @@ module _ {A : Type 0} (stack : Stacked) (agreed : Agreement) (n : ℕ) where
 
   abbrev attributes : Option Place → List Extended
   attributes o = option_map_or (xattrs_of stack) o []
+
+  -- the number is not in use, or it is
+  pub node_gone : (op : NodeOp) (found : Option (Bor Node)) → TellsNode stack n found → is_none found ≡ true
+      → DecidesAt {A = A} stack agreed n op (Err ESTALE)
+  node_gone op None t e = rw t refl
+  node_gone op (Some node) t e = absurd (cc)
+
+  pub node_there : (found : Option (Bor Node)) → TellsNode stack n found → is_none found ≡ false → node_of stack.entries n ≢ None
+  node_there None t e none = absurd (cc)
+  node_there (Some node) t e none = absurd (let is = t.place_is in cc)
 
   -- the node is there, and GETXATTR is refused
   value_refused : (size : ℕ) (name : List ℕ) (errno : Errno) → node_of stack.entries n ≢ None
