@@ -234,7 +234,7 @@ class Session:
 
     def xattr_data(self, node, size, name):
         """The value of the attribute with a name, or all names if there is none; with the size 0 how many bytes they are."""
-        enforced = self.said & POSIX_ACL != 0
+        enforced = self.has_acls and self.said & POSIX_ACL != 0
         items = [item for item in self.stack.xattrs(node) if enforced or item[0] not in ACL_NAMES]
         if name is None:
             data = b"".join(each + b"\0" for each, _ in items)

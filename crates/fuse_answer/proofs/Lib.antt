@@ -8,3 +8,5 @@ pub mod Decided
 pub mod Writing
 pub mod Moving
 pub mod Reading
+pub mod NamesSaid
+pub mod Valued

@@ -1,9 +1,9 @@
 -- The decision about a request: its answer's data and moves, or its refusal.
-use Rattle.std.specs.Prelude.{◌≡◌, ℕ, Bool, true, false, List, [], ◌∷◌, Option, Some, None, MatchOption, MatchResult, Result, Ok, Err, pos, ◌+◌, ◌<◌, ◌≤◌, take, drop, length, IsTrue}
+use Rattle.std.specs.Prelude.{◌≡◌, ℕ, Bool, true, false, List, [], ◌∷◌, Option, Some, None, MatchOption, MatchResult, Result, Ok, Err, pos, ◌+◌, ◌<◌, ◌≤◌, ◌==◌, nat_lt, take, drop, length, if◌then◌else◌}
 use Rattle.std.specs.List.{filter_map}
-use Rattle.std.specs.Option.{option_map, option_map_or}
+use Rattle.std.specs.Option.{option_map}
 use Rattle.fuse_wire.specs.declared.errno.Errno.{Errno}
-use Rattle.fuse_wire.specs.declared.errno.Errno.TheVariants.{ENOENT, ESTALE}
+use Rattle.fuse_wire.specs.declared.errno.Errno.TheVariants.{ENOENT, ERANGE, ESTALE}
 use Rattle.fuse_wire.specs.declared.forget.Forget.{Forget}
 use Rattle.fuse_wire.specs.Requests.{NodeOp, Asked}
 use Rattle.devices.specs.Sources.{Source}
@@ -27,10 +27,8 @@ use Rattle.reply_model.specs.Moves.{moved, gives_at, take_back}
 use Rattle.reply_model.specs.Readings.{Sourced, sourced, data_reading, reading_at, reading_in}
 use Rattle.fuse_answer.specs.declared.outcome.Answer.{Answer}
 use Rattle.fuse_answer.specs.declared.outcome.FilePart.{FilePart}
-use Rattle.fuse_answer.specs.declared.outcome.Names.{Names as NamesTold}
 use Rattle.romfs_format.specs.declared.limits.TheConstants.{MAX_XATTR_SIZE}
-use Rattle.romfs_format.specs.Extended.{is_list, names_of}
-use Rattle.reply_model.specs.Xattrs.{xattrs_told}
+use Rattle.fuse_answer.specs.Names.{names_said, AreAllowed}
 use Rattle.fuse_answer.specs.declared.outcome.Answer.TheVariants.{Done, Terms, Entry, NoEntry, Attributes, Opened, Target, Data, Size, Value, Names, Totals, Rows, Forgotten, AllForgotten}
 use Rattle.fuse_answer.specs.Listings.{listed_data, listed_moves, IsWhole}
 
@@ -41,14 +39,6 @@ node_data stack node offset len = take len (drop offset (data_of stack.layers (p
 -- the bytes of a part of a file
 abbrev pub part_data : Stacked → FilePart → List ℕ
 part_data stack part = node_data stack part.node.now part.offset part.len
-
--- the names that a client gets, each with its zero byte
-abbrev pub names_said : NamesTold → List ℕ
-names_said names = names_of (xattrs_told names.acls (option_map_or (λ xs. xs) names.list []))
-
--- they are those of a list that a file may have
-abbrev pub AreListed : NamesTold → Type 0
-AreListed names = IsTrue (is_list (option_map_or (λ xs. xs) names.list []))
 
 -- the data of an answer
 abbrev pub answer_data : {A : Type 0} → Stacked → Answer A → List ℕ
@@ -67,6 +57,11 @@ answer_data stack (Totals blocks nodes) = statfs_out blocks nodes
 answer_data stack (Rows listing) = listed_data stack listing
 answer_data stack (Forgotten forget) = []
 answer_data stack (AllForgotten items) = []
+
+-- bytes by the size of a request: with 0 how many they are, and otherwise these, unless they are more
+abbrev pub by_size : {A : Type 0} → ℕ → ℕ → Answer A → Result (Answer A) Errno
+by_size size len a =
+    if size == 0 then Ok (Size len) else if nat_lt size len then Err ERANGE else Ok a
 
 -- what they are read from
 abbrev pub answer_reading : {A : Type 0} → Sourced → Answer A → Option Reading
@@ -119,7 +114,7 @@ IsSized stack (Target node) = HoldsOwnData stack node.now
 IsSized stack (Data part) = IsInFile stack part
 IsSized stack (Rows listing) = IsWhole listing
 IsSized stack (Value value) = length value.now ≤ MAX_XATTR_SIZE
-IsSized stack (Names names) = AreListed names
+IsSized stack (Names names) = AreAllowed names
 IsSized stack _ = Unit {0}
 
 -- the answer to a request about the node at a place

@@ -1,5 +1,6 @@
 pub mod Answers
 pub mod Listings
+pub mod Names
 pub mod Puts
 pub mod Adding
 pub use Rattle.fuse_wire.specs.Reads

@@ -37,7 +37,7 @@ use Rattle.reply_model.specs.declared.session.Session.{Session}
 use Rattle.reply_model.specs.Sessions.{agreement_of}
 use Rattle.reply_model.specs.Lookups.{looked_up}
 use Rattle.reply_model.specs.Rows.{Row, dirent_of, direntplus_of, fitting}
-use Rattle.reply_model.specs.Services.{unless_link, is_too_large, refused_rows, opendir_flags, service}
+use Rattle.reply_model.specs.Services.{unless_link, is_too_large, refused_rows, opendir_flags, serves_acls, service}
 use Rattle.reply_model.specs.Refusals.{refused_by_op, refused_at, refusal}
 use Rattle.reply_model.specs.Replies.{is_silent, answer_at, answer, reply}
 use Rattle.fuse_wire.proofs.Sizes.{length-error_reply, length-reply_with, length-version, length-terms, length-entry_out, length-negative_entry_out, length-attr_out, length-open_out, length-statfs_out}
@@ -145,7 +145,7 @@ module _ (bs : List (List ℕ)) (stack : Stacked) (sound : All (IsSound Usual) b
   short_at x node (getxattr n name) p e r =
       let l = short_value n name (xattrs_of stack p) (listed.each p) in omega arith
   short_at x node (listxattr n) p e r =
-      let l = short_names n x.acls (xattrs_of stack p) (listed.each p) in omega arith
+      let l = short_names n (serves_acls stack x) (xattrs_of stack p) (listed.each p) in omega arith
 
   -- the answer to a request about a node
   short_node : (x : Agreement) (node : ℕ) (op : NodeOp) (o : Option Place) → node_of stack.entries node ≡ o

@@ -18,14 +18,14 @@ use Rattle.reply_model.specs.declared.session.Agreement.{Agreement}
 use Rattle.reply_model.specs.declared.session.Session.{Session}
 use Rattle.reply_model.specs.Sessions.{is_fresh, agreement_of}
 use Rattle.reply_model.specs.Xattrs.{refused_size, refused_xattr}
-use Rattle.reply_model.specs.Services.{refuse_if, names_told}
+use Rattle.reply_model.specs.Services.{refuse_if, serves_acls, names_told}
 use Rattle.reply_model.specs.Refusals.{first_refusal, asks_xattrs, is_init, refused_at, refused_by_op, refusal}
 use Rattle.reply_model.specs.Replies.{answer_at, answer, reply}
 use Rattle.reply_model.proofs.Refused.{both_none, node_found, not_by_op}
 use Rattle.reply_model.proofs.Xattrs.{sized_fits, value_fits}
 
 -- such a request is no INIT
-no_init : (op : Op) → asks_xattrs op ≡ true → is_init op ≡ false
+pub no_init : (op : Op) → asks_xattrs op ≡ true → is_init op ≡ false
 no_init (at_node (getxattr size name)) e = refl
 no_init (at_node (listxattr size)) e = refl
 no_init (malformed opcode) e = go (opcode == 22) (opcode == 23) refl refl e
@@ -45,13 +45,14 @@ size_else size bytes e = go (not (size == 0) && _) e
     go false f = cc
 
 -- and no name
-xattr_else : (acls : Bool) (size : ℕ) (name : List ℕ) (o : Option (List ℕ)) (b : Bool)
+xattr_else : (size : ℕ) (name : List ℕ) (o : Option (List ℕ)) (b : Bool)
     → cond b (Some EOPNOTSUPP) (option_map_or (refused_size size) o (Some ENODATA)) ≢ Some ENOSYS
-xattr_else acls size name o true e = cc
-xattr_else acls size name None false e = cc
-xattr_else acls size name (Some v) false e = size_else size v e
+xattr_else size name o true e = cc
+xattr_else size name None false e = cc
+xattr_else size name (Some v) false e = size_else size v e
 
-alone : (o : Option Errno) → first_refusal (o ∷ []) ≡ o
+-- one refusal is the first
+pub alone : (o : Option Errno) → first_refusal (o ∷ []) ≡ o
 alone None = refl
 alone (Some errno) = refl
 
@@ -63,7 +64,7 @@ module _ (stack : Stacked) where
       go : (o : Option Place) → option_map_or (refused_at stack x (getxattr size name)) o (Some ESTALE) ≢ Some ENOSYS
       go None g = cc
       go (Some p) g =
-          xattr_else x.acls size name (value_of name (xattrs_of stack p)) (is_acl_name name && not x.acls) (sym (alone _) ∙ g)
+          xattr_else size name (value_of name (xattrs_of stack p)) (is_acl_name name && not (serves_acls stack x)) (sym (alone _) ∙ g)
   else_served x node (at_node (listxattr size)) e f = go (node_of stack.entries node) f
     where
       go : (o : Option Place) → option_map_or (refused_at stack x (listxattr size)) o (Some ESTALE) ≢ Some ENOSYS
@@ -108,7 +109,7 @@ module _ (stack : Stacked) where
   pub value_within : (s : Session) (unique node size : ℕ) (name : List ℕ) → size ≢ 0
       → length (reply stack s (asking unique node (getxattr size name))) ≤ OUT_HEADER_SIZE + size
   value_within s unique node size name n = within s unique node size (getxattr size name)
-      (λ p r. value_fits (agreement_of s).acls size name (xattrs_of stack p) n (sym (alone _) ∙ r))
+      (λ p r. value_fits (serves_acls stack (agreement_of s)) size name (xattrs_of stack p) n (sym (alone _) ∙ r))
 
   -- names
   pub names_within : (s : Session) (unique node size : ℕ) → size ≢ 0

@@ -34,7 +34,7 @@ short_value n name xs e = go (value_of name xs) refl
     go (Some v) is = sized_short n v (values_short name xs e v is)
 
 -- fewer names are no longer
-told_no_longer : (acls : Bool) (xs : List Extended) → length (names_of (xattrs_told acls xs)) ≤ length (names_of xs)
+pub told_no_longer : (acls : Bool) (xs : List Extended) → length (names_of (xattrs_told acls xs)) ≤ length (names_of xs)
 told_no_longer true xs = omega arith
 told_no_longer false [] = omega arith
 told_no_longer false (x ∷ xs) = go (is_acl_name x.name) (told_no_longer false xs)

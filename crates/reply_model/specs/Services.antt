@@ -13,7 +13,7 @@ use Rattle.fuse_wire.specs.Structures.{entry_out, negative_entry_out, attr_out, 
 use Rattle.stack_model.specs.Listing.{Stacked}
 use Rattle.stack_model.specs.Numbers.{Place, number}
 use Rattle.romfs_format.specs.Extended.{Extended, names_of}
-use Rattle.stack_model.specs.Attributes.{is_directory, data_of, attr_of, xattrs_of}
+use Rattle.stack_model.specs.Attributes.{is_directory, data_of, attr_of, xattrs_of, has_acls}
 use Rattle.reply_model.specs.declared.moves.Move.{Move}
 use Rattle.reply_model.specs.declared.session.Agreement.{Agreement}
 use Rattle.reply_model.specs.Lookups.{is_itself, looked_up}
@@ -82,9 +82,13 @@ module _ (stack : Stacked) where
         by_arguments = λ p. refused_rows form size (rows_after stack.entries p offset);
       }
 
+  -- access control lists are served: the client enforces them, and some node has one
+  abbrev pub serves_acls : Agreement → Bool
+  serves_acls agreed = agreed.acls && has_acls stack
+
   -- the names of the extended attributes at a place that a client gets, each with a zero byte
   abbrev pub names_told : Agreement → Place → List ℕ
-  names_told agreed p = names_of (xattrs_told agreed.acls (xattrs_of stack p))
+  names_told agreed p = names_of (xattrs_told (serves_acls agreed) (xattrs_of stack p))
 
   -- each of them. With EXPORT_SUPPORT the name . finds a node of any kind; an access mode other
   -- than 0 is not O_RDONLY; READDIRPLUS gives the nodes of its rows but . and ... Lastingly a
@@ -125,7 +129,7 @@ module _ (stack : Stacked) where
       }
   service agreed (getxattr size name) =
       record (tells of_any_kind (λ p. xattr_answer size name (xattrs_of stack p))) {
-        by_arguments = λ p. refused_xattr agreed.acls size name (xattrs_of stack p);
+        by_arguments = λ p. refused_xattr (serves_acls agreed) size name (xattrs_of stack p);
       }
   service agreed (listxattr size) =
       record (tells of_any_kind (λ p. sized_answer size (names_told agreed p))) {

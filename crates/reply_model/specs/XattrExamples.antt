@@ -86,7 +86,7 @@ pub record ListxattrExamples : Type 0 where
   pub of_no_node : over_user (list 7 0) ≡ refused 2 0xffffff8c
   pub short : over_user (request 23 2 2 (zeros 7)) ≡ refused 2 0xffffffea
 
--- access control lists are for clients that enforce them
+-- access control lists are for clients that enforce them, if any node has one
 pub record AclReplyExamples : Type 0 where
   pub value : over_acl true (get 4 44 access_name) ≡ headed 2 60 ++ named_acl
   pub names : over_acl true (list 4 100)
@@ -97,6 +97,9 @@ pub record AclReplyExamples : Type 0 where
   pub other_names : over_acl false (list 4 7) ≡ headed 2 23 ++ codes "user.z" ++ zeros 1
   pub other_value : over_acl false (get 4 1 (codes "user.z")) ≡ headed 2 17 ++ codes "9"
   pub without_any : over_user (get 2 0 access_name) ≡ refused 2 0xffffffa1
+  pub without_any_enforced :
+      reply (xattr_stack []) (Ready false true) (asked (get 2 0 access_name))
+      ≡ refused 2 0xffffffa1
   pub terms : take 4 (drop 28 (reply (xattr_stack acl_and_user) Fresh
       (asked (request 26 1 0 (init_in 7 31 0 0x106001))))) ≡ u32 0x106001
   pub not_offered : take 4 (drop 28 (reply (xattr_stack acl_and_user) Fresh

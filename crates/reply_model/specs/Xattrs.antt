@@ -7,7 +7,7 @@ use Rattle.fuse_wire.specs.declared.errno.Errno.{Errno}
 use Rattle.fuse_wire.specs.declared.errno.Errno.TheVariants.{ERANGE, ENODATA, EOPNOTSUPP}
 use Rattle.fuse_wire.specs.Structures.{getxattr_out}
 
--- those that a client gets: access control lists only if it enforces them
+-- those that a client gets: access control lists only if they are served
 abbrev pub xattrs_told : Bool → List Extended → List Extended
 xattrs_told acls xs = if acls then xs else filter (λ x. not (is_acl_name x.name)) xs
 
@@ -20,8 +20,8 @@ refused_size size bytes =
 abbrev pub sized_answer : ℕ → List ℕ → List ℕ
 sized_answer size bytes = if size == 0 then getxattr_out (length bytes) else bytes
 
--- what refuses a GETXATTR of this name: an access control list is not served to a client that does
--- not enforce it; there is none of this name; or its value is too long
+-- what refuses a GETXATTR of this name: access control lists are not served; there is none of this
+-- name; or its value is too long
 abbrev pub refused_xattr : Bool → ℕ → List ℕ → List Extended → Option Errno
 refused_xattr acls size name xs =
     if is_acl_name name && not acls then Some EOPNOTSUPP

@@ -4,7 +4,7 @@ use Rattle.std.specs.Prelude.{filter, is_some}
 use Rattle.std.specs.List.{cons_option, filter_map}
 use Rattle.std.specs.Option.{option_map_or, option_to_list}
 use Rattle.fuse_wire.specs.declared.forget.Forget.{Forget}
-use Rattle.fuse_wire.specs.Requests.{Op, Asked, at_node, lookup, getattr, readlink, open_file, read, opendir, readdir, readdirplus, silent, forget, batch_forget, interrupt, init, statfs, done, modify, other, malformed}
+use Rattle.fuse_wire.specs.Requests.{Op, Asked, at_node, lookup, getattr, readlink, open_file, read, opendir, readdir, readdirplus, getxattr, listxattr, silent, forget, batch_forget, interrupt, init, statfs, done, modify, other, malformed}
 use Rattle.stack_model.specs.Listing.{Stacked}
 use Rattle.stack_model.specs.Numbers.{Place, node_of}
 use Rattle.reply_model.specs.declared.moves.Move.{Move}
@@ -66,6 +66,8 @@ module _ (stack : Stacked) (agreed : Agreement) (node : ℕ) where
   few_moved (at_node (read offset size)) h = none_moved (node_of stack.entries node)
   few_moved (at_node opendir) h = none_moved (node_of stack.entries node)
   few_moved (at_node (readdir offset size)) h = none_moved (node_of stack.entries node)
+  few_moved (at_node (getxattr size name)) h = none_moved (node_of stack.entries node)
+  few_moved (at_node (listxattr size)) h = none_moved (node_of stack.entries node)
   few_moved (silent (forget nlookup)) h = let one : Forget = record { node = node; nlookup = nlookup } in let f =
       few_kept (take_back stack) (one ∷ []) in omega arith
   few_moved (silent (batch_forget items)) h = let f = few_kept (take_back stack) items in omega arith

@@ -15,7 +15,7 @@ use fuse_wire::limits::{MAX_DATA_SIZE, OUT_HEADER_SIZE};
 use fuse_wire::{Framed, Op, Request, frame};
 use node_reader::Table;
 use romfs_format::Kind;
-use romfs_format::limits::MAX_TARGET_SIZE;
+use romfs_format::limits::{MAX_TARGET_SIZE, MAX_XATTR_SIZE};
 use serve_loop::limits::MAX_ROUND_MESSAGES;
 use std::alloc::Allocator;
 
@@ -103,6 +103,7 @@ fn expected<A: Allocator>(table: &Table<A>, request: &Request<'_>) -> Load {
             rows_load(left(rows(table, request.node), offset), size, true)
         }
         Op::Read { .. } | Op::Readdir { .. } | Op::Readdirplus { .. } => SHORT,
+        Op::Getxattr { size, .. } | Op::Listxattr { size } => xattr_load(size),
         Op::Init { .. } | Op::Destroy | Op::Interrupt => SHORT,
         Op::Lookup { .. } | Op::Forget { .. } | Op::BatchForget { .. } => SHORT,
         Op::Getattr | Op::Readlink | Op::Statfs => SHORT,
@@ -135,6 +136,14 @@ fn rows_load(left: u64, size: u32, with_entries: bool) -> Load {
     Load {
         time: REPLY_TIME + time,
         room: OUT_HEADER_SIZE as u64 + size.min(most),
+    }
+}
+
+// For the value of an extended attribute, or their names, which are mostly few bytes.
+fn xattr_load(size: u32) -> Load {
+    Load {
+        time: REPLY_TIME,
+        room: SHORT_REPLY + u64::from(size).min(MAX_XATTR_SIZE as u64),
     }
 }
 

@@ -25,7 +25,7 @@ use Rattle.serve_core.proofs.Layers.{LookSame, look_back, listing_goes, entry_pa
 use Rattle.serve_core.proofs.Moving.{moves_same}
 use Rattle.serve_core.proofs.Nodes.{IsNode}
 use Rattle.serve_core.proofs.Places.{IsSamePlace, place_same, blocks_same}
-use Rattle.serve_core.proofs.Stacking.{look_all, rows_all}
+use Rattle.serve_core.proofs.Stacking.{look_all, rows_all, lists_all}
 use Rattle.serve_core.proofs.Telling.{HasFront, told_of, told_back, right_of, others_of, front_of}
 
 some_of : (o : Option (List ℕ)) (y : List ℕ) → option_map image o ≡ Some y → (b : List ℕ) × (o ≡ Some b)
@@ -50,11 +50,14 @@ module _ (images : List (List ℕ)) (a b : Stacked) (k : AreStacksOf images a b)
   rows_are : a.rows ≡ b.rows
   rows_are = k.of_kept.rows_are ∙ rows_all k.profile images kept k.kept_are k.of_images.layers.sound ∙ sym k.of_images.rows_are
 
+  lists_are : a.lists ≡ b.lists
+  lists_are = k.of_kept.lists_are ∙ lists_all k.profile images kept k.kept_are k.of_images.layers.sound ∙ sym k.of_images.lists_are
+
   abbrev kept_stack : Stacked
-  kept_stack = record { layers = map image kept; entries = b.entries; rows = b.rows; owner = b.owner; whole = a.whole }
+  kept_stack = record { layers = map image kept; entries = b.entries; rows = b.rows; lists = b.lists; owner = b.owner; whole = a.whole }
 
   abbrev whole_stack : Stacked
-  whole_stack = record { layers = map image images; entries = b.entries; rows = b.rows; owner = b.owner; whole = b.whole }
+  whole_stack = record { layers = map image images; entries = b.entries; rows = b.rows; lists = b.lists; owner = b.owner; whole = b.whole }
 
   a_is : a ≡ kept_stack
   a_is =
@@ -62,7 +65,8 @@ module _ (images : List (List ℕ)) (a b : Stacked) (k : AreStacksOf images a b)
       one
       ∙ ap (λ es. record a { layers = map image kept; entries = es }) entries_are
       ∙ ap (λ rs. record a { layers = map image kept; entries = b.entries; rows = rs }) rows_are
-      ∙ ap (λ o. record a { layers = map image kept; entries = b.entries; rows = b.rows; owner = o })
+      ∙ ap (λ ls. record a { layers = map image kept; entries = b.entries; rows = b.rows; lists = ls }) lists_are
+      ∙ ap (λ o. record a { layers = map image kept; entries = b.entries; rows = b.rows; lists = b.lists; owner = o })
       (k.of_kept.owner_is ∙ sym k.of_images.owner_is)
 
   b_is : b ≡ whole_stack
@@ -82,7 +86,7 @@ module _ (images : List (List ℕ)) (a b : Stacked) (k : AreStacksOf images a b)
   pub told_same : (sources : List Source) → AreHeldBy sources images → (s : Session) (q : Asked) (bytes : List ℕ)
       → IsReplyOver (sourced a sources) s q bytes → bytes ≡ reply b s q
   told_same sources kept s q bytes t =
-      told_of (map image k.kept) images b.entries b.rows b.owner a.whole b.whole same there
+      told_of (map image k.kept) images b.entries b.rows b.lists b.owner a.whole b.whole same there
       (blocks_same (map image k.kept) (map image images) looks) s q.unique q.node bytes sources kept q.op
       (subst (λ st. IsReplyOver (sourced st sources) s q bytes) a_is t)
       ∙ sym (ap (λ st. reply st s q) b_is)
@@ -95,20 +99,20 @@ module _ (images : List (List ℕ)) (a b : Stacked) (k : AreStacksOf images a b)
   told_right sources shown s q bytes t =
       subst (λ st. IsRightOver (sourced st sources) (reply b s q) q bytes) (sym a_is)
       (subst (λ d. IsRightOver (sourced kept_stack sources) d q bytes) (sym (ap (λ st. reply st s q) b_is))
-      (right_of (map image kept) images b.entries b.rows b.owner a.whole b.whole same there
+      (right_of (map image kept) images b.entries b.rows b.lists b.owner a.whole b.whole same there
       (blocks_same (map image kept) (map image images) looks) s q.unique q.node bytes sources shown q.op
       (subst (λ st. IsReplyOver (sourced st sources) s q bytes) a_is t)))
 
   pub told_too : (s : Session) (q : Asked) (bytes : List ℕ) → bytes ≡ reply b s q → IsReplyOver (sourced a (map held images)) s q bytes
   told_too s q bytes t =
       subst (λ st. IsReplyOver (sourced st (map held images)) s q bytes) (sym a_is)
-      (told_back (map image kept) images b.entries b.rows b.owner a.whole b.whole same there
+      (told_back (map image kept) images b.entries b.rows b.lists b.owner a.whole b.whole same there
       (blocks_same (map image kept) (map image images) looks) s q.unique q.node bytes q.op (t ∙ ap (λ st. reply st s q) b_is))
 
   pub moved_alike : (s : Session) (q : Asked) → moves a s q ≡ moves b s q
   moved_alike s q =
       ap (λ st. moves st s q) a_is
-      ∙ moves_same (map image kept) (map image images) b.entries b.rows b.owner a.whole b.whole same s q
+      ∙ moves_same (map image kept) (map image images) b.entries b.rows b.lists b.owner a.whole b.whole same s q
       ∙ sym (ap (λ st. moves st s q) b_is)
 
   pub entries_alike : a.entries ≡ b.entries
@@ -120,12 +124,12 @@ module _ (images : List (List ℕ)) (a b : Stacked) (k : AreStacksOf images a b)
 
     pub told_others : ((offset size : ℕ) → q.op ≢ at_node (read offset size)) → bytes ≡ reply b s q
     told_others n =
-        others_of (map image kept) images b.entries b.rows b.owner a.whole b.whole same there
+        others_of (map image kept) images b.entries b.rows b.lists b.owner a.whole b.whole same there
         (blocks_same (map image kept) (map image images) looks) s q.unique q.node bytes sources q.op n over_kept
         ∙ sym (ap (λ st. reply st s q) b_is)
 
     pub told_front : HasFront (reply b s q) bytes ⊎ (bytes ≡ error_reply q.unique EIO)
     told_front =
         subst (λ st. HasFront (reply st s q) bytes ⊎ (bytes ≡ error_reply q.unique EIO)) (sym b_is)
-        (front_of (map image kept) images b.entries b.rows b.owner a.whole b.whole same there
+        (front_of (map image kept) images b.entries b.rows b.lists b.owner a.whole b.whole same there
         (blocks_same (map image kept) (map image images) looks) s q.unique q.node bytes sources q.op over_kept)

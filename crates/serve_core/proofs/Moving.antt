@@ -4,7 +4,8 @@ use Rattle.std.specs.Prelude.{is_some, filter}
 use Rattle.std.specs.Option.{option_map_or}
 use Rattle.stack_model.specs.declared.owner.Owner.{Owner}
 use Rattle.romfs_format.specs.declared.attribute_row.AttributeRow.{AttributeRow}
-use Rattle.fuse_wire.specs.Requests.{Asked, NodeOp, Op, lookup, getattr, readlink, open_file, read, opendir, readdir, readdirplus, at_node, init, statfs, done, silent, modify, other, malformed}
+use Rattle.romfs_format.specs.Extended.{Extended}
+use Rattle.fuse_wire.specs.Requests.{Asked, NodeOp, Op, lookup, getattr, readlink, open_file, read, opendir, readdir, readdirplus, getxattr, listxattr, at_node, init, statfs, done, silent, modify, other, malformed}
 use Rattle.stack_model.specs.Listing.{Entry, Stacked}
 use Rattle.stack_model.specs.Numbers.{Place, node_of}
 use Rattle.reply_model.specs.declared.session.Agreement.{Agreement}
@@ -19,13 +20,13 @@ use Rattle.serve_core.proofs.Nodes.{IsNode, used_node}
 use Rattle.serve_core.proofs.Rows.{direntpluses, fitting_forms}
 use Rattle.serve_core.proofs.Replied.{refusal_same}
 
-module _ (la lb : List (List ℕ)) (es : List Entry) (rs : List (List AttributeRow)) (owner : Owner) (wa wb : Bool)
+module _ (la lb : List (List ℕ)) (es : List Entry) (rs : List (List AttributeRow)) (ls : List (List (List Extended))) (owner : Owner) (wa wb : Bool)
     (same : (p : Place) → IsNode es p → IsSamePlace la lb p) where
   abbrev a : Stacked
-  a = record { layers = la; entries = es; rows = rs; owner = owner; whole = wa }
+  a = record { layers = la; entries = es; rows = rs; lists = ls; owner = owner; whole = wa }
 
   abbrev b : Stacked
-  b = record { layers = lb; entries = es; rows = rs; owner = owner; whole = wb }
+  b = record { layers = lb; entries = es; rows = rs; lists = ls; owner = owner; whole = wb }
 
   gives_same : (agreed : Agreement) (op : NodeOp) (p : Place) → IsNode es p → gives_at a agreed op p ≡ gives_at b agreed op p
   gives_same agreed (lookup name) p n = refl
@@ -35,10 +36,12 @@ module _ (la lb : List (List ℕ)) (es : List Entry) (rs : List (List AttributeR
   gives_same agreed (read offset size) p n = refl
   gives_same agreed opendir p n = refl
   gives_same agreed (readdir offset size) p n = refl
+  gives_same agreed (getxattr size name) p n = refl
+  gives_same agreed (listxattr size) p n = refl
   gives_same agreed (readdirplus offset size) p n =
       ap (λ xs. map (λ r. give a r.1.place) (filter is_child xs))
       (fitting_forms (direntplus_of a) (direntplus_of b) size (rows_after es p offset)
-      (direntpluses la lb es rs owner wa wb same p offset n))
+      (direntpluses la lb es rs ls owner wa wb same p offset n))
 
   given_same : (agreed : Agreement) (op : NodeOp) (o : Option Place) → ((p : Place) → o ≡ Some p → IsNode es p)
       → option_map_or (gives_at a agreed op) o [] ≡ option_map_or (gives_at b agreed op) o []
@@ -57,5 +60,5 @@ module _ (la lb : List (List ℕ)) (es : List Entry) (rs : List (List AttributeR
 
   pub moves_same : (s : Session) (q : Asked) → moves a s q ≡ moves b s q
   moves_same s q =
-      ap (λ o. if is_some o then [] else moved a (agreement_of s) q.node q.op) (refusal_same la lb es rs owner wa wb same s q.node q.op)
+      ap (λ o. if is_some o then [] else moved a (agreement_of s) q.node q.op) (refusal_same la lb es rs ls owner wa wb same s q.node q.op)
       ∙ ap (λ ms. if is_some (refusal b s q.node q.op) then [] else ms) (moved_same (agreement_of s) q.node q.op)

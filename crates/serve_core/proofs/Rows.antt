@@ -8,6 +8,7 @@ use Rattle.std.proofs.lemmas.List.Sums.{sum_by-cons}
 use Rattle.stack_model.specs.declared.owner.Owner.{Owner}
 use Rattle.stack_model.specs.declared.attr.Attr.{Attr}
 use Rattle.romfs_format.specs.declared.attribute_row.AttributeRow.{AttributeRow}
+use Rattle.romfs_format.specs.Extended.{Extended}
 use Rattle.fuse_wire.specs.Structures.{dirent, direntplus}
 use Rattle.stack_model.specs.Listing.{Entry, Stacked}
 use Rattle.stack_model.specs.Numbers.{Place, Child, place, same_place, number, children}
@@ -62,13 +63,13 @@ attr_by ino row owner size mode links dev = record {
   rdev = dev;
 }
 
-module _ (la lb : List (List ℕ)) (es : List Entry) (rs : List (List AttributeRow)) (owner : Owner) (wa wb : Bool)
+module _ (la lb : List (List ℕ)) (es : List Entry) (rs : List (List AttributeRow)) (ls : List (List (List Extended))) (owner : Owner) (wa wb : Bool)
     (same : (p : Place) → IsNode es p → IsSamePlace la lb p) where
   abbrev A : Stacked
-  A = record { layers = la; entries = es; rows = rs; owner = owner; whole = wa }
+  A = record { layers = la; entries = es; rows = rs; lists = ls; owner = owner; whole = wa }
 
   abbrev B : Stacked
-  B = record { layers = lb; entries = es; rows = rs; owner = owner; whole = wb }
+  B = record { layers = lb; entries = es; rows = rs; lists = ls; owner = owner; whole = wb }
 
   directory_same : (p : Place) → IsNode es p → is_directory_at la p ≡ is_directory_at lb p
   directory_same p n = ap (λ k. is_directory k) ((same p n).kinds)

@@ -1,4 +1,4 @@
--- What was gathered from images can be stacked where they can, and then has the same listing and rows (stacked_forth, stacked_back); and
+-- What was gathered from images can be stacked where they can, and then has the same listing, rows and lists (stacked_forth, stacked_back); and
 -- both stacks look the same, layer by layer (look_all).
 use Rattle.std.proofs.Common.{◌≡◌, ◌∙◌, sym, ap, subst, ℕ, suc, inl, inr, List, [], ◌∷◌, length, map, refl, arith}
 use Rattle.std.specs.Prelude.{All}
@@ -6,8 +6,8 @@ use Rattle.stack_model.specs.declared.owner.Owner.{Owner}
 use Rattle.romfs_format.specs.declared.rule.Profile.{Profile}
 use Rattle.romfs_format.specs.Fields.{image}
 use Rattle.romfs_format.specs.Rules.{IsSound}
-use Rattle.romfs_format.specs.Trailer.{rows_shown}
-use Rattle.romfs_kept.proofs.WithTrailer.{same_rows_shown}
+use Rattle.romfs_format.specs.Trailer.{rows_shown, lists_shown}
+use Rattle.romfs_kept.proofs.WithTrailer.{same_rows_shown, same_lists_shown}
 use Rattle.stack_model.specs.Listing.{Stacked, IsListing}
 use Rattle.stack_prepare.specs.Layers.{IsFew}
 use Rattle.stack_prepare.specs.Preparing.{AreStacked}
@@ -20,6 +20,11 @@ rows_alike : (profile : Profile) (b a : List ℕ) → WasGatheredFor profile b a
     → rows_shown profile a ≡ rows_shown profile b
 rows_alike profile b a (inl g) s = same_rows_shown b a g profile s
 rows_alike profile b a (inr g) s = rw g.0 refl
+
+lists_alike : (profile : Profile) (b a : List ℕ) → WasGatheredFor profile b a → IsSound profile b
+    → lists_shown profile a ≡ lists_shown profile b
+lists_alike profile b a (inl g) s = same_lists_shown b a g profile s
+lists_alike profile b a (inr g) s = rw g.0 refl
 
 module _ (profile : Profile) where
   pub look_all : (bs xs : List (List ℕ)) → WereGatheredFor profile bs xs → All (IsSound profile) bs → LookSame (map image bs) (map image xs)
@@ -38,6 +43,15 @@ module _ (profile : Profile) where
   rows_all [] (a ∷ xs) f s = absurd f
   rows_all (b ∷ bs) [] f s = absurd f
 
+  pub lists_all : (bs xs : List (List ℕ)) → WereGatheredFor profile bs xs → All (IsSound profile) bs
+      → map (lists_shown profile) xs ≡ map (lists_shown profile) bs
+  lists_all [] [] f s = refl
+  lists_all (b ∷ bs) (a ∷ xs) f s =
+      ap (λ r. r ∷ map (lists_shown profile) xs) (lists_alike profile b a f.0 (s 0 [] (omega arith)))
+      ∙ ap (λ ls. lists_shown profile b ∷ ls) (lists_all bs xs f.1 (λ k d l. s (suc k) d (omega arith)))
+  lists_all [] (a ∷ xs) f s = absurd f
+  lists_all (b ∷ bs) [] f s = absurd f
+
 module _ (profile : Profile) (images kept : List (List ℕ)) (g : WereGatheredFor profile images kept) where
   many : length images ≡ length kept
   many = counts profile images kept g
@@ -50,6 +64,7 @@ module _ (profile : Profile) (images kept : List (List ℕ)) (g : WereGatheredFo
         record {
           layers = record { few = subst (λ n. IsFew n) (sym many) s.layers.few; sound = sound; are = refl };
           rows_are = s.rows_are ∙ rows_all profile images kept g sound;
+          lists_are = s.lists_are ∙ lists_all profile images kept g sound;
           owner_is = s.owner_is;
           listing = listing_goes (map image kept) (map image images) (look_back (map image images) (map image kept) looks) stack.entries
               (subst (λ ls. IsListing ls stack.entries) s.layers.are s.listing);
@@ -66,6 +81,7 @@ module _ (profile : Profile) (images kept : List (List ℕ)) (g : WereGatheredFo
             are = refl;
           };
           rows_are = s.rows_are ∙ sym (rows_all profile images kept g sound);
+          lists_are = s.lists_are ∙ sym (lists_all profile images kept g sound);
           owner_is = s.owner_is;
           listing = listing_goes (map image images) (map image kept) looks stack.entries
               (subst (λ ls. IsListing ls stack.entries) s.layers.are s.listing);

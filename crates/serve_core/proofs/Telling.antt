@@ -10,6 +10,7 @@ use Rattle.devices.specs.Sources.{Source, held, MayLack, MayGive, Shows}
 use Rattle.devices.proofs.Held.{held_may}
 use Rattle.stack_model.specs.declared.owner.Owner.{Owner}
 use Rattle.romfs_format.specs.declared.attribute_row.AttributeRow.{AttributeRow}
+use Rattle.romfs_format.specs.Extended.{Extended}
 use Rattle.romfs_format.specs.Fields.{image, word}
 use Rattle.fuse_wire.specs.declared.limits.TheConstants.{OUT_HEADER_SIZE}
 use Rattle.fuse_wire.specs.declared.errno.Errno.{Errno}
@@ -24,11 +25,12 @@ use Rattle.stack_model.specs.Numbers.{Place, node_of, nodes}
 use Rattle.stack_model.specs.Attributes.{layer_of, size_at, data_start, data_of, blocks_all}
 use Rattle.reply_model.specs.declared.session.Session.{Session}
 use Rattle.reply_model.specs.Sessions.{agreement_of}
-use Rattle.reply_model.specs.Refusals.{first_refusal, refusal}
+use Rattle.reply_model.specs.Refusals.{refusal}
 use Rattle.reply_model.specs.Replies.{answer, answer_at, reply, is_silent}
 use Rattle.reply_model.specs.Holding.{Holds, AreHeldBy}
 use Rattle.reply_model.specs.Readings.{Sourced, sourced, reading_at, reading_in, AreShown, IsReplyOver, IsRightOver}
 use Rattle.reply_model.proofs.HeldData.{AreFrom, reading_is, right_from, same_from, window, stands, data_there, data_behind, none_behind}
+use Rattle.reply_model.proofs.Refused.{not_by_op}
 use Rattle.serve_core.proofs.Places.{IsSamePlace}
 use Rattle.serve_core.proofs.Nodes.{IsNode, used_node}
 use Rattle.serve_core.proofs.Replied.{refusal_same, node_answer_same}
@@ -117,12 +119,7 @@ replied_front unique None xs ys e = record {
   head = head_before unique xs ∙ ap (reply_head unique) e ∙ sym (head_before unique ys);
 }
 
-second_none : (x y : Option Errno) → first_refusal (x ∷ y ∷ []) ≡ None → y ≡ None
-second_none None None i = refl
-second_none None (Some e) i = absurd (cc)
-second_none (Some e) y i = absurd (cc)
-
-module _ (la bs : List (List ℕ)) (es : List Entry) (rs : List (List AttributeRow)) (owner : Owner) (wa wb : Bool)
+module _ (la bs : List (List ℕ)) (es : List Entry) (rs : List (List AttributeRow)) (ls : List (List (List Extended))) (owner : Owner) (wa wb : Bool)
     (same : (p : Place) → IsNode es p → IsSamePlace la (map image bs) p)
     (there : (p : Place) → IsNode es p → (b : List ℕ) × (slice_get bs p.0 ≡ Some b))
     (blocks : blocks_all la ≡ blocks_all (map image bs)) (s : Session) (unique node : ℕ) (bytes : List ℕ) where
@@ -130,10 +127,10 @@ module _ (la bs : List (List ℕ)) (es : List Entry) (rs : List (List AttributeR
   lb = map image bs
 
   abbrev a : Stacked
-  a = record { layers = la; entries = es; rows = rs; owner = owner; whole = wa }
+  a = record { layers = la; entries = es; rows = rs; lists = ls; owner = owner; whole = wa }
 
   abbrev b : Stacked
-  b = record { layers = lb; entries = es; rows = rs; owner = owner; whole = wb }
+  b = record { layers = lb; entries = es; rows = rs; lists = ls; owner = owner; whole = wb }
 
   abbrev by : List Source → Sourced
   by sources = sourced a sources
@@ -149,7 +146,7 @@ module _ (la bs : List (List ℕ)) (es : List Entry) (rs : List (List AttributeR
       ≡ (if is_silent op then [] else option_map_or (error_reply unique) (refusal b s node op) (reply_with unique (answered a op)))
   by_refusal op =
       ap (λ o. if is_silent op then [] else option_map_or (error_reply unique) o (reply_with unique (answered a op)))
-      (refusal_same la lb es rs owner wa wb same s node op)
+      (refusal_same la lb es rs ls owner wa wb same s node op)
 
   by_answer : (op : Op) (o : Option Errno) → (o ≡ None → answered a op ≡ answered b op)
       → option_map_or (error_reply unique) o (reply_with unique (answered a op))
@@ -210,8 +207,8 @@ module _ (la bs : List (List ℕ)) (es : List Entry) (rs : List (List AttributeR
   node_kind (read offset size) (Some p) e = inr (offset, size, p, refl, e)
   node_kind op (Some p) e = inl (
     (λ sources. ap (λ (o : Option Place). option_and_then (reading_at (by sources) op) o) e),
-    defined_same (at_node op) (λ i. node_answer_same la lb es rs owner wa wb same (agreement_of s) op (node_of es node)
-        (λ p j. used_node es node p j) tt (second_none _ _ i)),
+    defined_same (at_node op) (λ i. node_answer_same la lb es rs ls owner wa wb same (agreement_of s) op (node_of es node)
+        (λ p j. used_node es node p j) tt (not_by_op b s node (at_node op) i)),
   )
 
   kind_of : (op : Op) → IsPlain op ⊎ IsReadOf op

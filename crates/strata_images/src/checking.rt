@@ -125,7 +125,7 @@ fn checked_size<F: FileExt + Drop, A: Allocator + Copy>(
     ensures err { IfErr result (λ fault. IsImageFault profile number (loaded_bytes loaded) fault) }
 {
     match check_held(alloc, loaded.held, profile) {
-        Ok((image, _rows)) => Ok(image.full()),
+        Ok((image, _rows, _lists)) => Ok(image.full()),
         Err(CheckFault::Broken(fault)) => Err(ImagesFault::Broken {
             image: number,
             fault,

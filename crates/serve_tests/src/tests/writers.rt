@@ -4,7 +4,7 @@
 use fuse_wire::{
     Attr, Dirent, Errno, InitOut, Replies, put_attr, put_data, put_data_head, put_dirent,
     put_direntplus, put_entry, put_error, put_head, put_init, put_negative_entry, put_open,
-    put_statfs,
+    put_statfs, put_xattr_size,
 };
 use std::alloc::{AllocError, Allocator, Global};
 use test_kit::refusing::Refusing;
@@ -24,6 +24,7 @@ const NODE: Attr = Attr {
 
 const OLDER: InitOut = InitOut::Terms {
     lasting: false,
+    acls: false,
     minor: 22,
     max_readahead: 131_072,
     flags: 1,
@@ -40,6 +41,7 @@ fn put_reply<A: Allocator>(writer: u8, out: &mut Replies<A>) -> Result<(), Alloc
         6 => put_attr(out, 1, &NODE),
         7 => put_open(out, 1, 0),
         8 => put_statfs(out, 1, 11, 6),
+        9 => put_xattr_size(out, 1, 3),
         _ => put_negative_entry(out, 1),
     }
 }
@@ -52,15 +54,15 @@ fn put_row<A: Allocator>(writer: u8, out: &mut Replies<A>) -> Result<(), AllocEr
         name: b"big",
     };
     match writer {
-        10 => put_data_head(out, 1, 32),
-        11 => put_dirent(out, &row),
-        12 => put_direntplus(out, None, &row),
+        11 => put_data_head(out, 1, 32),
+        12 => put_dirent(out, &row),
+        13 => put_direntplus(out, None, &row),
         _ => put_direntplus(out, Some(&NODE), &row),
     }
 }
 
 fn put_one<A: Allocator>(writer: u8, out: &mut Replies<A>) -> Result<(), AllocError> {
-    if writer < 10 {
+    if writer < 11 {
         put_reply(writer, out)
     } else {
         put_row(writer, out)
@@ -92,11 +94,12 @@ fn a_refused_writer_appends_nothing(rt: HostRuntime) {
         (6, 124),
         (7, 36),
         (8, 100),
-        (9, 148),
-        (10, 20),
-        (11, 36),
-        (12, 164),
+        (9, 28),
+        (10, 148),
+        (11, 20),
+        (12, 36),
         (13, 164),
+        (14, 164),
     ] {
         let memory = Refusing::new(rt.alloc(), 2);
         assert!(rt;

@@ -1,7 +1,7 @@
 use Rattle.std.proofs.Common.{◌≡◌, ℕ, refl}
 use Rattle.fuse_wire.specs.declared.forget.Forgets.{Forgets}
 use Rattle.fuse_wire.specs.declared.request.Op.{Op}
-use Rattle.fuse_wire.specs.declared.request.Op.TheVariants.{Init, Lookup, Forget, Getattr, Readlink, Open, Read, Statfs, Release, Fsync, Flush, Opendir, Readdir, Releasedir, Fsyncdir, Interrupt, Destroy, BatchForget, Readdirplus, Modify, Other, Malformed}
+use Rattle.fuse_wire.specs.declared.request.Op.TheVariants.{Init, Lookup, Forget, Getattr, Readlink, Open, Read, Statfs, Release, Fsync, Flush, Opendir, Readdir, Releasedir, Fsyncdir, Interrupt, Destroy, BatchForget, Readdirplus, Getxattr, Listxattr, Modify, Other, Malformed}
 use Rattle.fuse_wire.specs.Reads.{op_said}
 use Rattle.reply_rounds.specs.Jobs.{HasFewItems}
 use Rattle.reply_pool.proofs.jobs.few_items_of.Goals as goal
@@ -28,6 +28,8 @@ others Interrupt no_items no_rows = tt
 others Destroy no_items no_rows = tt
 others (BatchForget items) no_items no_rows = absurd (no_items items refl)
 others (Readdirplus offset size) no_items no_rows = absurd (no_rows offset size refl)
+others (Getxattr size name) no_items no_rows = tt
+others (Listxattr size) no_items no_rows = tt
 others Modify no_items no_rows = tt
 others Other no_items no_rows = tt
 others (Malformed opcode) no_items no_rows = tt
