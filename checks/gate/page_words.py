@@ -30,7 +30,7 @@ MOST = {
     "docs/man/strata-snapshotter.8": 900,
     "docs/man/strata.1": 1100,
 }
-MOST_TOGETHER = 38500
+MOST_TOGETHER = 38000
 
 
 def pages():
