@@ -41,6 +41,9 @@ OF_PAGES = {
     r"only where": "only if",
     r"is checked by": "keeps, verifies",
     r"told only": "reported only",
+    r"whose files are of": "the owner of files",
+    r"to read from it": "reads as",
+    r"that proves nothing": "without proofs",
     r"of (these|those|them) (it|they) (is|are)": "they are",
 }
 PHRASES = {**SOURCES, **OF_PAGES}
