@@ -39,7 +39,7 @@ def tree_of(text):
 
 
 def repeated(lines):
-    """The lines with those below `for N 0 to 15`, or `for N in 1 2 5`, once for each of these values in place of N."""
+    """The lines with those below `for N 0 to 15`, or `for N in 1 2 5`, once for each of these values instead of N."""
     made = []
     for line in lines:
         found = re.fullmatch(r"for ([A-Z]+) (?:([0-9]+) to ([0-9]+)(?: and ([A-Z]+) from ([0-9]+))?|in ([^#]+))", line.text)

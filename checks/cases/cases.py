@@ -1,11 +1,11 @@
 """Runs the cases of cases/*.case on the built program: python3 checks cases PROGRAM [CASE..]
 
 A case file is a transcript. Lines that begin with # are comments, and indented lines belong to the line above; those
-below `for N 0 to 15`, or `for N in 1 2 5`, stand once for each of these values, in place of N; `for N 0 to 15 and M from 1`
+below `for N 0 to 15`, or `for N in 1 2 5`, stand once for each of these values, instead of N; `for N 0 to 15 and M from 1`
 counts M beside N.
 
     image NAME [volume "v"]         what it holds, a line each (checks/shared/images.py), and edits by offset
-    image NAME = OTHER              the image `empty`, `sample` or OTHER, and edits; sealed only where a line says `seal`
+    image NAME = OTHER              the image `empty`, `sample` or OTHER, and edits; sealed only if a line says `seal`
     requests NAME [= OTHER [first N]]   requests by name, a line each (checks/shared/messages.py), after the first bytes of others
     answers NAME                    replies that several runs have, a line each (checks/shared/replies.py)
     file NAME DATA                  what a file holds before a run; `file NAME sparse SIZE [= IMAGE]` has that many bytes, zeros
@@ -15,14 +15,14 @@ counts M beside N.
     $ strata WORDS [< NAME] [> NAME] [2> NAME]
       fed N                         the input is a pipe, fed N bytes at a time
       waits                         the input is a pipe; a request is written when the reply to the one before it has come
-      device                        the input and the output are one socket in place of an open /dev/fuse: a request is a
+      device                        the input and the output are one socket instead of an open /dev/fuse: a request is a
                                     packet, which is sent when the reply to the one before it has come
       room N                        a file may grow to N bytes, and then writes fail
       disk N                        the run's folder is a file system of N KiB
       memory N                      so many MiB of address space
       stack N                       so many KiB of stack
       files N                       so many files may be open
-      pipes                         the images are named pipes, which give their bytes once they are opened
+      pipes                         the images are named pipes, which can be read once they are opened
       terminal                      the input is a terminal at which nobody types
       gone > [2>]                   the output, or standard error, is a pipe that nobody reads any more
       closed < [>] [2>]             these streams are closed before the program begins
@@ -33,8 +33,8 @@ counts M beside N.
       fed N                         N bytes at a time, each when those before them were read
       waits                         a request is sent when the reply to the one before it has come
       deaf                          its reading half is shut down before it sends
-      closes [early]                it closes when all replies below have come and, early, more that it does not read, in place
-                                    of shutting down
+      closes [early]                it closes when all replies below have come and, early, more that it does not read, and
+                                    shuts nothing down
       files N                       so many files may be open in the program from its end on
       replies [= ANSWERS [first N]]     what comes to it
     | TEXT                          a line of the output

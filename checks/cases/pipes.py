@@ -1,4 +1,4 @@
-"""Named pipes in place of a run's images, by which it is seen which of them the program has open at one moment."""
+"""Named pipes instead of a run's images, by which it is seen which of them the program has open at one moment."""
 import errno
 import os
 import time

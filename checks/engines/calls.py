@@ -17,7 +17,7 @@ def time_of(stamp):
 
 def several(snapshotter):
     """Snapshots of each kind: c1 and c2 are committed, c2 on c1; a1 is active and v1 a view on c2;
-    a2 and v2 stand on nothing."""
+    a2 and v2 lie on nothing."""
     for name, parent in (("c1", ""), ("c2", "c1")):
         snapshotter.layer(name, parent, lambda folder: None)
     snapshotter.call("Prepare", key="a1", parent="c2", labels={"l": "1"})
@@ -72,7 +72,7 @@ def check_what_is_missing(snapshotter):
 
 
 def check_wrong_parents(snapshotter):
-    """Only committed snapshots are stood on, and none is removed that something stands on."""
+    """Only committed snapshots have others on them, and none of these is removed."""
     several(snapshotter)
     for name in ("Prepare", "View"):
         for parent in ("a1", "a2", "v1", "v2"):

@@ -300,5 +300,5 @@ def check_hundreds_of_kills(machine):
 
 CHECKS = (check_the_same_trees, check_images_as_layers, check_one_mount, check_many_at_once,
           check_daemons_killed, check_servers_killed, check_a_reboot, check_random_kills)
-# only where they are asked for
+# only if they are asked for
 LONG = (check_hundreds_of_kills,)

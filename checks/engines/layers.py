@@ -282,7 +282,7 @@ def check_lying_labels(snapshotter):
 
 
 def check_shared_servers(snapshotter):
-    """What stands on layers of the store, and a mount of the store's image by strata-mount --share,
+    """What lies on layers of the store, and a mount of the store's image by strata-mount --share,
     have one server, which lasts until the last of them is gone."""
     store = pulled(snapshotter, archives())
     parent = ""

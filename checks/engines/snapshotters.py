@@ -141,7 +141,7 @@ class Snapshotter:
         return mount.source
 
     def remove_all(self):
-        """Removes all snapshots, those that others stand on behind these."""
+        """Removes all snapshots, those that others lie on behind these."""
         names = self.names()
         while names:
             for name in names:

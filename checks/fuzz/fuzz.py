@@ -9,7 +9,7 @@ broken. The parts:
 - `images`: images, most of them broken, through `check` and `list`; `stacks`: stacks of 1 to 6 layers, too.
 - `streams`: requests over such stacks through `serve`, from files and through pipes in pieces, lastingly or not, with
   balances, and one in three through `socket`, one to three clients, some of which leave early.
-- `device`: requests through `serve --device`, over a socket of packets in place of /dev/fuse: a read gives one packet, of a
+- `device`: requests through `serve --device`, over a socket of packets instead of /dev/fuse: a read gives one packet, of a
   message, of several, or of any piece, and a write must be one whole reply. Some stand-ins go away early. Or by several
   readers, whose replies may come in any order.
 - `long`: lists of hundreds and thousands of rows, for which workers are started, in all these ways.

@@ -5,7 +5,7 @@ that can't be applied or compiled for nothing, and one that was refused anywhere
 the first goal that is not proved stands in a file whose functions the edit changes, or the first error in the written
 answers of that file's functions. One that changes no function but a constant counts wherever it was refused.
 
-`rt ci` tries an edit by a check of its whole crate. So an edit may leave out what its function does not stand on
+`rt ci` tries an edit by a check of its whole crate. So an edit may leave out what its function does not use
 (`leave_out`): what is left is checked sooner, and no contract of it is another. Where what is left does not compile
 without it, the edit is reported here.
 

@@ -1,4 +1,4 @@
-"""The crates of crates.txt, what each stands on, and a copy of the repository for one of them."""
+"""The crates of crates.txt, what each uses, and a copy of the repository for one of them."""
 import shutil
 
 from checks import ROOT
@@ -16,7 +16,7 @@ def crates_used():
 
 
 def crates_below():
-    """Each crate of crates.txt with the crates of the repository that it stands on, at any distance."""
+    """Each crate of crates.txt with the crates of the repository that it uses, at any distance."""
     named = crates_used()
     below = {}
 
@@ -35,7 +35,7 @@ def crates_below():
 
 
 def copied(crate, others, room, copy=shutil.copy2):
-    """A copy of the repository that holds this crate, what it stands on, and what was kept of these."""
+    """A copy of the repository that holds this crate, what it uses, and what was kept of these."""
     lines = open(ROOT + "/crates.txt", encoding="utf-8").read().splitlines()
     kept = [line for line in lines if line.partition(":")[0].split()[:1] in [[name] for name in [crate, *others]]]
     with open(room + "/crates.txt", "w", encoding="utf-8") as out:

@@ -1,7 +1,7 @@
 """Writes into edits of must-fail/ what they leave out of their crate: python3 checks leave_out CRATE..
 
 `rt ci` tries an edit by a check of its whole crate, of which most says nothing of the wrong body. So an edit may put
-`#[cfg(test)]` before a `mod`, a `use`, an `impl` or a `fn` that its functions do not stand on, and take names out of a
+`#[cfg(test)]` before a `mod`, a `use`, an `impl` or a `fn` that its functions do not use, and take names out of a
 `use`. This writes these lines behind those of the edit's own: out go all functions that are named neither in what the
 edit changes nor in what that names in turn, and all modules of which nothing is left, unless a definition or a proof
 names a type of theirs. The prover then misses functions that have written answers, and says so; that is no goal, and
@@ -208,7 +208,7 @@ def own(written):
 
 
 def left_out(crate, written):
-    """The edit with the lines that leave out what it does not stand on."""
+    """The edit with the lines that leave out what it does not use."""
     own_lines = own(written)
     lines = list(own_lines)
     stays, live = crate.left(own_lines)

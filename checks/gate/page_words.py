@@ -1,6 +1,7 @@
 """Sees that no page has more words than its reader has time for; part of `python3 checks links`.
 
-Words are counted as `wc -w` does. README.md, docs/*.md and docs/man/* are also held to MOST_TOGETHER.
+Words are counted as `wc -w` does. README.md, docs/*.md and docs/man/* each have their own limit, and are
+held to MOST_TOGETHER.
 """
 import os
 
@@ -30,7 +31,7 @@ MOST = {
     "docs/man/strata-snapshotter.8": 900,
     "docs/man/strata.1": 1100,
 }
-MOST_TOGETHER = 38500
+MOST_TOGETHER = 38000
 
 
 def pages():
@@ -50,6 +51,7 @@ def words_of(page):
 def long_pages():
     """A line for each page with too many words, and one for all of them together."""
     words = {page: words_of(page) for page in pages()}
+    yield from ("%s: no limit of words" % page for page in words if page not in MOST)
     for page, most in MOST.items():
         if words.get(page, 0) > most:
             yield "%s: %d words, allowed %d" % (page, words[page], most)

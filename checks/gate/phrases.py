@@ -1,8 +1,8 @@
 """Sees that pages and comments speak plain English; part of `python3 checks links`.
 
 PHRASES are turns that readers stumbled over, each with what to say instead. README.md, docs/, the man
-pages and what programs print are held to all of them, comments and docstrings of sources to those of
-SOURCES alone.
+pages, what programs print, and comments and docstrings of Python are held to all of them, comments of
+Rattle's sources to those of SOURCES alone.
 """
 import ast
 import re
@@ -41,6 +41,9 @@ OF_PAGES = {
     r"only where": "only if",
     r"is checked by": "keeps, verifies",
     r"told only": "reported only",
+    r"whose files are of": "the owner of files",
+    r"to read from it": "reads as",
+    r"that proves nothing": "without proofs",
     r"of (these|those|them) (it|they) (is|are)": "they are",
 }
 PHRASES = {**SOURCES, **OF_PAGES}
@@ -108,4 +111,5 @@ def odd_comments():
     listed = subprocess.run(["git", "ls-files", *kinds], cwd=ROOT, stdout=subprocess.PIPE, text=True, check=True)
     for path in listed.stdout.split():
         if path not in ("packaging/launcher.py", "checks/gate/phrases.py"):
-            yield from ("%s: %s" % (path, it) for it in odd_in(comments_of(path), SOURCES))
+            phrases = PHRASES if path.endswith(".py") else SOURCES
+            yield from ("%s: %s" % (path, it) for it in odd_in(comments_of(path), phrases))

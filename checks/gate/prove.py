@@ -1,15 +1,15 @@
 """Proves and builds the program, crates side by side where they can be: python3 checks prove [--kept]
 
 Each crate of crates.txt below strata_main is proved from nothing, as the gate proves it: over the statements of what it
-stands on, a sixth of what their proofs are to read. What is proved stands in build/proved, with a sum of all that it
+uses, a sixth of what their proofs are to read. What is proved stands in build/proved, with a sum of all that it
 was made from, so a run that was ended goes on with the crates that are left. A line tells when a crate begins and when
 it ends, and how much is left; what the prover says goes to build/logs/CRATE. The program is build/strata.
 
 With --kept each is proved by `rt lib`, which keeps its work in the crate's out/: `rt check` then proves after an edit
 what has changed alone, and checks/gate/trials.py takes up what was kept. rt lets one run work in a crate and in all that it
-stands on, so two crates that share one would wait for each other. Each is proved in a copy of its own.
+uses, so two crates that share one would wait for each other. Each is proved in a copy of its own.
 
-The last crate waits for the longest chain of crates that stand on each other. So of crates that can begin, the one with
+The last crate waits for the longest chain of crates that use each other. So of crates that can begin, the one with
 the longest chain above it begins first; the first of all gets two processors or more, and the others let it go before.
 The program itself gets one, since copies of the prover would each read all of it. What a crate costs is read from
 docs/GATE.md.
@@ -75,7 +75,7 @@ class Proving:
 
 
 class Statements:
-    """Proofs from nothing, each over the statements of what it stands on."""
+    """Proofs from nothing, each over the statements of what it uses."""
 
     DISK = {ROOT: 2 * GIB}
 
@@ -266,7 +266,7 @@ def prove_all(below, way, running):
     left = Left(below)
     places = max(1, min(CORES, free_memory() // EACH))
     chains = left.chains()
-    wanted = sorted(below, key=lambda name: -chains[name])  # so each stands behind all that it stands on
+    wanted = sorted(below, key=lambda name: -chains[name])  # so each is behind all that it uses
     proved = way.proved(wanted)
     left.kept(proved)
     if len(proved) < len(wanted):

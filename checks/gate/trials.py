@@ -54,7 +54,7 @@ class Trials:
         self.said = done.stdout
 
     def lay(self, texts):
-        """The crate with these texts in place of its own, and what was kept of it."""
+        """The crate with these texts instead of its own, and what was kept of it."""
         shutil.rmtree(self.folder)
         shutil.copytree(self.kept, self.folder)
         for file, text in texts.items():

@@ -161,7 +161,7 @@ def test_lost(room):
 
 
 def test_pax_everywhere(room):
-    """What a global header says holds for all that follow, where they don't say something else."""
+    """What a global header says holds for all that follow, unless they say otherwise."""
     made = archive([
         entry(b"g", "g", b"15 comment=abc\n"), file("a", b"1"), entry(b"g", "g", b"8 uid=7\n"), file("b", b"2"),
         file("c", b"3", pax_headers={"uid": "0"}), file("d", pax_headers={"uid": "", "path": "e"})])

@@ -58,7 +58,7 @@ def test_bytes_of_a_trailer(room):
 
 
 def test_bytes_before_a_trailer(room):
-    """Up to its full size an image has the bytes that it had without a trailer, whatever is said of its files."""
+    """Up to its full size an image has the bytes that it had without a trailer, for any rows."""
     def image(**fields):
         folder = room.name()
         made = archive([directory("d", **fields), file("d/a", b"1" * 100, **fields), symlink("l", "d/a", **fields)], GNU)
@@ -158,7 +158,7 @@ def test_implied_folders(room):
         hold("shown", wanted, {path: got.get(path) for path in wanted})
     hold_over([file("etc/deep/x"), file("etc/new/y")], {"": root, "etc": etc, "etc/deep": deep, "etc/new": new,
                                                         "etc/shadow": (0o100640, 0, 42, 0, 0)})
-    # through a layer between that implies it too, and one that says something else of it
+    # through a layer between that implies it too, and one that says otherwise
     hold_over([file("etc/deep/x")], {"": root, "etc": etc, "etc/deep": deep}, archive([file("etc/deep/z")]), archive([]))
     hold_over([file("etc/deep/x")], {"etc": (0o040711, 5, 0, 6, 0), "etc/deep": deep},
               archive([directory("etc", mode=0o711, uid=5, mtime=6)]))
@@ -187,7 +187,7 @@ def test_markers(room):
 
 
 def test_mixed_layers(room):
-    """Layers with and without trailers: a node without a row belongs to the owner that is said, and is of 1970."""
+    """Layers with and without trailers: a node without a row belongs to the given owner, and is dated 1970."""
     folder = room.name()
     made = [archive(LOW), archive([file("etc/name", b"2", uid=6, mode=0o600, mtime=7)])]
     room.convert(layout_of(room.name(), made).path, folder)

@@ -35,7 +35,7 @@ def layout(room, count):
 
 
 def on_disk(room, words, prepared="true"):
-    """What stands on a small disk before a command is run, and after it, which must fail there and
+    """What is on a small disk before a command is run, and after it, which must fail there and
     say so; and what stands there once the disk is larger, where it must end well."""
     needs("unshare", "mount", "find", "sha256sum")
     disk = os.path.join(room.path, "disk")

@@ -1,4 +1,4 @@
-"""What these checks stand on: a folder for each, the programs that users run, and how a check
+"""What these checks use: a folder for each, the programs that users run, and how a check
 fails."""
 import io
 import os

@@ -47,7 +47,7 @@ def trailer(rows, count=None):
 
 def part(numbers, lists, changed=()):
     """The second part of a trailer, whose sum is right: the number of each row's list, and the lists, pairs of name and value
-    each. Some of its words, by their place behind its head, may say something else."""
+    each. Some of its words, by their place behind its head, may differ."""
     firsts, texts = [0], [text for items in lists for item in items for text in item]
     for items in lists:
         firsts.append(firsts[-1] + len(items))

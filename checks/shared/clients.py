@@ -33,7 +33,7 @@ class Client:
 
     def __init__(self, pieces=(), replies=b""):
         self.pieces, self.replies = pieces, replies
-        self.is_stepwise = False  # in place of pieces, a message is sent when the reply to the one before has come
+        self.is_stepwise = False  # instead of pieces, a message is sent when the reply to the one before has come
         self.is_meanwhile = False  # it connects while the client before it is served
         self.is_deaf = False  # its reading half is shut down before it sends
         self.closes = False  # it closes when these replies have come, and does not shut its writing half down

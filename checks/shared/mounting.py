@@ -1,4 +1,4 @@
-"""What checks/mounts/mounted.py stands on: a namespace for each check, mounts in it, and the processes that serve them."""
+"""What checks/mounts/mounted.py uses: a namespace for each check, mounts in it, and the processes that serve them."""
 import ctypes
 import errno
 import os
@@ -155,7 +155,7 @@ def wait_until(what, test):
 
 
 def try_mount(folder):
-    """Whether mounts can be had here: `yes`, or why not."""
+    """Whether mounts can be made here: `yes`, or why not."""
     try:
         device = os.open(DEVICE, os.O_RDWR)
         text = "fd=%d,rootmode=40000,user_id=0,group_id=0" % device

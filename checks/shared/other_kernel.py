@@ -2,7 +2,7 @@
 
 STRATA_KERNEL names its package, as `apt-get download linux-image-6.1.0-56-amd64` fetches it from Debian; where Debian has a
 kernel in two, linux-binary and linux-modules, both stand there, with a comma between. Debian's user-mode-linux is such a
-package, too: one processor, without qemu, and ten times as fast. In place of packages a folder may be named into which they
+package, too: one processor, without qemu, and ten times as fast. Instead of packages a folder may be named into which they
 were unpacked. It takes qemu-system-x86_64, dpkg-deb, cpio and a busybox that is linked statically (Debian's busybox-static).
 """
 import lzma

@@ -87,10 +87,10 @@ def long_value(rng, _, __):
 CHANGED_LISTS = [named_badly, twice, falling, broken_capability, broken_acl, long_value]
 
 
-# --- what may be wrong with a part: each of these gives its bytes ---
+# --- what may be wrong with a part: each of these makes the bytes ---
 
 def other_word(rng, numbers, lists):
-    """One word of the tables that says something else, with a right sum."""
+    """One changed word of the tables, with a right sum."""
     words = len(numbers) + len(lists) + 3 + 2 * sum(len(items) for items in lists)
     return part(numbers, lists, {rng.randrange(words): rng.choice([0, 1, 2, 3, 24, 28, 32, 40, 2 ** 31, 2 ** 32 - 1])})
 

@@ -1,4 +1,4 @@
-"""What a program finds when it begins, and what it writes for any reader."""
+"""What a program finds at startup, and what it writes for any reader."""
 import _signal as signal  # without enum, which takes longer to load than all of this
 import os
 import sys

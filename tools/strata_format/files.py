@@ -56,9 +56,8 @@ class new_file:
         return self.faults.__exit__(*fault)
 
     def keep(self, folder, name):
-        """Gives the file, which is whole, its name in an open folder of the same file system, in
-        the place of what had this name. One that is lasting is on the disk before, and its name
-        behind."""
+        """Gives the file, which is whole, its name in an open folder of the same file system, instead
+        of what had this name. One that is lasting is on the disk before, and its name behind."""
         if self.is_lasting:
             os.fsync(self.file.fileno())
         os.rename(self.passing, name, src_dir_fd=self.folder, dst_dir_fd=folder)

@@ -4,7 +4,7 @@ import stat
 
 # who only looks waits for nobody, and gets no terminal
 LOOKING = os.O_RDONLY | os.O_NONBLOCK | os.O_NOCTTY | os.O_CLOEXEC
-# what gives its bytes to one reader alone, and may let him wait for ever
+# what only one reader can read, and may let him wait for ever
 ONCE = {stat.S_IFIFO: "a pipe", stat.S_IFSOCK: "a socket", stat.S_IFCHR: "a device that is read once"}
 
 

@@ -18,7 +18,7 @@ from strata_layers.attributes import mode_without
 from strata_layers.entries import MARKER, said_by
 from strata_layers.folder_entries import Folder
 
-# the volume's name of an image whose digest is not known when it begins
+# the volume's name of an image whose digest is not known at its beginning
 VOLUME_NAME = b"strata"
 DEVICES = {entries.CHARACTER: romfs.CHARACTER, entries.BLOCK_DEVICE: romfs.BLOCK}
 SPECIALS = {entries.FIFO: romfs.FIFO, entries.SOCKET: romfs.SOCKET}

@@ -209,7 +209,7 @@ def store_for(words, place):
 def mounted_words(words, place=None, is_verified=False):
     """The paths that the words of a mount mean, files and images of the store at a place; the open
     files that mark layers of the store as in use; and by the path of a layer the digits of the
-    images that it was made to lie on. OSError where an image can't be had."""
+    images that it was made to lie on. OSError if an image can't be opened."""
     paths, marks, parents = [], [], {}
     try:
         store = store_for(words, place or default_place())

@@ -1,4 +1,4 @@
-"""Upkeep of a store: what is in it, whether it is right, and taking away what nobody needs."""
+"""Upkeep of a store: what is in it, whether it is right, and removing what nobody needs."""
 import errno
 import fcntl
 import os

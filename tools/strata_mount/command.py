@@ -49,7 +49,7 @@ options:
                     share, stack, caps, modeless, sealed,
                     digest=DIGEST
   --digest DIGEST   accept an image only with this fs-verity
-                    digest; for each layer in order, or none;
+                    digest; one a layer, in order, or none;
                     - accepts any image
   --strict          verify the checksum of every header, too
   --replace         unmount a mount of strata at DIR first

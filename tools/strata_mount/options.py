@@ -18,7 +18,7 @@ SEVERAL, OWNERS = (1, 64), (0, 2 ** 32 - 1)
 STRATA = {"strict": None, "whole": None, "modeless": None, "workers": SEVERAL, "readers": SEVERAL,
           "uid": OWNERS, "gid": OWNERS, "share": None, "stack": None, "caps": None,
           "sealed": None}
-# the hex digits of a digest by its algorithm; and what stands in place of one
+# the hex digits of a digest by its algorithm; and what stands for one
 DIGITS = {"sha256": 64, "sha512": 128}
 HEX = frozenset("0123456789abcdefABCDEF")
 NOT_SEALED = "-"

@@ -9,7 +9,7 @@ from strata_mount.device import take_away
 from strata_mount.mount_table import mount_at
 from strata_mount.options import NOT_SEALED
 
-# what strata opens when it begins, besides its program and its libraries: the loader and its lists,
+# what strata opens at startup, besides its program and its libraries: the loader and its lists,
 # the standard ends, and what tells how many processors there are; python looks for open files in
 # the last folder
 OPENED = ("/lib64/ld-linux-x86-64.so.2", "/etc/ld.so.preload", "/etc/ld.so.cache", "/dev/null",

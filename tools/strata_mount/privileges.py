@@ -1,6 +1,6 @@
-"""What a server is left of privileges when it begins: none that it has no use for.
+"""What a server is left of privileges at startup: none that it has no use for.
 
-strata opens its images, and their trees, by their names when it begins, and then only reads them, and reads and
+strata opens its images, and their trees, by their names at startup, and then only reads them, and reads and
 writes the open /dev/fuse. So of root's capabilities it needs none, or, where an image could not be
 opened else, the one to read files whosever they are. It can gain none again, starts no other
 program, opens no files but its images and libraries, those only to read, and has the calls below

@@ -3,9 +3,9 @@
 Who comes first mounts as always, and notes the mount's device number and its server in a file,
 which is named by what the images and options are. Who comes later finds a mount of that device in
 this namespace, and binds it to their own folder. So nothing watches: the kernel ends a file system
-with its last mount, in whatever namespace that is, and its server with it.
+with its last mount, in any namespace, and its server with it.
 
-A mount is joined only where its server is the process that was noted, and where the kernel says
+A mount is joined only if its server is the process that was noted, and if the kernel says
 that it is this user's.
 """
 import errno
@@ -190,7 +190,7 @@ def printed_folder(folder, place, name):
 
 def hold_unshared(plan):
     """Looks that a stack may be mounted that is not shared: strata says what is wrong with an
-    image, and what is no file gives its bytes to one mount alone. Without a folder it may not."""
+    image, and what is no file can be read by one mount alone. Without a folder it may not."""
     if plan.is_printed:
         for path in plan.files():
             if not stat.S_ISREG(os.stat(path).st_mode):

@@ -1,4 +1,4 @@
-"""The mounts of strata: one for each chain of layers, shared by all that stand on it.
+"""The mounts of strata: one for each chain of layers, shared by all that lie on it.
 
 strata-mount makes them, by --share: chains of the same images have one server, and so has whoever
 else shares these images with the same options. The server is a process of its own, which goes on
@@ -53,7 +53,7 @@ class ChainMounts:
     def __init__(self, places, program):
         self.places, self.program = places, program
         self.lock = threading.Lock()
-        # who is about to stand on a mount holds it: until then nothing says that it is used
+        # who is about to use a mount holds it: until then nothing says that it is used
         self.held, self.locks = collections.Counter(), collections.defaultdict(threading.Lock)
 
     @contextlib.contextmanager

@@ -14,7 +14,7 @@ class AlreadyExists(Fault):
 
 
 class FailedPrecondition(Fault):
-    """The snapshot is of another kind, or something stands on it."""
+    """The snapshot is of another kind, or something lies on it."""
 
 
 class InvalidArgument(Fault):

@@ -130,7 +130,7 @@ class ImageMaker:
             self.state.settle(snapshot.id, Form.FOLDER, taken)
 
     def replace(self, snapshot, path):
-        """Puts an image into the place of a layer's folder, which is removed once nothing stands on
+        """Puts an image into the place of a layer's folder, which is removed once nothing lies on
         it."""
         self.places.keep_image(path, snapshot.id)
         with self.state.transaction():

@@ -1,12 +1,12 @@
 """The snapshots: what containerd asks of a snapshotter, over folders, images and mounts.
 
 A layer is committed as the folder into which containerd unpacked it, at once; its image is made
-behind that, and then takes the folder's place (image_maker.py). Who is to stand on a chain of
-layers for long waits for that, and stands on one mount of strata; overlayfs puts what is written
+behind that, and then takes the folder's place (image_maker.py). What is to lie on a chain of
+layers for long waits for that, and lies on one mount of strata; overlayfs puts what is written
 over it. Only unpacking goes on over folders meanwhile.
 
-What an overlay stands on is noted with it and stays the same; folders and mounts that nothing
-stands on are removed.
+What an overlay lies on is noted with it and stays the same; folders and mounts that nothing
+lies on are removed.
 """
 import collections
 import contextlib
@@ -128,7 +128,7 @@ class Snapshots:
         return parent
 
     def lowers_on(self, parent):
-        """What a snapshot over a parent (or None) stands on: folders, and the mount of all images
+        """What a snapshot over a parent (or None) lies on: folders, and the mount of all images
         below them."""
         chain = self.state.chain(parent)
         folders = [it for it in chain if it.form != Form.IMAGE]
@@ -285,10 +285,10 @@ class Snapshots:
         places.remove(aside)
         self.tidy()
 
-    # --- what nothing stands on ---
+    # --- what nothing lies on ---
 
     def tidy(self):
-        """Unmounts the mounts that nothing stands on, and removes the folders of images. What
+        """Unmounts the mounts that nothing lies on, and removes the folders of images. What
         can't be removed now is logged, and found at the next start: what was asked for is
         done."""
         try:

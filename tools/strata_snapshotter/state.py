@@ -51,12 +51,12 @@ class Form(enum.Enum):
     IMAGE = "image"
 
 
-# parent: the number of the snapshot that this one stands on, or None; parent_name: its name, or "".
+# parent: the number of the snapshot that this one lies on, or None; parent_name: its name, or "".
 # Times are nanoseconds since 1970; size (bytes) and inodes are those of a folder that stays or of
 # an image.
 Snapshot = collections.namedtuple("Snapshot", "id name parent parent_name kind form labels created "
                                   "updated size inodes")
-# a folder that an overlay stands on: that of a layer, or the mount of a layer with all below it
+# a folder that an overlay lies on: that of a layer, or the mount of a layer with all below it
 Lower = collections.namedtuple("Lower", "layer is_mount")
 
 
@@ -118,7 +118,7 @@ class State:
         return self.one("WHERE s.id = ?", number)
 
     def pending(self):
-        """The first snapshot of which an image is to be made, or None. What it stands on was
+        """The first snapshot of which an image is to be made, or None. What it lies on was
         committed before it, and comes first."""
         return self.one("WHERE s.form = 'pending' AND s.kind = 3 ORDER BY s.id LIMIT 1")
 
@@ -126,7 +126,7 @@ class State:
         return [snapshot_of(row) for row in self.base.execute(FOUND + "ORDER BY s.id")]
 
     def chain(self, snapshot):
-        """A snapshot and all that it stands on, the highest first."""
+        """A snapshot and all that it lies on, the highest first."""
         found = []
         while snapshot is not None:
             found.append(snapshot)
@@ -147,16 +147,16 @@ class State:
     def numbers(self):
         return {number for number, in self.base.execute("SELECT id FROM snapshots")}
 
-    # --- what stands on what ---
+    # --- what lies on what ---
 
     def lowers(self, snapshot):
-        """What an overlay stands on, the highest first, as it was said when it was made."""
+        """What an overlay lies on, the highest first, as it was said when it was made."""
         found = self.base.execute("SELECT layer, is_mount FROM lowers WHERE snapshot = ? "
                                   "ORDER BY place", (snapshot.id,))
         return [Lower(layer, bool(is_mount)) for layer, is_mount in found]
 
     def used(self, is_mount):
-        """The layers whose mounts, or whose folders, something stands on."""
+        """The layers whose mounts, or whose folders, something lies on."""
         found = self.base.execute("SELECT DISTINCT layer FROM lowers WHERE is_mount = ?",
                                   (is_mount,))
         return {layer for layer, in found}
