@@ -28,7 +28,7 @@ fn kept<A: Allocator + Copy>(alloc: A, bytes: &[u8]) -> Result<Image<A>, CheckFa
     let Ok(gathered) = gather(alloc, &InMemory::new(bytes)) else {
         return Err(CheckFault::Memory);
     };
-    let (image, _rows) = check_held(alloc, HeldImage::Kept(gathered), Profile::Usual)?;
+    let (image, _rows, _lists) = check_held(alloc, HeldImage::Kept(gathered), Profile::Usual)?;
     Ok(image)
 }
 
