@@ -1,11 +1,13 @@
 -- The extended attributes of nodes: the list of a place is that of its row (list_is), what is held of
--- a node is what its place has (node_list, nodes_held, nodes_bare), and so is what a table answers
--- (xattrs_are, xattrs_none, some_has, acls_have).
-use Rattle.std.proofs.Common.{◌≡◌, ◌∙◌, sym, ap, subst, ℕ, zero, suc, ◌+◌, ◌<◌, List, [], ◌∷◌, length, map, Bool, true, false, not, Option, Some, None, MatchOption, cond, refl, arith}
-use Rattle.std.specs.Prelude.{◌==◌, ◌||◌, nat_eq, slice_get}
+-- a node is what its place has (node_list, any_more, nodes_held, bare_more, nodes_bare), and so is what
+-- a table answers (xattrs_are, xattrs_none, some_has, acls_have).
+use Rattle.std.proofs.Common.{◌≡◌, ◌∙◌, sym, ap, subst, ℕ, zero, suc, ◌+◌, ◌<◌, inl, inr, List, [], ◌∷◌, length, map, take, get_or, length-take, Bool, true, false, not, Option, Some, None, MatchOption, cond, refl, arith}
+use Rattle.std.specs.Prelude.{◌==◌, ◌||◌}
 use Rattle.std.specs.List.{list_any, position_or_len, slice_index_or}
 use Rattle.std.specs.Option.{option_map, option_map_or}
-use Rattle.std.proofs.lemmas.Option.{slice_get_cases}
+use Rattle.std.proofs.lemmas.Bool.{cases_order}
+use Rattle.std.proofs.lemmas.List.{get_or-take, get_or_past, get_or_default}
+use Rattle.std.proofs.lemmas.List.Folds.{list_any_more}
 use Rattle.romfs_format.specs.declared.attribute_row.AttributeRow.{AttributeRow}
 use Rattle.romfs_format.specs.Extended.{Extended}
 use Rattle.romfs_format.specs.Trailer.{list_at}
@@ -62,6 +64,18 @@ module _ (rows : List (List AttributeRow)) (lists : List (List (List Extended)))
   node_list node =
       sym (list_is node.place.header (slice_index_or rows node.place.layer []) (slice_index_or lists node.place.layer []))
 
+  -- one node more has a list of some kind, or one before it had
+  pub any_more : (f : List Extended → Bool) (held : List Node) (i : ℕ) (node : Node) (n : ℕ) (before after : Bool)
+      → i < length held → node ≡ get_or held i node → n ≡ row_number rows node
+      → before ≡ list_any (λ x. f (list_of_node rows lists x)) (take i held)
+      → after ≡ (before || f (list_held lists node.place.layer n))
+      → after ≡ list_any (λ x. f (list_of_node rows lists x)) (take (i + 1) held)
+  any_more f held i node n before after l there number b a =
+      let g : Node → Bool = (λ x. f (list_of_node rows lists x)) in
+      a ∙ ap (λ k. before || f (list_held lists node.place.layer k)) number
+      ∙ ap (λ xs. before || f xs) (node_list node) ∙ ap (λ o. o || g node) b
+      ∙ ap (λ x. list_any g (take i held) || g x) there ∙ sym (list_any_more g held i node l)
+
   -- where each node's row is held
   pub nodes_held : (held : List Node) (x : HeldXattrs) → x.lists ≡ lists → x.positions ≡ map (row_number rows) held
       → x.some ≡ list_any (λ node. has_some (list_of_node rows lists node)) held
@@ -104,6 +118,42 @@ module _ (rows : List (List AttributeRow)) (lists : List (List (List Extended)))
       none : (n : ℕ) → held_at {ℕ} [] n ≡ None
       none zero = refl
       none (suc n) = refl
+
+-- the list behind the position that is held of a number, or none
+abbrev told_by : List (List (List Extended)) → List ℕ → ℕ → Node → List Extended
+told_by lists positions n node = option_map_or (list_held lists node.place.layer) (held_at positions n) []
+
+pub held_behind : (lists : List (List (List Extended))) (positions : List ℕ) (n : ℕ) (node : Node) (position : ℕ)
+    → held_at positions n ≡ Some position → list_held lists node.place.layer position ≡ told_by lists positions n node
+held_behind lists positions n node position e = sym (ap (λ o. option_map_or (list_held lists node.place.layer) o []) e)
+
+pub none_behind : (lists : List (List (List Extended))) (positions : List ℕ) (n : ℕ) (node : Node) → held_at positions n ≡ None
+    → told_by lists positions n node ≡ []
+none_behind lists positions n node e = ap (λ o. option_map_or (list_held lists node.place.layer) o []) e
+
+-- one layer more is without lists
+pub bare_more : (lists : List (List (List Extended))) (i : ℕ) (x : List (List Extended)) → AreBare (take i lists) → i < length lists
+    → x ≡ get_or lists i x → ((position : ℕ) → slice_index_or x position [] ≡ []) → AreBare (take (i + 1) lists)
+bare_more lists i x bare l there none = record {
+  each = λ layer position. elim (cases_order layer i) [
+    | inl e ↦ (
+        let same : get_or (take (i + 1) lists) layer [] ≡ x =
+        ap (λ k. get_or (take (i + 1) lists) k []) e ∙ get_or-take (i + 1) lists i [] (omega arith)
+        ∙ get_or_default lists i [] x l ∙ sym there in
+        ap (λ xs. slice_index_or xs position []) same ∙ none position)
+    | inr (inl m) ↦ (
+        let same : get_or (take (i + 1) lists) layer [] ≡ get_or (take i lists) layer [] =
+        get_or-take (i + 1) lists layer [] (omega arith) ∙ sym (get_or-take i lists layer [] m) in
+        ap (λ xs. slice_index_or xs position []) same ∙ bare.each layer position)
+    | inr (inr m) ↦ (
+        let k = length-take (i + 1) lists in
+        ap (λ xs. slice_index_or xs position []) (get_or_past (take (i + 1) lists) layer [] (omega arith)))
+  ];
+}
+
+-- none is looked at yet
+pub none_bare : AreBare []
+none_bare = record { each = λ layer position. refl }
 
 -- what is told of a list is told of the same list
 pub told : (o : Option (List Extended)) (a b : List Extended) → a ≡ b → MatchOption o (a ≡ []) (λ found. a ≡ found)
