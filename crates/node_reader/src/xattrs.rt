@@ -147,12 +147,7 @@ fn row_number<A: Allocator>(rows: &[Rows<A>], next: &mut NextRows<A>, node: &Nod
 }
 
 // Whether a node has attributes, or one before it had some.
-fn or_some<A: Allocator>(
-    before: bool,
-    layers: &[RowLists<A>],
-    node: &Node,
-    position: u32,
-) -> bool
+fn or_some<A: Allocator>(before: bool, layers: &[RowLists<A>], node: &Node, position: u32) -> bool
     ensures { result ≡ (before || has_some (list_held layers.now node.now.place.layer position)) }
 {
     if before {
@@ -165,12 +160,7 @@ fn or_some<A: Allocator>(
 }
 
 // Whether it has an access control list, or one before it had one.
-fn or_acl<A: Allocator>(
-    before: bool,
-    layers: &[RowLists<A>],
-    node: &Node,
-    position: u32,
-) -> bool
+fn or_acl<A: Allocator>(before: bool, layers: &[RowLists<A>], node: &Node, position: u32) -> bool
     ensures { result ≡ (before || has_acl (list_held layers.now node.now.place.layer position)) }
 {
     if before {

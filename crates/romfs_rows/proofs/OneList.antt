@@ -1,6 +1,6 @@
 -- The list with a number above 0, as a run of attributes (numbered_run): how many it has (list_long),
 -- and which stands where (name_there).
-use Rattle.std.proofs.Common.{◌≡◌, ◌∙◌, sym, ap, ℕ, zero, suc, ◌+◌, ◌-◌, ◌*◌, ◌<◌, ◌≤◌, List, [], ◌∷◌, length, Option, Some, None, refl, arith}
+use Rattle.std.proofs.Common.{◌≡◌, ◌∙◌, ap, subst, ℕ, zero, suc, ◌+◌, ◌-◌, ◌*◌, ◌<◌, ◌≤◌, List, [], ◌∷◌, length, Option, Some, None, refl, arith}
 use Rattle.std.specs.Prelude.{slice_get}
 use Rattle.romfs_format.specs.Extended.{Extended}
 use Rattle.std.specs.Option.{option_map}
@@ -34,7 +34,7 @@ module _ (y : List ℕ) (n : ℕ) (is : IsFileList y n) where
       let a = is.above in
       let l = is.there in
       let e : n - 1 + 1 ≡ n = omega arith in
-      rw e at (first_rises y is.tables (n - 1) (omega arith))
+      subst (λ k. first_of y (n - 1) < first_of y k) e (first_rises y is.tables (n - 1) (omega arith))
 
   pub within : first_of y n ≤ attribute_count y
   within = first_small y is.tables n is.there

@@ -7,7 +7,8 @@ use Rattle.romfs_format.specs.Part.{list_count, list_number, numbered, AreTables
 abbrev pub lists_told : List ℕ → List ℕ → ℕ → List (List Extended)
 lists_told bytes numbers bare = map (numbered bytes) numbers ++ replicate bare []
 
--- the bytes are lists that files may have, if any row has a number, and each number is one of theirs
+-- the bytes are lists that files may have, if any row has a number, and each number is one of
+-- theirs
 pub record AreKeptLists (bytes numbers : List ℕ) : Type 0 where
   pub lists : 0 < length numbers → AreLists bytes
   pub each : All (λ n. n ≤ list_count bytes) numbers

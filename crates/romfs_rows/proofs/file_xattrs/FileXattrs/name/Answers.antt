@@ -6,9 +6,19 @@ use Rattle.romfs_format.specs.Part.{first_of, piece}
 use Rattle.romfs_rows.proofs.OneList.{rises, within, list_long, name_there}
 use Rattle.romfs_rows.proofs.file_xattrs.FileXattrs.name.Goals as goal
 
-pub overflow_sub-result : goal.overflow_sub-result
-overflow_sub-result c =
+pub overflow_sub-end : goal.overflow_sub-end
+overflow_sub-end c =
     omega (arith, c.first-first.ensures.value, c.first-end.ensures.value, rises _ _ c.self.invariant)
+
+pub returns-then-end-first : goal.returns-then-end-first
+returns-then-end-first c =
+    omega (
+      arith,
+      c.first-first.ensures.value,
+      c.first-end.ensures.value,
+      list_long _ _ c.self.invariant,
+      ap length c.self.view_is,
+    )
 
 pub overflow_add-first : goal.overflow_add-first
 overflow_add-first c = omega arith
