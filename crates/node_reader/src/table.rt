@@ -29,12 +29,12 @@ use std::marker::Model;
 ///
 /// A clause sees the layers, their listing, the layers' rows of attributes and lists of extended
 /// ones, the owner of nodes without a row, and whether the images are held in full. Each node and
-/// row takes at most 113
-/// bytes besides a name of more than 22 (16 of them for guesses of places), and a directory 32
-/// more. If any layer has a row of attributes, each node takes 20 more, and such a row 12, or 32 if
-/// it belongs to no node. If any has a list of extended attributes, each node and row takes 4 more,
-/// and the lists what they take in the image. No reader takes memory, and each answers for every number: 1 is the root,
-/// and a number that is not in use has nothing.
+/// row takes at most 113 bytes besides a name of more than 22 (16 of them for guesses of places),
+/// and a directory 32 more. If any layer has a row of attributes, each node takes 20 more, and such
+/// a row 12, or 32 if it belongs to no node. If any has lists of extended attributes, each node
+/// takes 4 more, such a row of a layer with lists 4, and the lists what they take in the image. No
+/// reader takes memory, and each answers for every number: 1 is the root, and a number that is not
+/// in use has nothing.
 ///
 /// ```text
 /// if let Some(number) = table.child(1, b"etc") {
@@ -254,8 +254,10 @@ impl<A: Allocator> Table<A> {
             (λ found. xattrs_at self.now number ≡ found) }
         ensures right { IfSome result (λ found. is_list found ≡ true) }
     {
-        let node = node_at(&self.nodes, number)?;
-        self.xattrs.of_node(number, node)
+        match node_at(&self.nodes, number) {
+            Some(node) => self.xattrs.of_node(number, node),
+            None => None,
+        }
     }
 
     /// Whether any node has an extended attribute.

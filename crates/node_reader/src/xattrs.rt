@@ -76,8 +76,10 @@ impl<A: Allocator> NodeXattrs<A> {
             (λ found. xattrs_held self.now number node.now ≡ found) }
         ensures right { IfSome result (λ found. is_list found ≡ true) }
     {
-        let position = *numbered(&self.positions, number)?;
-        list_at(&self.layers, node.place.layer as usize, position)
+        match numbered(&self.positions, number) {
+            Some(position) => list_at(&self.layers, node.place.layer as usize, *position),
+            None => None,
+        }
     }
 
     /// Whether a node has some.
@@ -145,12 +147,7 @@ fn row_number<A: Allocator>(rows: &[Rows<A>], next: &mut NextRows<A>, node: &Nod
 }
 
 // Whether a node has attributes, or one before it had some.
-fn or_some<A: Allocator>(
-    before: bool,
-    layers: &[RowLists<A>],
-    node: &Node,
-    position: u32,
-) -> bool
+fn or_some<A: Allocator>(before: bool, layers: &[RowLists<A>], node: &Node, position: u32) -> bool
     ensures { result ≡ (before || has_some (list_held layers.now node.now.place.layer position)) }
 {
     if before {
@@ -163,12 +160,7 @@ fn or_some<A: Allocator>(
 }
 
 // Whether it has an access control list, or one before it had one.
-fn or_acl<A: Allocator>(
-    before: bool,
-    layers: &[RowLists<A>],
-    node: &Node,
-    position: u32,
-) -> bool
+fn or_acl<A: Allocator>(before: bool, layers: &[RowLists<A>], node: &Node, position: u32) -> bool
     ensures { result ≡ (before || has_acl (list_held layers.now node.now.place.layer position)) }
 {
     if before {
@@ -190,8 +182,13 @@ fn list_at<A: Allocator>(
         (λ found. list_held layers.now layer position ≡ found) }
     ensures right { IfSome result (λ found. is_list found ≡ true) }
 {
-    let lists = layers.get(layer)?;
-    lists.of_row(position.checked_sub(1)?)
+    if position == 0 {
+        return None;
+    }
+    match layers.get(layer) {
+        Some(lists) => lists.of_row(position - 1),
+        None => None,
+    }
 }
 
 // Whether any layer may have a list.

@@ -77,7 +77,8 @@ impl<A: Allocator + Copy> Check for Image<A> {
 /// accessible bytes, with the rows of its attribute trailer beside it, and the list of extended
 /// attributes of each: none where it has no trailer, or the profile is one without attributes. A
 /// row takes 28 bytes, and 4 more where the trailer has lists, which are kept once. Of an image
-/// that stays in its file nothing else is looked at: of a trailer that was not kept nothing is said.
+/// that stays in its file nothing else is looked at: of a trailer that was not kept nothing is
+/// said.
 ///
 /// `Broken` names the fault as [`Check::check_as`] does; of what was gathered from known bytes it
 /// is the fault of these ([`laws`](crate::laws)). `Memory` comes only if memory was refused. It

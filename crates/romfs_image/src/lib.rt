@@ -4,8 +4,8 @@
 //! otherwise it names the rule that is broken first, and where. It answers for every list of bytes.
 //! [`Image::check_as`](Check::check_as) takes every profile. [`check_held`] checks an image as it
 //! is held, all its bytes or what is kept of one that stays in its file, and gives the rows of its
-//! attribute trailer and their lists too; [`laws`] says that what is kept is judged as the image is. [`Image`]
-//! gives headers, names and data, as `romfs_reader` has them.
+//! attribute trailer and their lists too; [`laws`] says that what is kept is judged as the image
+//! is. [`Image`] gives headers, names and data, as `romfs_reader` has them.
 //!
 //! What a check promises is said by the definitions of `romfs_format`, and in `specs/`: which bytes
 //! it accepts (`Checks`), and why it refuses others (`Refusals`, in words `Texts`). It joins

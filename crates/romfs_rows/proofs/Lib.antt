@@ -8,3 +8,4 @@ pub mod Runs
 pub mod Halves
 pub mod Listed
 pub mod OneList
+pub mod Shortness

@@ -6,11 +6,11 @@ use Rattle.std.specs.Prelude.{true, false, ◌&&◌, nat_le}
 use Rattle.std.proofs.lemmas.Bool.{cases_lt}
 use Rattle.std.proofs.lemmas.Bool.Decides.{nat_tests}
 use Rattle.romfs_rows.specs.Runs.{rises_at}
-use Rattle.std.specs.List.{list_all}
+use Rattle.std.specs.List.{list_all, list_any}
 use Rattle.std.specs.Ordering.{nat_cmp, is_lt}
 use Rattle.std.specs.Cmp.Lexicographic.{slice_cmp}
 use Rattle.std.proofs.lemmas.List.{length-append}
-use Rattle.romfs_format.specs.Extended.{Extended, is_extended, names_of, names_rise}
+use Rattle.romfs_format.specs.Extended.{Extended, is_acl_name, is_extended, names_of, names_rise}
 use Rattle.romfs_format.specs.Part.{piece, attribute, attributes}
 
 module _ (y : List ℕ) (end : ℕ) where
@@ -32,6 +32,13 @@ module _ (y : List ℕ) (end : ℕ) where
 
   pub all_fails : (i : ℕ) → i < end → is_extended (attribute y i) ≡ false → list_all is_extended (run i) ≡ false
   all_fails i l e = ap (list_all is_extended) (run_step i l) ∙ rw e refl
+
+  pub any_step : (i : ℕ) → i < end → is_acl_name (piece y (2 * i)) ≡ false
+      → list_any (λ x. is_acl_name x.name) (run i) ≡ list_any (λ x. is_acl_name x.name) (run (i + 1))
+  any_step i l e = ap (list_any (λ (x : Extended). is_acl_name x.name)) (run_step i l) ∙ rw e refl
+
+  pub any_found : (i : ℕ) → i < end → is_acl_name (piece y (2 * i)) ≡ true → list_any (λ x. is_acl_name x.name) (run i) ≡ true
+  any_found i l e = ap (list_any (λ (x : Extended). is_acl_name x.name)) (run_step i l) ∙ rw e refl
 
   names_at : (i : ℕ) → i + 1 < end
       → names_rise (run i) ≡ (is_lt (slice_cmp nat_cmp (piece y (2 * i)) (piece y (2 * (i + 1)))) && names_rise (run (i + 1)))

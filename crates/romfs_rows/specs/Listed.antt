@@ -1,13 +1,14 @@
 -- The extended attributes of an image's rows, as they are kept.
-use Rattle.std.specs.Prelude.{ℕ, zero, suc, ◌<◌, ◌≤◌, List, [], ◌∷◌, ◌++◌, length, map, replicate, All}
-use Rattle.romfs_format.specs.Extended.{Extended}
-use Rattle.romfs_format.specs.Part.{list_count, list_number, numbered, AreLists}
+use Rattle.std.specs.Prelude.{◌≡◌, ℕ, zero, suc, ◌<◌, ◌≤◌, List, [], ◌∷◌, ◌++◌, length, map, replicate, true, All}
+use Rattle.romfs_format.specs.Extended.{Extended, is_list}
+use Rattle.romfs_format.specs.Part.{list_count, list_number, numbered, AreTables, AreLists}
 
 -- those of each row, by the bytes of the lists and the numbers of rows, and none of the rows behind
 abbrev pub lists_told : List ℕ → List ℕ → ℕ → List (List Extended)
 lists_told bytes numbers bare = map (numbered bytes) numbers ++ replicate bare []
 
--- the bytes are lists that files may have, if any row has a number, and each number is one of theirs
+-- the bytes are lists that files may have, if any row has a number, and each number is one of
+-- theirs
 pub record AreKeptLists (bytes numbers : List ℕ) : Type 0 where
   pub lists : 0 < length numbers → AreLists bytes
   pub each : All (λ n. n ≤ list_count bytes) numbers
@@ -16,3 +17,10 @@ pub record AreKeptLists (bytes numbers : List ℕ) : Type 0 where
 abbrev pub numbers_of : List ℕ → ℕ → List ℕ
 numbers_of x zero = []
 numbers_of x (suc n) = numbers_of x n ++ list_number x n ∷ []
+
+-- the list with this number among those of these bytes is one that a file may have
+pub record IsFileList (bytes : List ℕ) (number : ℕ) : Type 0 where
+  pub tables : AreTables bytes
+  pub above : 0 < number
+  pub there : number ≤ list_count bytes
+  pub right : is_list (numbered bytes number) ≡ true

@@ -1,11 +1,11 @@
 //! The extended attributes of one file.
 
-ghost use Rattle.std.specs.Prelude.{◌≡◌, ◌≤◌, [], length, slice_get, true, IfSome, MatchOption, Some};
+ghost use Rattle.std.specs.Prelude.{◌≡◌, ◌-◌, ◌≤◌, [], length, slice_get, true, IfSome, MatchOption, Some};
 ghost use Rattle.std.specs.List.{list_any};
 ghost use Rattle.std.specs.Option.{option_map};
 ghost use Rattle.romfs_format.specs.declared.limits.TheConstants.{MAX_XATTR_SIZE};
 ghost use Rattle.romfs_format.specs.Extended.{is_acl_name, is_list, value_of};
-ghost use Rattle.romfs_format.specs.Part.{list_count, numbered, AreLists};
+ghost use Rattle.romfs_format.specs.Part.{attribute_count, attributes, list_count, numbered, AreLists};
 
 use crate::attribute::is_acl_name;
 use crate::lists::Lists;
@@ -20,16 +20,16 @@ pub struct FileXattrs<'t> {
 }
 
 impl<'t> Model for FileXattrs<'t> {
-    ghost use Rattle.std.specs.Prelude.{◌≡◌, ◌≤◌, ◌<◌, List, true};
-    ghost use Rattle.romfs_format.specs.Extended.{Extended, is_list};
-    ghost use Rattle.romfs_format.specs.Part.{list_count, numbered};
+    ghost use Rattle.std.specs.Prelude.{List};
+    ghost use Rattle.romfs_format.specs.Extended.{Extended};
+    ghost use Rattle.romfs_format.specs.Part.{numbered};
+    ghost use Rattle.romfs_rows.specs.Listed.{IsFileList};
 
     ghost Value = { List Extended };
 
     ghost view = { λ held. numbered held.lists held.number };
 
-    ghost invariant = { λ held. (0 < held.number) × (held.number ≤ list_count held.lists)
-        × (is_list (numbered held.lists held.number) ≡ true) };
+    ghost invariant = { λ held. IsFileList held.lists held.number };
 }
 
 impl<'t> FileXattrs<'t> {
@@ -64,7 +64,9 @@ impl<'t> FileXattrs<'t> {
     pub fn len(&self) -> u32
         ensures { result ≡ length self.now }
     {
-        self.end() - self.first()
+        let first = self.lists.first(self.number as usize - 1);
+        let end = self.lists.first(self.number as usize);
+        end - first
     }
 
     /// The name at a position, counted from 0; none behind the last.
@@ -72,31 +74,34 @@ impl<'t> FileXattrs<'t> {
         ensures { MatchOption result (length self.now ≤ position)
             (λ name. option_map (λ x. x.name) (slice_get self.now position) ≡ Some name.now) }
     {
-        if self.len() <= position {
+        let first = self.lists.first(self.number as usize - 1);
+        let end = self.lists.first(self.number as usize);
+        if end - first <= position {
             return None;
         }
-        Some(self.lists.name(self.first() + position))
+        Some(self.lists.name(first + position))
     }
 
     /// Whether one is an access control list.
     pub fn has_acl(&self) -> bool
         ensures { result ≡ list_any (λ x. is_acl_name x.name) self.now }
     {
-        for position in 0..self.len() {
-            if self.name(position).is_some_and(is_acl_name) {
-                return true;
-            }
+        let first = self.lists.first(self.number as usize - 1);
+        let end = self.lists.first(self.number as usize);
+        has_acl(&self.lists, first, end)
+    }
+}
+
+// Whether one of some attributes is an access control list.
+fn has_acl(lists: &Lists<'_>, first: u32, end: u32) -> bool
+    requires { end ≤ attribute_count lists.now }
+    ensures { result ≡ list_any (λ x. is_acl_name x.name)
+        (attributes lists.now first (end - first)) }
+{
+    for at in first..end {
+        if is_acl_name(lists.name(at)) {
+            return true;
         }
-        false
     }
-
-    // The number of its first attribute among all.
-    fn first(&self) -> u32 {
-        self.lists.first(self.number as usize - 1)
-    }
-
-    // The number behind that of its last one.
-    fn end(&self) -> u32 {
-        self.lists.first(self.number as usize)
-    }
+    false
 }

@@ -7,8 +7,9 @@
 //! or by position. [`Lists`] lends the bytes of lists of extended attributes whose tables are in
 //! order, finds the value of an attribute by binary search ([`Lists::value_of`]), and compares an
 //! access control list with a mode ([`Lists::agrees`]); [`are_lists`] says whether bytes are lists
-//! that files may have. Their contracts use the definitions of `romfs_format` (`Part`, `Extended`,
-//! `Acls`); `specs/` has those in between (`Faults`, `Order`, `Runs`).
+//! that files may have. [`RowLists`] keeps the lists of a good trailer, each once, and lends each
+//! row's as [`FileXattrs`]. Their contracts use the definitions of `romfs_format` (`Part`,
+//! `Extended`, `Acls`); `specs/` has those in between (`Faults`, `Order`, `Runs`, `Listed`).
 #![tactic(auto)]
 
 mod acl;

@@ -99,8 +99,10 @@ impl<A: Allocator> RowLists<A> {
             (λ found. slice_index_or self.now position [] ≡ found) }
         ensures right { IfSome result (λ found. is_list found ≡ true) }
     {
-        let number = *self.numbers.get(position as usize)?;
-        FileXattrs::of(&self.bytes, number)
+        match self.numbers.get(position as usize) {
+            Some(number) => FileXattrs::of(&self.bytes, *number),
+            None => None,
+        }
     }
 }
 

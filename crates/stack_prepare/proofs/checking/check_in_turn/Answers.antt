@@ -11,8 +11,12 @@ pub loop-image-init : goal.loop-image-init
 loop-image-init g c = record {
   can_next = tt;
   is_finite = tt;
-  done = rw (c.into_iter-image-iterator.ensures.into_iter_gives.0, c.in_ok-checked.ensures.items, c.in_ok-rows.ensures.items,
-          c.in_ok-lists.ensures.items)
+  done = rw (
+    c.into_iter-image-iterator.ensures.into_iter_gives.0,
+    c.in_ok-checked.ensures.items,
+    c.in_ok-rows.ensures.items,
+    c.in_ok-lists.ensures.items,
+  )
       (none_taken c.args.profile c.args.images.items);
 }
 
