@@ -3,4 +3,4 @@ pub mod Nodes
 pub mod Noting
 pub mod Pushed
 pub mod Stamps
-pub mod Xattrs
+pub mod NodeLists

@@ -4,7 +4,7 @@ use Rattle.std.specs.List.{list_any}
 use Rattle.node_reader.specs.declared.node.Node.{Node}
 use Rattle.node_reader.specs.Xattrs.{has_acl, has_some, list_of_node, row_number}
 use Rattle.node_reader.proofs.Pushed.{one_mapped}
-use Rattle.node_reader.proofs.Xattrs.{any_more}
+use Rattle.node_reader.proofs.NodeLists.{any_more}
 use Rattle.node_reader.proofs.xattrs.found_in.Goals as goal
 
 pub loop-node-preserved : goal.loop-node-preserved

@@ -1,7 +1,7 @@
 use Rattle.std.proofs.Common.{subst}
 use Rattle.std.proofs.lemmas.List.{take_all}
 use Rattle.node_reader.specs.Xattrs.{AreBare}
-use Rattle.node_reader.proofs.Xattrs.{bare_more, none_bare}
+use Rattle.node_reader.proofs.NodeLists.{bare_more, none_bare}
 use Rattle.node_reader.proofs.xattrs.may_have_some.Goals as goal
 
 pub loop-lists-init : goal.loop-lists-init

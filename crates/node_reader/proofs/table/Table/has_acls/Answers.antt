@@ -1,5 +1,5 @@
 use Rattle.std.proofs.Common.{◌∙◌, refl}
-use Rattle.node_reader.proofs.Xattrs.{acls_have}
+use Rattle.node_reader.proofs.NodeLists.{acls_have}
 use Rattle.node_reader.proofs.table.Table.has_acls.Goals as goal
 
 pub returns : goal.returns

@@ -1,5 +1,5 @@
 use Rattle.std.proofs.Common.{◌∙◌, refl}
-use Rattle.node_reader.proofs.Xattrs.{some_has}
+use Rattle.node_reader.proofs.NodeLists.{some_has}
 use Rattle.node_reader.proofs.table.Table.has_xattrs.Goals as goal
 
 pub returns : goal.returns

@@ -1,5 +1,5 @@
 use Rattle.std.proofs.Common.{refl}
-use Rattle.node_reader.proofs.Xattrs.{told, xattrs_are, xattrs_none}
+use Rattle.node_reader.proofs.NodeLists.{told, xattrs_are, xattrs_none}
 use Rattle.node_reader.proofs.table.Table.xattrs.Goals as goal
 
 pub returns-in-Some-clause-value : goal.returns-in-Some-clause-value

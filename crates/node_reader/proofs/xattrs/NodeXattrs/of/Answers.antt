@@ -1,5 +1,5 @@
 use Rattle.std.proofs.Common.{sym, refl}
-use Rattle.node_reader.proofs.Xattrs.{nodes_bare, nodes_held}
+use Rattle.node_reader.proofs.NodeLists.{nodes_bare, nodes_held}
 use Rattle.node_reader.proofs.xattrs.NodeXattrs.of.Goals as goal
 
 pub returns-then-not-may_have_some-clause-are : goal.returns-then-not-may_have_some-clause-are

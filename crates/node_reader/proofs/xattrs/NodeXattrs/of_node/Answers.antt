@@ -1,5 +1,5 @@
 use Rattle.std.proofs.Common.{sym, ap}
-use Rattle.node_reader.proofs.Xattrs.{held_behind, none_behind, told}
+use Rattle.node_reader.proofs.NodeLists.{held_behind, none_behind, told}
 use Rattle.node_reader.proofs.xattrs.NodeXattrs.of_node.Goals as goal
 
 pub returns-in-Some-clause-value : goal.returns-in-Some-clause-value

@@ -2,10 +2,10 @@
 -- a node is what its place has (node_list, any_more, nodes_held, bare_more, nodes_bare), and so is what
 -- a table answers (xattrs_are, xattrs_none, some_has, acls_have).
 use Rattle.std.proofs.Common.{◌≡◌, ◌∙◌, sym, ap, subst, ℕ, zero, suc, ◌+◌, ◌<◌, inl, inr, List, [], ◌∷◌, length, map, take, get_or, length-take, Bool, true, false, not, Option, Some, None, MatchOption, cond, refl, arith}
-use Rattle.std.specs.Prelude.{◌==◌, ◌||◌}
+use Rattle.std.specs.Prelude.{◌==◌, ◌||◌, nat_lt}
 use Rattle.std.specs.List.{list_any, position_or_len, slice_index_or}
 use Rattle.std.specs.Option.{option_map, option_map_or}
-use Rattle.std.proofs.lemmas.Bool.{cases_order}
+use Rattle.std.proofs.lemmas.Bool.{cases_lt, cases_order, lt-ltb, le-ltb}
 use Rattle.std.proofs.lemmas.List.{get_or-take, get_or_past, get_or_default}
 use Rattle.std.proofs.lemmas.List.Folds.{list_any_more}
 use Rattle.romfs_format.specs.declared.attribute_row.AttributeRow.{AttributeRow}
@@ -28,35 +28,44 @@ use Rattle.node_reader.proofs.Stamps.{paired_is}
 abbrev behind : List (List Extended) → Bool → ℕ → List Extended
 behind ys there i = list_behind ys (option_map_or (λ position. position + 1) (cond there (Some i) None) 0)
 
-behind_suc : (ys : List Extended) (yss : List (List Extended)) (there : Bool) (i : ℕ)
-    → behind (ys ∷ yss) there (suc i) ≡ behind yss there i
-behind_suc ys yss true i =
-    let e : suc i + 1 ≡ suc (suc i) = omega arith in
-    let f : i + 1 ≡ suc i = omega arith in
-    rw (e, f) refl
-behind_suc ys yss false i = refl
-
 behind_none : (there : Bool) (i : ℕ) → behind [] there i ≡ []
 behind_none true i = let f : i + 1 ≡ suc i = omega arith in rw f refl
 behind_none false i = refl
 
+-- behind a row that is not the one, positions are one higher
+behind_more : (ys : List Extended) (yss : List (List Extended)) (k n : ℕ)
+    → behind (ys ∷ yss) (nat_lt (1 + k) (suc n)) (1 + k) ≡ behind yss (nat_lt k n) k
+behind_more ys yss k n = elim (cases_lt k n) [
+  | inl l ↦ (
+      let a = lt-ltb (1 + k) (suc n) (omega arith) in
+      let b = lt-ltb k n l in
+      let e : 1 + k + 1 ≡ suc (suc k) = omega arith in
+      let f : k + 1 ≡ suc k = omega arith in
+      rw (a, b, e, f) refl)
+  | inr l ↦ (
+      let a = le-ltb (1 + k) (suc n) (omega arith) in
+      let b = le-ltb k n l in
+      rw (a, b) refl)
+]
+
+-- the first row is the one, or it is among the others
+first_or : (b : Bool) (ys : List Extended) (yss : List (List Extended)) (k n : ℕ) (rest : List Extended)
+    → rest ≡ behind yss (nat_lt k n) k
+    → cond b ys rest ≡ behind (ys ∷ yss) (nat_lt (cond (not b) (1 + k) 0) (suc n)) (cond (not b) (1 + k) 0)
+first_or true ys yss k n rest h = let a = lt-ltb 0 (suc n) (omega arith) in rw a refl
+first_or false ys yss k n rest h = h ∙ sym (behind_more ys yss k n)
+
 module _ (p : ℕ) where
   abbrev is_for : AttributeRow → Bool
   is_for row = row.place == p
-
-  step : (x : AttributeRow) (xs : List AttributeRow) (ys : List Extended) (yss : List (List Extended)) (b : Bool) → is_for x ≡ b
-      → list_at xs yss p ≡ list_behind yss (option_map_or (λ position. position + 1) (position_at xs p) 0)
-      → list_at (x ∷ xs) (ys ∷ yss) p
-      ≡ list_behind (ys ∷ yss) (option_map_or (λ position. position + 1) (position_at (x ∷ xs) p) 0)
-  step x xs ys yss true e h = rw e refl
-  step x xs ys yss false e h = rw e (h ∙ sym (behind_suc ys yss _ (position_or_len is_for xs)))
 
   -- the list of a place is that behind the position of its row
   pub list_is : (xs : List AttributeRow) (yss : List (List Extended))
       → list_at xs yss p ≡ list_behind yss (option_map_or (λ position. position + 1) (position_at xs p) 0)
   list_is [] yss = refl
   list_is (x ∷ xs) [] = sym (behind_none _ (position_or_len is_for (x ∷ xs)))
-  list_is (x ∷ xs) (ys ∷ yss) = step x xs ys yss (is_for x) refl (list_is xs yss)
+  list_is (x ∷ xs) (ys ∷ yss) =
+      first_or (is_for x) ys yss (position_or_len is_for xs) (length xs) (list_at xs yss p) (list_is xs yss)
 
 module _ (rows : List (List AttributeRow)) (lists : List (List (List Extended))) where
   -- what is held of a node is what its place has
@@ -80,7 +89,7 @@ module _ (rows : List (List AttributeRow)) (lists : List (List (List Extended)))
   pub nodes_held : (held : List Node) (x : HeldXattrs) → x.lists ≡ lists → x.positions ≡ map (row_number rows) held
       → x.some ≡ list_any (λ node. has_some (list_of_node rows lists node)) held
       → x.acls ≡ list_any (λ node. has_acl (list_of_node rows lists node)) held → AreXattrsOf rows held x
-  nodes_held held x is at some acls = record {
+  nodes_held held x is found some acls = record {
     each = each;
     some_are = some ∙ ap (λ l. list_any (λ node. has_some (list_of_node rows l node)) held) (sym is);
     acls_are = acls ∙ ap (λ l. list_any (λ node. has_acl (list_of_node rows l node)) held) (sym is);
@@ -89,7 +98,7 @@ module _ (rows : List (List AttributeRow)) (lists : List (List (List Extended)))
       each : (n : ℕ) (node : Node) → held_at held n ≡ Some node → xattrs_held x n node ≡ list_of_node rows x.lists node
       each n node e =
           let number : held_at x.positions n ≡ Some (row_number rows node) =
-          ap (λ ps. held_at ps n) at ∙ held_map (row_number rows) held n ∙ ap (option_map (row_number rows)) e in
+          ap (λ ps. held_at ps n) found ∙ held_map (row_number rows) held n ∙ ap (option_map (row_number rows)) e in
           rw (number, is) (node_list node)
 
   -- where no row has a list, no node has one
@@ -107,15 +116,15 @@ module _ (rows : List (List AttributeRow)) (lists : List (List (List Extended)))
 
   pub nodes_bare : (held : List Node) (x : HeldXattrs) → x.lists ≡ lists → AreBare lists → x.positions ≡ [] → x.some ≡ false
       → x.acls ≡ false → AreXattrsOf rows held x
-  nodes_bare held x is bare at some acls = record {
-    each = λ n node e. rw (at, none n, is) (sym (bare_list bare node));
+  nodes_bare held x is bare empty some acls = record {
+    each = λ n node e. rw (empty, none n, is) (sym (bare_list bare node));
     some_are = some ∙ sym (none_any has_some refl bare held)
         ∙ ap (λ l. list_any (λ node. has_some (list_of_node rows l node)) held) (sym is);
     acls_are = acls ∙ sym (none_any has_acl refl bare held)
         ∙ ap (λ l. list_any (λ node. has_acl (list_of_node rows l node)) held) (sym is);
   }
     where
-      none : (n : ℕ) → held_at {ℕ} [] n ≡ None
+      none : (n : ℕ) → held_at {A = ℕ} [] n ≡ None
       none zero = refl
       none (suc n) = refl
 
