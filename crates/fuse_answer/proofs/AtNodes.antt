@@ -18,17 +18,18 @@ pub not_served : (stack : Stacked) (agreed : Agreement) (q : Asked) → asks_xat
     → refusal_in stack false agreed q.node q.op ≡ Some ENOSYS
 not_served stack agreed q a h = rw (no_init q.op a, a, h) refl
 
+still_served : (stack : Stacked) (q : Asked) (op : NodeOp) → q.op ≡ at_node op → is_unserved stack q.op ≡ false
+    → is_unserved stack (at_node op) ≡ false
+still_served stack q op e u = rw e at u
+
 module _ {A : Type 0} (stack : Stacked) (agreed : Agreement) (q : Asked) (op : NodeOp) (e : q.op ≡ at_node op)
     (u : is_unserved stack q.op ≡ false) where
-  served : is_unserved stack (at_node op) ≡ false
-  served = rw e at u
-
   answered : (a : Answer A) (o : Option Place) → node_of stack.entries q.node ≡ o
       → MatchOption o (◌≡◌ {A = Result (Answer A) Errno} (Ok a) (Err ESTALE)) (λ p. IsAnswerAt stack agreed op p a)
       → IsAnswer stack false agreed q a
   answered a None f d = absurd (cc)
   answered a (Some p) f d = record {
-    taken = rw (e, served, f, d.taken) refl;
+    taken = rw (e, still_served stack q op e u, f, d.taken) refl;
     data_is = rw (e, f) d.data_is;
     reads_are = λ sources. rw (e, f) (d.reads_are sources);
     sized = d.sized;
@@ -38,8 +39,8 @@ module _ {A : Type 0} (stack : Stacked) (agreed : Agreement) (q : Asked) (op : N
   refused : (r : Result (Answer A) Errno) (errno : Errno) → r ≡ Err errno → (o : Option Place) → node_of stack.entries q.node ≡ o
       → MatchOption o (r ≡ Err ESTALE) (λ p. refused_at stack agreed op p ≡ Some errno)
       → refusal_in stack false agreed q.node q.op ≡ Some errno
-  refused r errno is None f d = rw (e, served, f) (cc)
-  refused r errno is (Some p) f d = rw (e, served, f, d) refl
+  refused r errno is None f d = rw (e, still_served stack q op e u, f) (cc)
+  refused r errno is (Some p) f d = rw (e, still_served stack q op e u, f, d) refl
 
   pub decided_at : (result : Result (Answer A) Errno) → DecidesAt stack agreed q.node op result → DecidesIn stack false agreed q result
   decided_at (Ok a) d = answered a (node_of stack.entries q.node) refl d

@@ -9,4 +9,3 @@ pub mod Writing
 pub mod Moving
 pub mod Reading
 pub mod NamesSaid
-pub mod Valued

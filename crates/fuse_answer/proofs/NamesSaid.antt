@@ -1,8 +1,8 @@
 -- Names of a file's extended attributes, one after another: those before a position and the one there are those before the next
 -- (`said_next`); after the last they are all (`said_all`). None of them are more bytes than all (`said_less`), and those are few
 -- (`said_few`). What is answered of one attribute: its name with a zero byte, or nothing (`name_said`, `name_kept`, `none_said`).
-use Rattle.std.proofs.Common.{◌≡◌, ◌∙◌, sym, ap, ℕ, zero, suc, ◌+◌, ◌≤◌, List, [], ◌∷◌, ◌++◌, length, take, drop, Bool, true, false, cond, Option, Some, None, IsTrue, refl, arith, append_assoc, length-append}
-use Rattle.std.specs.Prelude.{slice_get, filter, not, ◌&&◌}
+use Rattle.std.proofs.Common.{◌≡◌, ◌∙◌, sym, ap, ℕ, zero, suc, ◌+◌, ◌≤◌, List, [], ◌∷◌, ◌++◌, length, take, drop, Bool, true, false, cond, Option, Some, None, refl, arith, append_assoc, length-append}
+use Rattle.std.specs.Prelude.{slice_get, not, ◌&&◌}
 use Rattle.std.specs.List.{list_all}
 use Rattle.std.specs.Option.{option_map, option_to_list}
 use Rattle.std.proofs.lemmas.Bool.{and_parts, leb-true}
@@ -10,18 +10,21 @@ use Rattle.std.proofs.lemmas.List.{take-append-drop, take_all}
 use Rattle.std.proofs.lemmas.List.Elements.{filter-append}
 use Rattle.std.proofs.lemmas.Option.{slice_get_past}
 use Rattle.romfs_format.specs.declared.limits.TheConstants.{MAX_XATTR_LIST_SIZE}
-use Rattle.romfs_format.specs.Extended.{Extended, is_acl_name, is_extended, is_list, names_of, names_rise}
+use Rattle.romfs_format.specs.Extended.{Extended, is_acl_name, is_extended, names_of, names_rise}
 use Rattle.reply_model.specs.Xattrs.{xattrs_told}
 use Rattle.reply_model.proofs.Xattrs.{told_no_longer}
 use Rattle.fuse_answer.specs.declared.outcome.Names.{Names}
 use Rattle.fuse_answer.specs.Names.{list_of, AreAllowed, names_said, said_before, said_at}
 
 -- one more of a list
+take_suc : (xs : List Extended) (n : ℕ) → take (suc n) xs ≡ take n xs ++ option_to_list (slice_get xs n)
+take_suc [] zero = refl
+take_suc [] (suc n) = refl
+take_suc (x ∷ xs) zero = refl
+take_suc (x ∷ xs) (suc n) = ap (λ r. x ∷ r) (take_suc xs n)
+
 take_next : (xs : List Extended) (n : ℕ) → take (n + 1) xs ≡ take n xs ++ option_to_list (slice_get xs n)
-take_next [] zero = refl
-take_next [] (suc n) = refl
-take_next (x ∷ xs) zero = refl
-take_next (x ∷ xs) (suc n) = ap (λ r. x ∷ r) (take_next xs n)
+take_next xs n = let e : n + 1 ≡ suc n = omega arith in ap (λ k. take k xs) e ∙ take_suc xs n
 
 names_append : (xs ys : List Extended) → names_of (xs ++ ys) ≡ names_of xs ++ names_of ys
 names_append [] ys = refl

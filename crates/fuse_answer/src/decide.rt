@@ -1,7 +1,7 @@
 //! Which answer a request has, or which refusal: the first that fits, in the order of the
 //! protocol's layers.
 
-ghost use Rattle.std.specs.Prelude.{true, false};
+ghost use Rattle.std.specs.Prelude.{◌≡◌, true, false};
 ghost use Rattle.fuse_wire.specs.Reads.{asked_of, op_said};
 ghost use Rattle.reply_model.specs.Refusals.{asks_xattrs, is_unserved};
 ghost use Rattle.fuse_answer.specs.Answers.{Decides, DecidesIn};

@@ -3,10 +3,10 @@
 use Rattle.std.proofs.Common.{◌≡◌, ◌≢◌, ◌∙◌, sym, ap, ℕ, ◌+◌, ◌≤◌, List, [], ◌∷◌, length, Bool, true, false, Option, Some, None, cond, refl, arith}
 use Rattle.std.specs.Prelude.{◌↔◌, not, ◌&&◌, ◌||◌, ◌==◌}
 use Rattle.std.specs.Option.{option_map_or}
-use Rattle.std.proofs.lemmas.Bool.{false≢true, eqb-true}
+use Rattle.std.proofs.lemmas.Bool.{eqb-true}
 use Rattle.romfs_format.specs.Extended.{is_acl_name, value_of}
 use Rattle.fuse_wire.specs.declared.errno.Errno.{Errno}
-use Rattle.fuse_wire.specs.declared.errno.Errno.TheVariants.{EIO, EINVAL, ERANGE, ENODATA, EOPNOTSUPP, ENOSYS, ESTALE}
+use Rattle.fuse_wire.specs.declared.errno.Errno.TheVariants.{ERANGE, ENODATA, EOPNOTSUPP, ENOSYS, ESTALE}
 use Rattle.fuse_wire.specs.declared.limits.TheConstants.{OUT_HEADER_SIZE}
 use Rattle.fuse_wire.specs.Requests.{NodeOp, Op, Asked, at_node, getxattr, listxattr, malformed}
 use Rattle.fuse_wire.specs.Replies.{reply_with, error_reply}
@@ -17,11 +17,11 @@ use Rattle.stack_model.specs.Attributes.{has_xattrs, xattrs_of}
 use Rattle.reply_model.specs.declared.session.Agreement.{Agreement}
 use Rattle.reply_model.specs.declared.session.Session.{Session}
 use Rattle.reply_model.specs.Sessions.{is_fresh, agreement_of}
-use Rattle.reply_model.specs.Xattrs.{refused_size, refused_xattr}
-use Rattle.reply_model.specs.Services.{refuse_if, serves_acls, names_told}
+use Rattle.reply_model.specs.Xattrs.{refused_size}
+use Rattle.reply_model.specs.Services.{serves_acls, names_told}
 use Rattle.reply_model.specs.Refusals.{first_refusal, asks_xattrs, is_init, refused_at, refused_by_op, refusal}
 use Rattle.reply_model.specs.Replies.{answer_at, answer, reply}
-use Rattle.reply_model.proofs.Refused.{both_none, node_found, not_by_op}
+use Rattle.reply_model.proofs.Refused.{node_found, not_by_op}
 use Rattle.reply_model.proofs.Xattrs.{sized_fits, value_fits}
 
 -- such a request is no INIT

@@ -1,15 +1,14 @@
 -- Extended attributes that a client gets: they are short if their list is one that a file may have (short_value, short_names); an answer
 -- fits in the size (value_fits, names_fit); and a name is listed exactly if its value is answered (listed).
-use Rattle.std.proofs.Common.{◌≡◌, ◌≢◌, ◌∙◌, sym, ap, ℕ, zero, suc, ◌+◌, ◌<◌, ◌≤◌, List, [], ◌∷◌, ◌++◌, length, filter, Bool, true, false, Option, Some, None, cond, refl, arith, length-append}
-use Rattle.std.specs.Prelude.{◌↔◌, IsTrue, nat_lt, nat_le, nat_eq, not, ◌&&◌, ◌||◌, ◌==◌, bytes_eq, is_some}
-use Rattle.std.specs.List.{list_all, list_any}
+use Rattle.std.proofs.Common.{◌≡◌, ◌≢◌, ◌∙◌, sym, ap, ℕ, ◌+◌, ◌≤◌, List, [], ◌∷◌, ◌++◌, length, Bool, true, false, Option, Some, None, cond, refl, arith, length-append}
+use Rattle.std.specs.Prelude.{◌↔◌, IsTrue, nat_lt, not, ◌&&◌, ◌||◌, ◌==◌, bytes_eq, is_some}
+use Rattle.std.specs.List.{list_all}
 use Rattle.std.specs.Option.{option_map_or}
-use Rattle.std.proofs.lemmas.Bool.{and_parts, ltb-false, leb-true, eq-eqb, eqb-true, false≢true}
+use Rattle.std.proofs.lemmas.Bool.{and_parts, ltb-false, leb-true, eqb-true, false≢true}
 use Rattle.std.proofs.lemmas.Slice.Eq.{bytes_eq-Decides}
-use Rattle.romfs_format.specs.declared.limits.TheConstants.{MAX_XATTR_SIZE, MAX_XATTR_LIST_SIZE}
+use Rattle.romfs_format.specs.declared.limits.TheConstants.{MAX_XATTR_SIZE}
 use Rattle.romfs_format.specs.Extended.{Extended, is_acl_name, is_extended, is_list, names_of, names_rise, value_of}
 use Rattle.romfs_format.proofs.Values.{values_short}
-use Rattle.fuse_wire.specs.declared.errno.Errno.{Errno}
 use Rattle.fuse_wire.specs.declared.errno.Errno.TheVariants.{ERANGE, ENODATA, EOPNOTSUPP}
 use Rattle.fuse_wire.specs.declared.limits.TheConstants.{MAX_DATA_SIZE}
 use Rattle.fuse_wire.specs.Structures.{getxattr_out}

@@ -28,9 +28,9 @@ told_of_opening need_not unique flags =
     if need_not then error_reply unique ENOSYS else reply_with unique (open_out flags)
 
 -- the usual and the lasting reply to a request, over a tree with access control lists or without:
--- INIT is answered other terms; that LOOKUP finds no
--- entry is an entry of no node; OPEN and OPENDIR are answered that the client need not ask, or
--- OPENDIR other flags; and FLUSH that it need not ask. Every other reply is the same
+-- INIT is answered other terms; that LOOKUP finds no entry is an entry of no node; OPEN and OPENDIR
+-- are answered that the client need not ask, or OPENDIR other flags; and FLUSH that it need not ask.
+-- Every other reply is the same
 abbrev pub LastsAs : Bool → Agreement → ℕ → Op → List ℕ → List ℕ → Type 0
 LastsAs acls agreed unique (init major minor readahead flags) usual lasting =
     Becomes (reply_with unique (init_out (Terms false acls minor readahead flags)))

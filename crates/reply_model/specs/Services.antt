@@ -12,7 +12,7 @@ use Rattle.fuse_wire.specs.Requests.{NodeOp, lookup, getattr, readlink, open_fil
 use Rattle.fuse_wire.specs.Structures.{entry_out, negative_entry_out, attr_out, open_out}
 use Rattle.stack_model.specs.Listing.{Stacked}
 use Rattle.stack_model.specs.Numbers.{Place, number}
-use Rattle.romfs_format.specs.Extended.{Extended, names_of}
+use Rattle.romfs_format.specs.Extended.{names_of}
 use Rattle.stack_model.specs.Attributes.{is_directory, data_of, attr_of, xattrs_of, has_acls}
 use Rattle.reply_model.specs.declared.moves.Move.{Move}
 use Rattle.reply_model.specs.declared.session.Agreement.{Agreement}

@@ -1,12 +1,11 @@
 -- Worked examples of requests for extended attributes, over the sample image of `Examples`.
-use Rattle.std.specs.Prelude.{◌≡◌, ℕ, List, [], ◌∷◌, ◌++◌, length, take, drop, Bool, true, false, codes}
+use Rattle.std.specs.Prelude.{◌≡◌, ℕ, List, [], ◌∷◌, ◌++◌, take, drop, Bool, true, false, codes}
 use Rattle.romfs_format.specs.declared.attribute_row.AttributeRow.{AttributeRow}
 use Rattle.romfs_format.specs.Extended.{Extended, access_name, default_name}
 use Rattle.romfs_format.specs.ExtendedExamples.{named, named_acl}
 use Rattle.fuse_wire.specs.Requests.{asked}
 use Rattle.fuse_wire.specs.Structures.{u32, zeros}
 use Rattle.stack_model.specs.Listing.{Stacked}
-use Rattle.reply_model.specs.declared.session.Session.{Session}
 use Rattle.reply_model.specs.declared.session.Session.TheVariants.{Fresh, Ready, LastingReady}
 use Rattle.reply_model.specs.Replies.{reply}
 use Rattle.reply_model.specs.Examples.{sample_stack, request, init_in, refused, headed, over_empty, over_sample}

@@ -1,8 +1,8 @@
 -- linux/fuse.h, FUSE_GETXATTR and FUSE_LISTXATTR, and xattr(7): what of a node's extended attributes
 -- a client gets.
-use Rattle.std.specs.Prelude.{ℕ, List, [], filter, length, Bool, false, true, not, ◌==◌, ◌&&◌, nat_lt, Option, Some, None, if◌then◌else◌}
+use Rattle.std.specs.Prelude.{ℕ, List, [], filter, length, Bool, not, ◌==◌, ◌&&◌, nat_lt, Option, Some, None, if◌then◌else◌}
 use Rattle.std.specs.Option.{option_map_or}
-use Rattle.romfs_format.specs.Extended.{Extended, is_acl_name, names_of, value_of}
+use Rattle.romfs_format.specs.Extended.{Extended, is_acl_name, value_of}
 use Rattle.fuse_wire.specs.declared.errno.Errno.{Errno}
 use Rattle.fuse_wire.specs.declared.errno.Errno.TheVariants.{ERANGE, ENODATA, EOPNOTSUPP}
 use Rattle.fuse_wire.specs.Structures.{getxattr_out}
