@@ -3,6 +3,7 @@ pub mod Collecting
 pub mod Joining
 pub mod Reading
 pub mod Visits
+pub mod Noting
 pub mod Walks
 pub mod Alike
 pub mod Likeness

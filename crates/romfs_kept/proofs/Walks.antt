@@ -1,20 +1,14 @@
--- A walk over headers: each place that was noted waits or is done. A turn keeps this (under_turn), each
--- turn takes one from what may still be noted and waits (few_places), and with nothing left to wait what
+-- A walk over headers: each place inside that was noted waits or is done. A turn keeps this (under_turn),
+-- each turn takes one from what may still be noted and waits (smaller), and with nothing left to wait what
 -- was kept is closed (gathered).
-use Rattle.std.proofs.Common.{◌≡◌, ◌≢◌, ◌∙◌, sym, ap, subst, ℕ, zero, suc, ◌+◌, ◌-◌, ◌*◌, ◌/◌, ◌%◌, ◌^◌, ◌<◌, ◌≤◌, ◌==◌, ◌⊎◌, inl, inr, min, List, [], ◌∷◌, ◌++◌, length, take, drop, get_or, Bool, IsTrue, true, false, ◌||◌, if◌then◌else◌, Option, Some, None, refl, arith, length-take, length-take-le, length-drop}
+use Rattle.std.proofs.Common.{◌≡◌, ◌≢◌, ◌∙◌, sym, ap, subst, ℕ, zero, suc, ◌+◌, ◌-◌, ◌*◌, ◌/◌, ◌%◌, ◌^◌, ◌<◌, ◌≤◌, ◌==◌, ◌⊎◌, inl, inr, min, List, [], ◌∷◌, ◌++◌, length, take, drop, get_or, Bool, IsTrue, true, if◌then◌else◌, Option, Some, None, refl, arith, length-take, length-take-le, length-drop}
 use Rattle.std.specs.Prelude.{nat_le}
 use Rattle.std.specs.Option.{option_map_or}
 use Rattle.std.specs.List.{Contains}
-use Rattle.std.specs.List.Sorted.{IsStrictlySortedBy}
-use Rattle.std.specs.List.{list_any}
-use Rattle.std.specs.BTreeMap.{is_at}
-use Rattle.std.specs.BTreeSet.{BTreeSet, contains, IsOrdered}
-use Rattle.std.specs.Ordering.{nat_cmp, is_eq}
-use Rattle.std.proofs.lemmas.Map.Keys.{below_from_sorted}
 use Rattle.std.proofs.lemmas.Bool.{cases_lt}
 use Rattle.std.proofs.lemmas.Bool.Decides.{nat_tests}
 use Rattle.std.proofs.lemmas.List.{get_or-take, get_or-drop, get_or_past}
-use Rattle.std.proofs.lemmas.List.Elements.{Contains-append_left, Contains-push_cases}
+use Rattle.std.proofs.lemmas.List.Elements.{Contains-append_left, Contains-push, Contains-push_cases}
 use Rattle.romfs_format.specs.declared.head.Kind.TheVariants.{Directory, HardLink}
 use Rattle.romfs_format.specs.declared.limits.TheConstants.{HEAD_SIZE}
 use Rattle.romfs_format.specs.Fields.{word, root, IsInside, kind_of, kind, next, spec, cleared, text_end, text_at}
@@ -105,48 +99,13 @@ front_added s size root_at front old new w e r a f = record {
     none : (b : List ℕ) → AreRight (take size b) []
     none b = record { each = λ x c. absurd (let l = c.1 in omega arith) }
 
--- places of headers are multiples of 16 that fit a word, so there are few
-pub record IsPlace (h : ℕ) : Type 0 where
-  pub even : h % 16 ≡ 0
-  pub small : h < 2 ^ 32
+-- places of headers are multiples of 16
+abbrev pub IsPlace : ℕ → Type 0
+IsPlace h = h % 16 ≡ 0
 
-pub few_places : (keys : List ℕ) → IsStrictlySortedBy nat_cmp keys → ((i : ℕ) → i < length keys → IsPlace (get_or keys i 0))
-    → length keys ≤ 2 ^ 28
-few_places keys s p = elim (cases_lt (2 ^ 28) (length keys)) [
-  | inl l ↦ absurd (let a = at (2 ^ 28) l in let b = (p (2 ^ 28) l).small in omega arith)
-  | inr l ↦ l
-]
-  where
-    at : (k : ℕ) → k < length keys → 16 * k ≤ get_or keys k 0
-    at zero l = omega arith
-    at (suc k) l =
-        let a = at k (omega arith) in
-        let b = below_from_sorted keys k (suc k) 0 s (omega arith) l in
-        let c = (p k (omega arith)).even in
-        let d = (p (suc k) l).even in
-        omega arith
-
-or_true : (b : Bool) → (b || true) ≡ true
-or_true true = refl
-or_true false = refl
-
-any_at : (test : ℕ → Bool) (keys : List ℕ) (i : ℕ) → i < length keys → test (get_or keys i 0) ≡ true → list_any test keys ≡ true
-any_at test [] i l e = absurd (omega arith)
-any_at test (k ∷ ks) zero l e = ap (λ b. b || list_any test ks) e
-any_at test (k ∷ ks) (suc i) l e = ap (λ b. test k || b) (any_at test ks i (omega arith) e) ∙ or_true (test k)
-
-equal_itself : (k : ℕ) → is_eq (nat_cmp k k) ≡ true
-equal_itself k = grind (arith, nat_tests)
-
--- so few places are noted
-pub few_noted : (noted : BTreeSet ℕ) → IsOrdered nat_cmp noted → ((h : ℕ) → IsTrue (contains nat_cmp noted h) → IsPlace h)
-    → length noted.keys ≤ 2 ^ 28
-few_noted noted s p = few_places noted.keys s (λ i l.
-    p (get_or noted.keys i 0) (any_at (is_at (nat_cmp (get_or noted.keys i 0))) noted.keys i l (equal_itself (get_or noted.keys i 0))))
-
-pub smaller : (len more most before todo mid after : ℕ) → before ≡ todo + 1 → mid + len ≡ todo + more → after + more ≡ mid + most
-    → len ≤ more → more ≤ most → most ≤ 2 ^ 28 → 2 ^ 28 - most + after < 2 ^ 28 - len + before
-smaller len more most before todo mid after a b c d e f = omega arith
+pub smaller : (left less least before todo mid after : ℕ) → before ≡ todo + 1 → mid + less ≡ todo + left → after + least ≡ mid + less
+    → least + after < left + before
+smaller left less least before todo mid after a b c = omega arith
 
 still_text : (xs : List ℕ) (old new : List Piece) (p : ℕ) → ((b : ℕ) → HasBlock old b → HasBlock new b) → HasText old xs p
     → HasText new xs p
@@ -197,8 +156,8 @@ module _ (start at end : ℕ) (old new : List Piece) (before todo mid after : Li
       to_spec = λ g. two.stays _ (one.stays _ (d.to_spec g));
     }
 
-    from_old : (h : ℕ) → IsTrue (noted h) → Contains after h ⊎ IsDone xs new most h
-    from_old h s = elim (w.each h s) [
+    from_old : (h : ℕ) → IsTrue (noted h) → h < length xs → Contains after h ⊎ IsDone xs new most h
+    from_old h s l = elim (w.each h s l) [
       | inl c ↦ elim (Contains-push_cases todo at h (subst (λ l. Contains l h) popped c)) [
         | inl d ↦ inl (two.grown h (one.grown h d))
         | inr e ↦ inr (subst (λ k. IsDone xs new most k) e done_at)
@@ -211,9 +170,9 @@ module _ (start at end : ℕ) (old new : List Piece) (before todo mid after : Li
       right = v.right w.right;
       front = λ i l. v.stays i (w.front i l);
       at_root = two.stays _ (one.stays _ w.at_root);
-      each = λ h s. elim (two.only h s) [
+      each = λ h s l. elim (two.only h s) [
         | inl m ↦ elim (one.only h m) [
-          | inl o ↦ from_old h o
+          | inl o ↦ from_old h o l
           | inr e ↦ inl (two.grown h e.1)
         ]
         | inr e ↦ inl e.1
@@ -229,15 +188,7 @@ module _ (start at end : ℕ) (old new : List Piece) (before todo mid after : Li
     );
   }
 
--- the places that wait or are noted stay places
-pub places_turn : (old new : ℕ → Bool) (todo more : List ℕ) (test : Bool) (place : ℕ) → HasPushed todo more old new test place
-    → IsPlace place
-    → ((h : ℕ) → IsTrue (old h) → IsPlace h) → (h : ℕ) → IsTrue (new h) → IsPlace h
-places_turn old new todo more test place p is o h s = elim (p.only h s) [
-  | inl x ↦ o h x
-  | inr e ↦ subst (λ k. IsPlace k) (sym e.0) is
-]
-
+-- the places that wait stay places
 pub waiting_turn : (old new : ℕ → Bool) (todo more : List ℕ) (test : Bool) (place : ℕ) → HasPushed todo more old new test place
     → IsPlace place
     → ((h : ℕ) → Contains todo h → IsPlace h) → (h : ℕ) → Contains more h → IsPlace h
@@ -250,11 +201,14 @@ pub waiting_popped : (before todo : List ℕ) (at : ℕ) → before ≡ todo ++ 
     → (h : ℕ) → Contains todo h → IsPlace h
 waiting_popped before todo at e w h c = w h (subst (λ l. Contains l h) (sym e) (Contains-append_left todo (at ∷ []) h c))
 
-pub cleared_place : (n : ℕ) → n < 2 ^ 32 → IsPlace (cleared n)
-cleared_place n l = record { even = omega arith; small = omega arith }
+pub popped_place : (before todo : List ℕ) (at : ℕ) → before ≡ todo ++ at ∷ [] → ((h : ℕ) → Contains before h → IsPlace h) → IsPlace at
+popped_place before todo at e w = w at (subst (λ l. Contains l at) (sym e) (Contains-push todo at))
+
+pub cleared_place : (n : ℕ) → IsPlace (cleared n)
+cleared_place n = omega arith
 
 pub under_start : (s : Source) (end start : ℕ) (pieces : List Piece) (none todo : List ℕ) (noted more : ℕ → Bool)
-    → HasFront s end start pieces → ((h : ℕ) → IsTrue (noted h) → ⊥) → HasPushed none todo noted more true start
+    → HasFront s end start pieces → ((h : ℕ) → IsTrue (noted h) → h < end → ⊥) → HasPushed none todo noted more true start
     → IsUnderWay s end start pieces todo more
 under_start s end start pieces none todo noted more f n p = record {
   each = λ b v. (
@@ -263,13 +217,18 @@ under_start s end start pieces none todo noted more f n p = record {
       right = (f.each b v).right;
       front = (f.each b v).has;
       at_root = subst (λ h. IsTrue (more h)) (f.each b v).is (p.has refl);
-      each = λ h q. elim (p.only h q) [
-        | inl x ↦ absurd (n h x)
+      each = λ h q l. elim (p.only h q) [
+        | inl x ↦ absurd (n h x (let t = length-take end b in omega arith))
         | inr e ↦ inl e.1
       ];
     },
   );
 }
+
+-- behind the end there are zeros
+word_past : (xs : List ℕ) (p : ℕ) → length xs ≤ p → word xs p ≡ 0
+unfolding word
+word_past xs p l = word_same xs [] p 0 (λ i m. get_or_past xs (p + i) 0 (omega arith)) ∙ refl
 
 same_byte : (x y : ℕ) → x ≡ y → IsTrue (x == y)
 same_byte x y e = grind (arith, nat_tests)
@@ -279,8 +238,8 @@ module _ (xs a : List ℕ) (pieces : List Piece) (noted : ℕ → Bool) (size : 
   kept_at : (p : ℕ) → p < length xs → HasBlock pieces (p / 16) → IsTrue (is_same xs a p)
   kept_at p l h = same_byte _ _ (sym (filled.same xs w.right p (omega arith) h))
 
-  done : (h : ℕ) → IsTrue (noted h) → IsDone xs pieces noted h
-  done h s = elim (w.each h s) [
+  done : (h : ℕ) → IsTrue (noted h) → h < length xs → IsDone xs pieces noted h
+  done h s l = elim (w.each h s l) [
     | inl c ↦ absurd (let l = c.1 in omega arith)
     | inr d ↦ d
   ]
@@ -289,17 +248,25 @@ module _ (xs a : List ℕ) (pieces : List Piece) (noted : ℕ → Bool) (size : 
   down h (inl f) = inl f
   down h (inr k) = inr (k.0, inl k.1)
 
+  -- a header outside leads nowhere
+  first : (h : ℕ) → IsTrue (noted h) → (h ≡ root xs) ⊎ (IsInside xs h × (kind xs h ≡ Directory)) → cleared (spec xs h) ≢ 0
+      → IsTrue (noted (cleared (spec xs h)))
+  first h s d n = elim (cases_lt h (length xs)) [
+    | inl l ↦ (done h s l).to_spec (down h d)
+    | inr l ↦ absurd (n (let z = word_past xs (h + 4) (omega arith) in omega arith))
+  ]
+
   closed : IsClosed (is_same xs a) noted xs
   closed = record {
     front = λ p l m. kept_at p m (w.front (p / 16) (omega arith));
     at_root = w.at_root;
     head = λ h i s l m. kept_at (h + i) m (subst (λ q. HasBlock pieces q)
-        (let e = even h s in let z : h / 16 ≡ (h + i) / 16 = omega arith in z) ((done h s).head));
-    text = λ h s. record { each = λ i l m n. kept_at (h + 16 + i) m ((done h s).text.each i l m n) };
-    target = λ h s. record { each = λ k l n e i m o. kept_at _ o ((done h s).target.each k l n e i m o) };
-    to_next = λ h s i n. (done h s).to_next i n;
-    to_first = λ h s d n. (done h s).to_spec (down h d);
-    to_link = λ h s i k. (done h s).to_spec (inr (i, inr k));
+        (let e = even h s in let z : h / 16 ≡ (h + i) / 16 = omega arith in z) ((done h s (omega arith)).head));
+    text = λ h s. record { each = λ i l m n. kept_at (h + 16 + i) m ((done h s (omega arith)).text.each i l m n) };
+    target = λ h s. record { each = λ k l n e i m o. kept_at _ o ((done h s (omega arith)).target.each k l n e i m o) };
+    to_next = λ h s i n. (done h s (omega (arith, i.1))).to_next i n;
+    to_first = λ h s d n. first h s d n;
+    to_link = λ h s i k. (done h s (omega (arith, i.1))).to_spec (inr (i, inr k));
   }
 
 pub gathered : (s : Source) (size : ℕ) (pieces : List Piece) (a : List ℕ) → AreWithin s size → IsReach s size

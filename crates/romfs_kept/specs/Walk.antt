@@ -1,5 +1,5 @@
 -- A walk over the headers of an image: what it has added, and what it has still to look at.
-use Rattle.std.specs.Prelude.{◌≡◌, ◌≢◌, ℕ, ◌+◌, ◌*◌, ◌/◌, ◌%◌, ◌<◌, ◌≤◌, ◌⊎◌, List, [], length, take, get_or, Bool, IsTrue, Some, Contains}
+use Rattle.std.specs.Prelude.{◌≡◌, ◌≢◌, ℕ, ◌+◌, ◌*◌, ◌/◌, ◌%◌, ◌<◌, ◌≤◌, ◌==◌, ◌&&◌, ◌||◌, ◌⊎◌, List, [], length, take, get_or, Bool, false, nat_le, IsTrue, Some, Contains}
 use Rattle.devices.specs.Sources.{Source, IfShown}
 use Rattle.romfs_format.specs.declared.head.Kind.TheVariants.{Directory, HardLink, SymLink}
 use Rattle.romfs_format.specs.declared.limits.TheConstants.{MAX_TARGET_SIZE}
@@ -56,6 +56,10 @@ pub record IsFrontAdded (xs : List ℕ) (root_at : ℕ) (new : List Piece) : Typ
 abbrev pub HasFront : Source → ℕ → ℕ → List Piece → Type 0
 HasFront source end root_at new = IfShown source (λ b. IsFrontAdded (take end b) root_at new)
 
+-- the place is noted: its slot is in the set, or it is outside and leads nowhere
+abbrev pub is_noted : ℕ → List Bool → ℕ → Bool
+is_noted size slots h = (h % 16 == 0) && (nat_le size h || get_or slots (h / 16) false)
+
 -- a place waits that was not noted before, if the test says so
 pub record HasPushed (old_todo new_todo : List ℕ) (old new : ℕ → Bool) (test : Bool)
     (place : ℕ) : Type 0 where
@@ -78,13 +82,14 @@ pub record IsDone (xs : List ℕ) (pieces : List Piece) (noted : ℕ → Bool) (
   pub to_next : IsInside xs h → next xs h ≢ 0 → IsTrue (noted (next xs h))
   pub to_spec : GoesDown xs h → IsTrue (noted (cleared (spec xs h)))
 
--- each place that was noted waits or is done
+-- each place inside that was noted waits or is done
 pub record IsWalking (xs : List ℕ) (pieces : List Piece) (todo : List ℕ)
     (noted : ℕ → Bool) : Type 0 where
   pub right : AreRight xs pieces
   pub front : (i : ℕ) → i < 32 → HasBlock pieces i
   pub at_root : IsTrue (noted (root xs))
-  pub each : (h : ℕ) → IsTrue (noted h) → Contains todo h ⊎ IsDone xs pieces noted h
+  pub each : (h : ℕ) → IsTrue (noted h) → h < length xs
+      → Contains todo h ⊎ IsDone xs pieces noted h
 
 -- the same of bytes that are shown, from the root on
 abbrev pub IsUnderWay : Source → ℕ → ℕ → List Piece → List ℕ → (ℕ → Bool) → Type 0
@@ -92,7 +97,7 @@ IsUnderWay source end root_at pieces todo noted =
     IfShown source (λ b.
     (root_at ≡ root (take end b)) × IsWalking (take end b) pieces todo noted)
 
--- every place that was noted is done
+-- every place inside that was noted is done
 abbrev pub HasWalked : Source → ℕ → List Piece → Type 0
 HasWalked source end pieces =
     IfShown source (λ b. (noted : ℕ → Bool) × IsWalking (take end b) pieces [] noted

@@ -1,18 +1,16 @@
 //! The walk over the headers of an image.
 //!
 //! It begins at the root and follows each header: to the header after it, the first header of a
-//! directory, the destination of a hard link. Each place is noted when it is first named, and
-//! visited once, so loops end. A place outside is noted too, and leads nowhere.
+//! directory, the destination of a hard link. Each place inside is noted by its slot of 16 bytes
+//! when it is first named, and visited once, so loops end. A place outside leads nowhere.
 
-ghost use Rattle.std.specs.Prelude.{◌≡◌, ◌≢◌, ◌+◌, ◌-◌, ◌%◌, ◌<◌, ◌≤◌, ◌^◌, [], length, min, ℕ, List, IsTrue, IfOk, OnOk, IfErr, if◌then◌else◌, nat_le};
-ghost use Rattle.std.specs.BTreeSet.{contains, btree_set_len, IsOrdered};
-ghost use Rattle.std.specs.Ordering.{nat_cmp};
+ghost use Rattle.std.specs.Prelude.{◌≡◌, ◌≢◌, ◌+◌, ◌-◌, ◌%◌, ◌<◌, ◌≤◌, ◌/◌, ◌^◌, [], false, length, get_or, min, not, count_by, ℕ, List, IsTrue, IsFalse, IfOk, OnOk, IfErr, if◌then◌else◌, nat_le};
 ghost use Rattle.romfs_format.specs.declared.head.Kind.TheVariants.{Directory, HardLink};
 ghost use Rattle.romfs_format.specs.declared.limits.TheConstants.{HEAD_SIZE};
 ghost use Rattle.romfs_format.specs.Fields.{root, word, kind_of};
 ghost use Rattle.romfs_kept.specs.Reads.{AreWithin, IsCause, IsHeld, IsReadAt, HasBytesAt};
 ghost use Rattle.romfs_kept.specs.Gathered.{IsGathered, IsReach};
-ghost use Rattle.romfs_kept.specs.Walk.{HasFront, HasPushed, IsUnderWay, HasWalked};
+ghost use Rattle.romfs_kept.specs.Walk.{HasFront, is_noted, HasPushed, HasWalked};
 
 use crate::fault::GatherFault;
 use crate::packing::pack;
@@ -23,10 +21,10 @@ use devices::Contents;
 use romfs_format::Kind;
 use romfs_format::limits::{HEAD_SIZE, SUMMED_SIZE};
 use romfs_format::read::{cleared, kind_of, padded, word};
-use romfs_held::Kept;
 use romfs_held::blocks::text_in;
+use romfs_held::{BLOCK_SIZE, Kept};
+use romfs_sets::SparseSlots;
 use std::alloc::{AllocError, Allocator};
-use std::collections::BTreeSet;
 
 /// Keeps of an image its first 512 bytes, and each header that the root leads to, with its name
 /// and, of a symbolic link, its target. Of bytes behind the full size nothing is looked at. Nothing
@@ -39,7 +37,8 @@ use std::collections::BTreeSet;
 ///
 /// A header is read once. It takes two reads at most, and a third for the target of a symbolic link
 /// whose name has 48 bytes or more; adjacent headers take fewer. Memory is taken in proportion to
-/// headers, names and targets, and n log n steps, in whatever order they come.
+/// headers, names and targets, and a byte for each 2,048 of the image; n log n steps, in whatever
+/// order they come.
 pub fn gather<S: Contents, A: Allocator + Copy>(
     alloc: A,
     source: &S,
@@ -141,41 +140,64 @@ fn walk<S: Contents, A: Allocator + Copy>(
     ensures err { IfErr result (IsCause (S.source source.now)) }
 {
     let mut todo = Vec::new(alloc);
-    let mut noted = BTreeSet::new(alloc);
-    note(&mut todo, &mut noted, true, root)?;
+    let mut noted = SparseSlots::new(alloc, size as usize / BLOCK_SIZE + 1)?;
+    note(&mut todo, &mut noted, size, true, root)?;
     while let Some(at) = todo.pop() {
         let words = visit(source, window, size, at, pieces)?;
         let next = cleared(words.first);
         let goes_on = follows_next(root, size, at, next);
-        note(&mut todo, &mut noted, goes_on, next)?;
+        note(&mut todo, &mut noted, size, goes_on, next)?;
         let goes_down = follows_spec(root, size, at, words.first);
-        note(&mut todo, &mut noted, goes_down, cleared(words.second))?;
+        note(
+            &mut todo,
+            &mut noted,
+            size,
+            goes_down,
+            cleared(words.second),
+        )?;
     }
     Ok(())
 }
 
-/// Lets a place wait, if it is to, and if it was not noted before.
-fn note<A: Allocator + Clone>(
+/// Lets a place wait, if it is to, and if it is inside and was not noted before.
+fn note<A: Allocator>(
     todo: &mut Vec<u32, A>,
-    noted: &mut BTreeSet<u32, A>,
+    noted: &mut SparseSlots<A>,
+    size: u32,
     test: bool,
     place: u32,
 ) -> Result<(), AllocError>
+    requires even { place % 16 ≡ 0 }
+    requires sized { length noted.old ≡ size / 16 + 1 }
     ensures pushed { OnOk result (HasPushed todo.old.items todo.new.items
-        (contains nat_cmp noted.old) (contains nat_cmp noted.new) test place) }
-    ensures count { OnOk result (length todo.new.items + btree_set_len noted.old
-        ≡ length todo.old.items + btree_set_len noted.new) }
-    ensures more { OnOk result (btree_set_len noted.old ≤ btree_set_len noted.new) }
-    ensures ordered { IsOrdered nat_cmp noted.old → IsOrdered nat_cmp noted.new }
+        (is_noted size noted.old) (is_noted size noted.new) test place) }
+    ensures count { OnOk result (length todo.new.items + count_by not noted.new
+        ≡ length todo.old.items + count_by not noted.old) }
+    ensures sized { OnOk result (length noted.new ≡ length noted.old) }
 {
     if !test {
         return Ok(());
     }
-    if !noted.insert(place)? {
+    if !is_new(noted, size, place) {
         return Ok(());
     }
+    noted.insert(place as usize / BLOCK_SIZE);
     todo.push(place)?;
     Ok(())
+}
+
+/// Whether a place is inside, and was not noted.
+fn is_new<A: Allocator>(noted: &SparseSlots<A>, size: u32, place: u32) -> bool
+    requires even { place % 16 ≡ 0 }
+    requires sized { length noted.now ≡ size / 16 + 1 }
+    ensures yes { IsTrue result → get_or noted.now (place / 16) false ≡ false }
+    ensures low { IsTrue result → place / 16 < length noted.now }
+    ensures no { IsFalse result → IsTrue (is_noted size noted.now place) }
+{
+    if place >= size {
+        return false;
+    }
+    !noted.contains(place as usize / BLOCK_SIZE)
 }
 
 /// Whether the header after the one at a place is visited.

@@ -12,8 +12,8 @@
 //! definitions belong to the layers between: blocks as they are read (`Pieces`), reads (`Reads`),
 //! the walk (`Walk`), the trailer (`Tails`). Whatever bytes the source shows, as those in memory
 //! or under a digest, a contract says that what is kept has their bytes wherever the rules look. A
-//! file alone shows none: what was kept is then all that is known of it. The crate uses `devices` and
-//! `romfs_held`.
+//! file alone shows none: what was kept is then all that is known of it. The crate uses `devices`,
+//! `romfs_held`, and `romfs_sets` for the headers that were come to.
 #![tactic(auto)]
 
 mod fault;

@@ -1,8 +1,9 @@
 //! Blocks as they are read: in any order, and some more than once.
 //!
-//! Before the list of them grows, it is put in order and what is there twice is dropped; it then
-//! grows to twice the size. So it never holds more than twice the blocks that there are, and all
-//! orders together take n log n steps in the blocks that were added, in whatever order they come.
+//! The list of them grows to twice its size. From 65,536 blocks on it is put in order first, and
+//! what is there twice is dropped. So it never holds more than that or twice the blocks that there
+//! are, and all orders together take n log n steps in the blocks that were added, in whatever order
+//! they come.
 
 ghost use Rattle.std.specs.Prelude.{◌≡◌, ◌+◌, ◌/◌, ◌<◌, ◌≤◌, ◌^◌, length, OnOk};
 ghost use Rattle.romfs_held.specs.declared.blocks.TheConstants.{BLOCK_SIZE};
@@ -13,6 +14,9 @@ use std::alloc::{AllocError, Allocator};
 
 /// The fewest blocks that room is made for.
 const LEAST_ROOM: usize = 64;
+
+/// The fewest blocks of which repeats are dropped. Only headers that overlap repeat a block.
+const MANY: usize = 65_536;
 
 /// A block of an image.
 #[derive(Clone, Copy)]
@@ -75,7 +79,9 @@ fn make_room<A: Allocator>(pieces: &mut Vec<Piece, A>) -> Result<(), AllocError>
     if pieces.len() < pieces.capacity() {
         return Ok(());
     }
-    drop_repeats(pieces);
+    if pieces.len() >= MANY {
+        drop_repeats(pieces);
+    }
     let count = pieces.len().max(LEAST_ROOM);
     pieces.reserve(count)
 }

@@ -181,8 +181,13 @@ fn keep_target<S: Contents, A: Allocator>(
     if count == 0 {
         return Ok(());
     }
-    let mut room = [0u8; TARGET];
     let len = padded(count);
+    if len <= MIDDLE {
+        let mut room = [0u8; MIDDLE];
+        keep_row(source, window, size, from as u32, &mut room[..len], pieces)?;
+        return Ok(());
+    }
+    let mut room = [0u8; TARGET];
     keep_row(source, window, size, from as u32, &mut room[..len], pieces)?;
     Ok(())
 }

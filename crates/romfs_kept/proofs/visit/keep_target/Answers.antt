@@ -8,10 +8,19 @@ returns-then-count-eq0-clause-known g c =
     target_none _ _ _ c.target_len-count.result _ _ _ c.if-count-eq0.true
     (λ k l. c.target_len-count.ensures.link k l ∙ ap (λ n. min c.args.words.third n) c.saturating_sub.ensures)
 
+pub returns-then-len-le-MIDDLE-clause-known : goal.returns-then-len-le-MIDDLE-clause-known
+returns-then-len-le-MIDDLE-clause-known g c =
+    target_row _ _ _ c.target_len-count.result (length (take c.padded-len.result (replicate {A = ℕ} 64 0))) _ _ _ _ c.requires.from
+    c.in_ok-keep_row.ensures.known
+    (length-take-le c.padded-len.result (replicate 64 0)
+    (let e = length-replicate {A = ℕ} 64 0 in omega (arith, c.if-len-le-MIDDLE.true))
+    ∙ c.padded-len.ensures.value)
+    (λ k l. c.target_len-count.ensures.link k l ∙ ap (λ n. min c.args.words.third n) c.saturating_sub.ensures)
+
 pub returns-clause-known : goal.returns-clause-known
 returns-clause-known g c =
     target_row _ _ _ c.target_len-count.result (length (take c.padded-len.result (replicate {A = ℕ} 4096 0))) _ _ _ _ c.requires.from
-    c.in_ok-keep_row.ensures.known
+    c.in_ok-keep_row-2.ensures.known
     (length-take-le c.padded-len.result (replicate 4096 0)
     (let e = length-replicate {A = ℕ} 4096 0 in omega (arith, c.padded-len.ensures.value, c.target_len-count.ensures.few))
     ∙ c.padded-len.ensures.value)
