@@ -74,16 +74,16 @@ module _ (rows : List (List AttributeRow)) (lists : List (List (List Extended)))
       sym (list_is node.place.header (slice_index_or rows node.place.layer []) (slice_index_or lists node.place.layer []))
 
   -- one node more has a list of some kind, or one before it had
-  pub any_more : (f : List Extended → Bool) (held : List Node) (i : ℕ) (node : Node) (n : ℕ) (before after : Bool)
-      → i < length held → node ≡ get_or held i node → n ≡ row_number rows node
+  pub any_more : (f : List Extended → Bool) (held : List Node) (i : ℕ) (d : Node) (n : ℕ) (before after : Bool)
+      → i < length held → n ≡ row_number rows (get_or held i d)
       → before ≡ list_any (λ x. f (list_of_node rows lists x)) (take i held)
-      → after ≡ (before || f (list_held lists node.place.layer n))
+      → after ≡ (before || f (list_held lists (get_or held i d).place.layer n))
       → after ≡ list_any (λ x. f (list_of_node rows lists x)) (take (i + 1) held)
-  any_more f held i node n before after l there number b a =
+  any_more f held i d n before after l number b a =
       let g : Node → Bool = (λ x. f (list_of_node rows lists x)) in
-      a ∙ ap (λ k. before || f (list_held lists node.place.layer k)) number
-      ∙ ap (λ xs. before || f xs) (node_list node) ∙ ap (λ o. o || g node) b
-      ∙ ap (λ x. list_any g (take i held) || g x) there ∙ sym (list_any_more g held i node l)
+      a ∙ ap (λ k. before || f (list_held lists (get_or held i d).place.layer k)) number
+      ∙ ap (λ xs. before || f xs) (node_list (get_or held i d)) ∙ ap (λ o. o || g (get_or held i d)) b
+      ∙ sym (list_any_more g held i d l)
 
   -- where each node's row is held
   pub nodes_held : (held : List Node) (x : HeldXattrs) → x.lists ≡ lists → x.positions ≡ map (row_number rows) held

@@ -1,9 +1,8 @@
-use Rattle.std.proofs.Common.{◌∙◌, ap, map}
-use Rattle.std.proofs.lemmas.List.{take_all}
+use Rattle.std.proofs.Common.{◌∙◌, sym, ap, map}
+use Rattle.std.proofs.lemmas.List.{map_more, take_all}
 use Rattle.std.specs.List.{list_any}
 use Rattle.node_reader.specs.declared.node.Node.{Node}
 use Rattle.node_reader.specs.Xattrs.{has_acl, has_some, list_of_node, row_number}
-use Rattle.node_reader.proofs.Pushed.{one_mapped}
 use Rattle.node_reader.proofs.NodeLists.{any_more}
 use Rattle.node_reader.proofs.xattrs.found_in.Goals as goal
 
@@ -15,12 +14,12 @@ loop-node-preserved g c =
     let i = c.loop-node.node-index in
     let now = c.loop-node.invariant in
     record {
-      positions = one_mapped (row_number rows) nodes _ _ i c.node-item.result _ c.loop-node-test.true now.positions
-          c.in_ok-push.ensures.items c.row_number-position.ensures c.node-item.is;
-      some = any_more rows lists has_some nodes i c.node-item.result c.row_number-position.result _ _ c.loop-node-test.true
-          c.node-item.is c.row_number-position.ensures now.some c.or_some-some.ensures;
-      acls = any_more rows lists has_acl nodes i c.node-item.result c.row_number-position.result _ _ c.loop-node-test.true
-          c.node-item.is c.row_number-position.ensures now.acls c.or_acl-acls.ensures;
+      positions = rw (c.in_ok-push.ensures.items, now.positions, c.row_number-position.ensures)
+          (sym (map_more (row_number rows) nodes i _ c.loop-node-test.true));
+      some = any_more rows lists has_some nodes i _ _ _ _ c.loop-node-test.true c.row_number-position.ensures now.some
+          c.or_some-some.ensures;
+      acls = any_more rows lists has_acl nodes i _ _ _ _ c.loop-node-test.true c.row_number-position.ensures now.acls
+          c.or_acl-acls.ensures;
     }
 
 pub returns-clause-positions : goal.returns-clause-positions
