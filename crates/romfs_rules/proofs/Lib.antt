@@ -17,6 +17,7 @@ pub mod Verdict
 pub mod SameNaming
 pub mod HeadNumbers
 pub mod NameHashes
+pub mod PlainHeads
 pub mod PlainChain
 pub mod PlainWalk
 pub mod PlainRules

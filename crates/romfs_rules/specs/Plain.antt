@@ -1,11 +1,12 @@
 -- What a walk down from the root finds in an image that plainly keeps every rule.
-use Rattle.std.specs.Prelude.{◌≡◌, ◌≢◌, ℕ, ◌+◌, ◌/◌, ◌<◌, ◌≤◌, ◌⊎◌, List, length, get_or, Bool, true, false, not, count_by, Some, Contains}
+use Rattle.std.specs.Prelude.{◌≡◌, ◌≢◌, ℕ, ◌+◌, ◌/◌, ◌<◌, ◌≤◌, ◌⊎◌, ◌↔◌, List, length, get_or, Bool, true, false, not, IsTrue, count_by, Some, Contains}
 use Rattle.romfs_sets.specs.Names.{name_hash}
 use Rattle.romfs_format.specs.declared.head.Kind.TheVariants.{HardLink, Directory}
+use Rattle.romfs_format.specs.declared.head.Head.{Head}
 use Rattle.romfs_format.specs.declared.limits.TheConstants.{MAX_NAMES}
 use Rattle.romfs_format.specs.declared.rule.Profile.TheVariants.{Usual}
 use Rattle.romfs_format.specs.declared.rule.Rule.TheVariants.{TooDeep}
-use Rattle.romfs_format.specs.Fields.{root, IsInside, kind, name}
+use Rattle.romfs_format.specs.Fields.{root, IsInside, kind, next, spec, size, name}
 use Rattle.romfs_format.specs.Chains.{IsAt, IsDotted}
 use Rattle.romfs_format.specs.Links.{destination}
 use Rattle.romfs_format.specs.Rules.{HasData, IsBadName, EndsOutside, HasLongTarget, HasLargeMajor, BreaksHeader}
@@ -13,6 +14,7 @@ use Rattle.romfs_rules.specs.Judge.{KeepsAllHeaderRules}
 use Rattle.romfs_rules.specs.Marks.{IsMarked, Opens}
 use Rattle.romfs_rules.specs.Names.{kept_names, AreNameHashes, HaveNamesApart}
 use Rattle.romfs_rules.specs.declared.plain.Folder.{Folder}
+use Rattle.romfs_rules.specs.declared.plain.Found.{Found}
 
 -- the data, the target and the major number of the header with this name break no rule
 pub record HasPlainBody (a : List ℕ) (h : ℕ) (text : List ℕ) : Type 0 where
@@ -45,10 +47,17 @@ pub record IsPlainHeader (a : List ℕ) (w : Folder) (h : ℕ) : Type 0 where
   pub own : h ≡ root a → w.header ≡ root a
   pub member : h ≢ root a → ¬ IsDotted a h → IsPlainMember a h text
 
--- and its name is mixed to this
-pub record IsHashed (a : List ℕ) (w : Folder) (h hash : ℕ) : Type 0 where
+-- the fields are those of the header at h
+abbrev pub HasFields : List ℕ → ℕ → Head → Type 0
+HasFields a h head = (head.next ≡ next a h) × (head.kind ≡ kind a h) × (head.spec ≡ spec a h)
+    × (head.size ≡ size a h)
+
+-- it is plain, and this is what a walk goes on by
+pub record IsFound (a : List ℕ) (w : Folder) (h : ℕ) (found : Found) : Type 0 where
   pub plain : IsPlainHeader a w h
-  pub mixed : (q : List ℕ) → name a h ≡ Some q → hash ≡ name_hash q
+  pub mixed : (q : List ℕ) → name a h ≡ Some q → found.hash ≡ name_hash q
+  pub follows : found.next ≡ next a h
+  pub opening : IsTrue found.opens ↔ Opens a h
 
 -- the directory h, to which n names lead
 abbrev pub folder : ℕ → ℕ → Folder

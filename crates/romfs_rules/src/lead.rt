@@ -1,7 +1,7 @@
 //! Where a header leads.
 
 ghost use Rattle.std.specs.Prelude.{◌≡◌, ◌<◌};
-ghost use Rattle.romfs_format.specs.Fields.{IsInside};
+ghost use Rattle.romfs_format.specs.Fields.{IsInside, next as next_at};
 ghost use Rattle.romfs_format.specs.Chains.{IsFirst, IsNext};
 ghost use Rattle.romfs_format.specs.Links.{IsHardLink, destination};
 ghost use Rattle.romfs_rules.specs.Leads.{IsTheOne, IsFirstBelow};
@@ -13,13 +13,24 @@ use romfs_format::read::{cleared, kind_of};
 use romfs_held::read::word;
 
 /// The header after a header in its chain.
-#[tactic(auto, using(crate::proofs::Leads::next_none, crate::proofs::Leads::next_some))]
 #[inline(always)]
 pub(crate) fn next_of(volume: &Volume, at: usize) -> Option<u32>
     requires inside { IsInside volume.now.bytes.now at }
     ensures { IsTheOne (IsNext volume.now.bytes.now at) result }
 {
-    let next = cleared(word(volume.bytes, at));
+    next_by(volume, at, cleared(word(volume.bytes, at)))
+}
+
+/// The same, by the place that its first word has.
+#[tactic(auto, using(crate::proofs::Leads::next_none, crate::proofs::Leads::next_some))]
+#[inline(always)]
+pub(crate) fn next_by(volume: &Volume, at: usize, next: u32) -> Option<u32>
+    requires inside { IsInside volume.now.bytes.now at }
+    requires next { next ≡ next_at volume.now.bytes.now at }
+    ensures { IsTheOne (IsNext volume.now.bytes.now at) result }
+{
+    // the image is named by the clauses alone
+    let _ = volume;
     if next == 0 { None } else { Some(next) }
 }
 

@@ -5,17 +5,16 @@
 //! needed, and only one set. At anything unusual the walk ends, and the other modules find whether
 //! a rule is broken, and which.
 
-ghost use Rattle.std.specs.Prelude.{◌≡◌, ℕ, [], ◌+◌, ◌/◌, ◌<◌, ◌≤◌, ◌^◌, IfOk, IsTrue, length, get_or};
+ghost use Rattle.std.specs.Prelude.{◌≡◌, ℕ, [], ◌+◌, ◌/◌, ◌<◌, ◌≤◌, ◌↔◌, ◌^◌, IfOk, IsTrue, length, get_or};
 ghost use Rattle.romfs_format.specs.declared.limits.TheConstants.{HEAD_SIZE};
 ghost use Rattle.romfs_format.specs.Fields.{IsInside};
-ghost use Rattle.romfs_rules.specs.Marks.{IsFresh};
+ghost use Rattle.romfs_rules.specs.Marks.{IsFresh, Opens};
 ghost use Rattle.romfs_rules.specs.Names.{kept_names, AreNameHashes, HaveNamesApart};
 ghost use Rattle.romfs_rules.specs.Plain.{AddsFolder, PassesChain, PassesFolder, KeepsPlainly};
 
-use crate::lead::{first_of, next_of};
-use crate::member::opens;
+use crate::lead::{first_of, next_by};
 use crate::names::{have_hashes_apart, name_classes_by};
-use crate::plain_header::plain_hash;
+use crate::plain_header::find_plain;
 use crate::slot::is_inside;
 use crate::volume::Volume;
 use romfs_sets::SparseSlots;
@@ -30,6 +29,17 @@ const FEW: usize = 16;
 pub(crate) struct Folder {
     pub(crate) header: u32,
     pub(crate) names: u32,
+}
+
+/// What a walk goes on by from a plain header.
+#[derive(Clone, Copy)]
+pub(crate) struct Found {
+    /// The hash of its name.
+    pub(crate) hash: u64,
+    /// The place of the header after it; 0 if there is none.
+    pub(crate) next: u32,
+    /// Whether it opens as a directory.
+    pub(crate) opens: bool,
 }
 
 /// Whether one walk finds that an image keeps all rules after the volume header.
@@ -118,14 +128,14 @@ impl<A: Allocator + Copy> Walk<A> {
             if !is_new(volume, at, &self.marks) {
                 return Ok(false);
             }
-            let Some(hash) = plain_hash(volume, folder, at) else {
+            let Some(found) = find_plain(volume, folder, at) else {
                 return Ok(false);
             };
             self.marks.insert(at / 16);
             self.heads.push(head)?;
-            self.hashes.push(hash)?;
-            push_below(volume, folder, at, &mut self.todo)?;
-            next = next_of(volume, at);
+            self.hashes.push(found.hash)?;
+            push_below(volume, folder, at, found.opens, &mut self.todo)?;
+            next = next_by(volume, at, found.next);
         }
         Ok(true)
     }
@@ -163,19 +173,21 @@ fn have_names_apart<A: Allocator + Copy>(
     }
 }
 
-// Adds a header of a directory's chain, if it opens as a directory.
+// Adds a header of a directory's chain, if it opens as a directory and is not the root's.
 fn push_below<A: Allocator>(
     volume: &Volume,
     folder: Folder,
     at: usize,
+    opens: bool,
     todo: &mut Vec<Folder, A>,
 ) -> Result<(), AllocError>
     requires inside { IsInside volume.now.bytes.now at }
     requires names { folder.names + 1 < 2 ^ 32 }
+    requires opens { IsTrue opens ↔ Opens volume.now.bytes.now at }
     ensures { IfOk result
         (λ _. AddsFolder volume.now.bytes.now folder at todo.old.items todo.new.items) }
 {
-    if at != volume.root && opens(volume, at) {
+    if at != volume.root && opens {
         todo.push(Folder {
             header: at as u32,
             names: folder.names + 1,

@@ -22,7 +22,7 @@ loop-next-smaller g c =
 pub loop-next-preserved : goal.loop-next-preserved
 loop-next-preserved g c =
     let f = c.if-not-is_new.ensures refl in
-    let x = c.in-Some-plain_hash.ensures in
+    let x = c.in-Some-find_plain.ensures in
     let now : WalkState = record {
       marks = c.loop-next.self-inside.marks;
       todo = c.loop-next.self-inside.todo.items;
@@ -34,9 +34,9 @@ loop-next-preserved g c =
           (steps c.args.volume.now.bytes.now c.args.folder c.args.self.now now c.in-Some.head
           (rw c.in-Some.is at c.loop-next.invariant.chained)
           x.plain f.1 f.2 c.push_below.new.todo.items c.in_ok-push_below.ensures c.push-in-Some.new.self.items
-          c.next_of-next.result c.next_of-next.ensures);
+          c.next_by-next.result c.next_by-next.ensures);
       hashed = rw (c.in_ok-push.ensures.items, c.in_ok-push-2.ensures.items)
-          (hashed_more c.args.volume.now.bytes.now c.in-Some.head c.in-Some-plain_hash.hash c.loop-next.self-inside.heads.items
+          (hashed_more c.args.volume.now.bytes.now c.in-Some.head c.in-Some-find_plain.found.hash c.loop-next.self-inside.heads.items
           c.loop-next.self-inside.hashes.items x.mixed c.loop-next.invariant.hashed);
     }
 
@@ -50,8 +50,8 @@ first_of-next-requires g c = record { inside = c.requires.inside }
 pub is_new-requires-clause-sized : goal.is_new-requires-clause-sized
 is_new-requires-clause-sized g c = c.loop-next.invariant.chained.front.sized ∙ c.requires.sized
 
-pub plain_hash-requires : goal.plain_hash-requires
-plain_hash-requires g c = (c.if-not-is_new.ensures refl).0
+pub find_plain-requires : goal.find_plain-requires
+find_plain-requires g c = (c.if-not-is_new.ensures refl).0
 
 pub insert-requires : goal.insert-requires
 insert-requires g c = (c.if-not-is_new.ensures refl).1
@@ -60,7 +60,13 @@ pub push_below-requires-clause-inside : goal.push_below-requires-clause-inside
 push_below-requires-clause-inside g c = (c.if-not-is_new.ensures refl).0
 
 pub push_below-requires-clause-names : goal.push_below-requires-clause-names
-push_below-requires-clause-names g c = let depth = c.in-Some-plain_hash.ensures.plain.depth in omega arith
+push_below-requires-clause-names g c = let depth = c.in-Some-find_plain.ensures.plain.depth in omega arith
 
-pub next_of-next-requires : goal.next_of-next-requires
-next_of-next-requires g c = record { inside = (c.if-not-is_new.ensures refl).0 }
+pub push_below-requires-clause-opens : goal.push_below-requires-clause-opens
+push_below-requires-clause-opens g c = c.in-Some-find_plain.ensures.opening
+
+pub next_by-next-requires-clause-inside : goal.next_by-next-requires-clause-inside
+next_by-next-requires-clause-inside g c = (c.if-not-is_new.ensures refl).0
+
+pub next_by-next-requires-clause-next : goal.next_by-next-requires-clause-next
+next_by-next-requires-clause-next g c = c.in-Some-find_plain.ensures.follows
