@@ -16,6 +16,8 @@ LAYERS = os.path.join(TOOLS, "layers.py")
 MOUNT = os.path.join(TOOLS, "mount.py")
 # a fault's line begins so
 NAME = "tools/layers.py: "
+# behind a layer's name, the name of its tree
+TREE = ".verity"
 # what hangs is ended after so many seconds
 SECONDS = 300
 
@@ -113,7 +115,11 @@ class Room:
                                                                           done.stderr[-600:], line))
 
     def blobs(self, store=None):
-        return sorted(os.listdir(os.path.join(store or self.store, "blobs", "sha256")))
+        """The layers of a store; each that is whole must have a tree, and there is no other one."""
+        found = set(os.listdir(os.path.join(store or self.store, "blobs", "sha256")))
+        layers = {it for it in found if not it.endswith(TREE)}
+        hold("trees", {it + TREE for it in layers if not it.endswith(".damaged")}, found - layers)
+        return sorted(layers)
 
     def close(self):
         for end in reversed(self.ends):
