@@ -2,9 +2,12 @@
 import os
 import threading
 
+from strata_format.files import copy_front
 from strata_format.refused import Refused
 from strata_layers.store import Store
 from strata_layers.store_images import image_in, names
+from strata_layers.store_seals import ALGORITHM
+from strata_layers.verity import TREE, tree_size
 from strata_snapshotter.blob_image import chain_digest, is_digest
 
 
@@ -17,7 +20,7 @@ class StoreLayers:
         self.lock = threading.Lock()
 
     def opened(self, chain):
-        """An open file of the layer that ends a chain, or None."""
+        """The layer that ends a chain, and an open file of it; or None."""
         try:
             with self.lock:
                 self.look()
@@ -28,7 +31,27 @@ class StoreLayers:
         if number is not None and os.fstat(number).st_size != layer.size:
             os.close(number)
             return None
-        return number
+        return None if number is None else (layer, number)
+
+    def take_tree(self, layer, path):
+        """Writes the fs-verity tree of a layer to a new file; the layer's digest, or None where it
+        has none."""
+        if layer.verity is None:
+            return None
+        try:
+            number = self.store.open_layer(layer.digits + TREE)
+        except (Refused, OSError):
+            return None
+        if number is None:
+            return None
+        with open(number, "rb", 0) as tree:
+            size = os.fstat(number).st_size
+            if size != tree_size(ALGORITHM, layer.size):
+                return None
+            with open(path, "xb", 0) as out:
+                copy_front(tree.fileno(), out.fileno(), size)
+                os.fsync(out.fileno())
+        return layer.verity
 
     def look(self):
         """Reads which layers there are, if the images are other ones than before."""
