@@ -115,11 +115,16 @@ class Room:
                                                                           done.stderr[-600:], line))
 
     def blobs(self, store=None):
-        """The layers of a store; each that is whole must have a tree, and there is no other one."""
+        """The layers of a store, each of which must have a tree, but for those set aside."""
         found = set(os.listdir(os.path.join(store or self.store, "blobs", "sha256")))
         layers = {it for it in found if not it.endswith(TREE)}
-        hold("trees", {it + TREE for it in layers if not it.endswith(".damaged")}, found - layers)
+        hold("layers without a tree", set(), {it for it in layers if not it.endswith(".damaged") and it + TREE not in found})
         return sorted(layers)
+
+    def trees(self, store=None):
+        """The layers of a store that have a tree, or had one when they were there."""
+        found = os.listdir(os.path.join(store or self.store, "blobs", "sha256"))
+        return sorted(it[:-len(TREE)] for it in found if it.endswith(TREE))
 
     def close(self):
         for end in reversed(self.ends):

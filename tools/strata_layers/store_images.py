@@ -32,6 +32,12 @@ PIN = "@"
 VERITY = "vnd.strata.layer.verity"
 
 
+# why a manifest says no digests for a mount
+UNSEALED = ("says no fs-verity digest of each layer, or was pulled before these were noted; pull again an image"
+            " that `strata-layers convert` wrote")
+CHANGED = "was changed in the store; pull the image again"
+
+
 class NoImage(Refused):
     """A store has no image of a name."""
 
@@ -120,8 +126,7 @@ def pinned_image(store, word):
         if image.text is not None and digest_of_text(image.text) == digest:
             return with_digests(image, word)
         if image.manifest == digest:
-            raise Refused("%s: its manifest, as it was pulled, says no fs-verity digests of its layers;"
-                          " pull an image that `strata-layers convert` wrote" % word)
+            raise Refused("%s: its manifest %s" % (word, CHANGED if image.text else UNSEALED))
     raise Refused("%s: the manifest in %s is another, %s" % (word, store.name, image.manifest))
 
 

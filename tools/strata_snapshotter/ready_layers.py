@@ -50,9 +50,22 @@ class ReadyLayers:
         layer, number = found
         try:
             self.places.take(number, file, path)
-            return self.store.take_tree(layer, path + TREE) or self.places.seal(path)
+            return self.take_tree(layer, path)
         finally:
             os.close(number)
+
+    def take_tree(self, layer, path):
+        """Puts the tree of a layer of the store beside its new image; its fs-verity digest."""
+        number = self.store.opened_tree(layer)
+        if number is None:
+            return self.places.seal(path)
+        try:
+            with open(path + TREE, "xb", 0) as file:
+                self.places.take(number, file, path + TREE)
+                os.fsync(file.fileno())
+        finally:
+            os.close(number)
+        return layer.verity
 
     def write_blob(self, chain, digest, parent, images, out, path):
         """The same of a blob that is at hand."""

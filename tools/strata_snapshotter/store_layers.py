@@ -2,7 +2,6 @@
 import os
 import threading
 
-from strata_format.files import copy_front
 from strata_format.refused import Refused
 from strata_layers.store import Store
 from strata_layers.store_images import image_in, names
@@ -33,25 +32,16 @@ class StoreLayers:
             return None
         return None if number is None else (layer, number)
 
-    def take_tree(self, layer, path):
-        """Writes the fs-verity tree of a layer to a new file; the layer's digest, or None where it
-        has none."""
-        if layer.verity is None:
-            return None
+    def opened_tree(self, layer):
+        """An open file of the fs-verity tree of a layer; None where it has none."""
         try:
-            number = self.store.open_layer(layer.digits + TREE)
+            number = None if layer.verity is None else self.store.open_layer(layer.digits + TREE)
         except (Refused, OSError):
             return None
-        if number is None:
+        if number is not None and os.fstat(number).st_size != tree_size(ALGORITHM, layer.size):
+            os.close(number)
             return None
-        with open(number, "rb", 0) as tree:
-            size = os.fstat(number).st_size
-            if size != tree_size(ALGORITHM, layer.size):
-                return None
-            with open(path, "xb", 0) as out:
-                copy_front(tree.fileno(), out.fileno(), size)
-                os.fsync(out.fileno())
-        return layer.verity
+        return number
 
     def look(self):
         """Reads which layers there are, if the images are other ones than before."""
