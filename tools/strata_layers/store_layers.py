@@ -201,7 +201,7 @@ class Maker:
             return self.kept(new, *sealed_pieces(pieces_of(new.file.fileno())), layer.part)
 
     def sealed(self, layer):
-        """A layer that is there, with its fs-verity digest. One that has no tree, as it was brought
+        """A layer of the store with its fs-verity digest. One that has no tree, as it was brought
         before there were any, gets one, if its bytes are right."""
         digest = noted_digest(self.store, layer)
         if digest is None:
