@@ -372,7 +372,7 @@ def damage(path, rng):
 def check_damage_under_a_mount(room):
     """While layers and trees of a mount are damaged at random, what is read is right or EIO; once they are mended, it is right."""
     rng = random.Random(3)
-    files = {"f%d" % it: rng.randbytes(100000 + 1234 * it) for it in range(4)}
+    files = {"f%d" % it: rng.randbytes(60000 + 1234 * it) for it in range(4)}
     layers = [made.archive(*(made.entry(name, files[name]) for name in names)) for names in (("f0", "f1", "f2"), ("f3",))]
     out, digest, _ = converted(room, layers)
     room.layers("pull", "oci:" + out, "app:1")
@@ -383,7 +383,7 @@ def check_damage_under_a_mount(room):
         with open(path, "rb") as file:
             whole[path] = file.read()
     lost = 0
-    for turn in range(30):
+    for turn in range(20):
         path = rng.choice(paths)
         damage(path, rng)
         lost += sum(pages_read(at, files, rng.randrange(3)))

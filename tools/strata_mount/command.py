@@ -50,7 +50,7 @@ options:
                     share, stack, caps, modeless, sealed,
                     unsealed, digest=DIGEST
   --digest DIGEST   accept an image only with this fs-verity
-                    digest; for each layer in order, or none;
+                    digest; for each layer, or for none;
                     - accepts any image
   --strict          verify the checksum of every header, too
   --replace         unmount a mount of strata at DIR first
