@@ -80,7 +80,7 @@ def check_what_a_killed_one_left(snapshotter):
         pass
     snapshotter.start()
     hold("what is left", ["snapshots/1"], snapshotter.left())
-    hold("the layer", ["layer.romfs"], os.listdir(root + "/snapshots/1"))
+    hold("the layer", ["layer.romfs", "layer.romfs.verity"], sorted(os.listdir(root + "/snapshots/1")))
 
 
 def check_random_kills(snapshotter, count=25):

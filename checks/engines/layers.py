@@ -1,6 +1,8 @@
 """Checks of layers: what becomes an image, what a mount of it shows, and what stays a folder."""
+import glob
 import os
 import shutil
+import sqlite3
 import subprocess
 import sys
 
@@ -350,7 +352,49 @@ def check_given_images(snapshotter):
         snapshotter.call("Remove", key="extract-1")
 
 
-CHECKS = (check_a_tree, check_whiteouts_of_all_forms, check_what_images_do_not_hold,
+def server_digests(snapshotter):
+    """The digests under which the one server shows images."""
+    server, = snapshotter.servers()
+    with open("/proc/%d/cmdline" % server, "rb") as file:
+        words = file.read().decode().split("\0")
+    return [words[at + 1] for at, it in enumerate(words) if it == "--digest"]
+
+
+def image_digests(snapshotter):
+    """The digests of all images, in the order of layers."""
+    paths = glob.glob(snapshotter.root + "/snapshots/*/layer.romfs")
+    found = []
+    for path in sorted(paths, key=lambda it: int(it.split("/")[-2])):
+        with open(path, "rb") as file:
+            found.append(made.fsverity_digest(file.read()))
+    return found
+
+
+def check_sealed_images(snapshotter):
+    """Images are mounted under their digests, those of a store and of folders; those of an older snapshotter as they are."""
+    store, parent = pulled(snapshotter, archives()), ""
+    for chain in chain_digests([made.digest(it) for it in archives()]):
+        snapshotter.fails("ALREADY_EXISTS", "Prepare", key="extract-" + chain, parent=parent, labels={REFERENCE: chain})
+        parent = snapshotter.names('labels."%s"==%s' % (REFERENCE, chain))[0]
+    snapshotter.layer("top", parent, lambda folder: put(folder, "top", b"3"))
+    hold("paths", [".", "a", "a/two", "top"], sorted(tree(snapshotter.view("v", "top"))))
+    hold("digests", (3, image_digests(snapshotter)), (len(image_digests(snapshotter)), server_digests(snapshotter)))
+    inodes = [{os.stat(it).st_ino for it in glob.glob(place + "/*.verity")}
+              for place in (store + "/blobs/sha256", snapshotter.root + "/snapshots/*")]
+    hold("trees that are the store's own", 2, len(inodes[0] & inodes[1]))
+    snapshotter.call("Remove", key="v")
+    wait_until("no server", lambda: not snapshotter.servers())
+    hold("status", 0, snapshotter.stop())
+    base = sqlite3.connect(snapshotter.root + "/state.db")
+    base.execute("DROP TABLE seals")
+    base.close()
+    snapshotter.start()
+    snapshotter.layer("above", "top", lambda folder: put(folder, "above", b"4"))
+    hold("paths", [".", "a", "a/two", "above", "top"], sorted(tree(snapshotter.view("w", "above"))))
+    hold("digests", ["-"] * 3 + image_digests(snapshotter)[3:], server_digests(snapshotter))
+
+
+CHECKS = (check_sealed_images, check_a_tree, check_whiteouts_of_all_forms, check_what_images_do_not_hold,
           check_many_layers,
           check_layers_of_a_store, check_shared_servers, check_blobs_at_hand,
           check_blobs_that_are_images, check_lying_labels, check_given_images)

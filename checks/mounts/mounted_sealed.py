@@ -8,14 +8,15 @@ import subprocess
 import sys
 import time
 
-from checks import TOOLS
+from checks import ROOT, TOOLS
 from checks.mounts.mounted_ends import hold_refused
 from checks.mounts.mounted_files import PAGE, READERS, items_of, part, reading
 from checks.mounts.mounted_readers import statuses
-from checks.mounts.mounted_sharing import alive, run, share, umount
+from checks.mounts.mounted_sharing import alive, own_runtime, run, share, umount
 from checks.mounts.mounted_trees import MIB, file, folder, wanted_of
+from checks.registry.made import fsverity_digest
 from checks.shared.images import laid_out
-from checks.shared.mounting import LeftOut, hold, hold_tree, shown, wait_until
+from checks.shared.mounting import LeftOut, Mount, hold, hold_tree, shown, wait_until
 
 # so many blocks have their digests in one block of the tree
 LEAVES = {"sha256": 128, "sha512": 64}
@@ -204,4 +205,110 @@ def sealed_sharing(room):
     return "one mount for a digest, another without; --list tells it"
 
 
-CHECKS = (sealed_tree, sealed_block, sealed_leaf, sealed_under_readers, sealed_refused, sealed_sharing)
+EXT4, FUSE = "ef53", "65735546"
+
+
+def few(seed):
+    """A file of more than two blocks of an image, and another in a folder."""
+    return [file("x", random.Random(seed).randbytes(3 * PAGE)), folder("d"), file("d/y", b"y")]
+
+
+class Measured:
+    """A room in which files are on a file system of some kind, whose kernel measures them; and what then takes their name."""
+
+    def __init__(self, room, kind, other="-"):
+        self.room, self.kind, self.other = room, kind, other
+
+    def words(self):
+        python, flag, _, *words = self.room.words()
+        return [python, flag, os.path.join(ROOT, "checks", "mounts", "measuring.py"), self.kind, self.other, *words]
+
+    def place(self):
+        return self.room.place()
+
+
+def measured(room, kind, images, *words, other="-"):
+    """A mount in such a room, and the words of its server."""
+    mount = Mount(Measured(room, kind, other), images, words, b"")
+    with open("/proc/%d/cmdline" % mount.server, "rb") as it:
+        return mount, it.read().decode().split("\0")[:-1]
+
+
+def sealed_by_kernel(room):
+    """Of an image that the kernel holds to its digest, strata reads the file that was measured, without a tree, and hashes none."""
+    stack = [few(1), [folder("d"), file("d/y", b"upper")]]
+    images = [room.layer(items) for items in stack]
+    digests = [sealed(image) for image in images]
+    named = [word for it in digests for word in ("--digest", it)]
+    for kind, holder in ((EXT4, "the kernel"), (FUSE, "strata")):
+        mount, words = measured(room, kind, images, *named)
+        hold("images that strata opens", kind == EXT4, all(it.startswith("/proc/self/fd/") for it in words[-2:]))
+        hold("digests that strata holds", [] if kind == EXT4 else digests, [it for it in words if it.startswith("sha256:")])
+        hold_tree(holder, wanted_of(stack), shown(mount.at))
+        rows = json.loads(subprocess.run([*Measured(room, kind).words(), "--list", "--json"], stdout=subprocess.PIPE,
+                                         check=True).stdout)
+        row, = (it for it in rows if it["folder"] == mount.at)
+        hold("--list", (images, digests, [holder.replace("the ", "")] * 2), (row["images"], row["digests"], row["sealed_by"]))
+        mount.end()
+    counts = room.place() + "/counts"
+    for image in images:
+        os.unlink(image + ".verity")
+    mount, _ = measured(room, EXT4, images, *named, "--stats", counts)
+    hold_tree("without trees", wanted_of(stack), shown(mount.at))
+    with open(counts, encoding="utf-8") as it:
+        told = it.read().splitlines()[1:3]
+    hold("--stats", ["# layer %d: sealed by the kernel: %s" % both for both in enumerate(digests)], told)
+    mount.end()
+    return "a tree by the kernel's word alone; FUSE's word is not taken; --list and --stats tell it"
+
+
+def sealed_exchanged(room):
+    """Another file that takes the name of an image once the kernel has measured it is not shown; a file of another digest is
+    strata's to refuse."""
+    items, others = few(1), few(2)
+    image, other = room.layer(items), room.layer(others)
+    digest, theirs = sealed(image), sealed(other)
+    mount, words = measured(room, EXT4, [image], "--digest", digest, other=other)
+    hold("exchanged", (True, False), (words[-1].startswith("/proc/self/fd/"), os.path.exists(other)))
+    hold_tree("the file that was measured", wanted_of([items]), shown(mount.at))
+    mount.end()
+    at = room.place()
+    done = subprocess.run([*Measured(room, EXT4).words(), "--background", "--digest", digest, image, at], stderr=subprocess.PIPE,
+                          check=False)
+    hold("the other file", (3, True), (done.returncode, b"image 0: not as sealed\n" in done.stderr))
+    mount, words = measured(room, EXT4, [image], "--digest", theirs)
+    hold("by its own digest", [], [it for it in words if it.startswith("sha256:")])
+    hold_tree("the other file", wanted_of([others]), shown(mount.at))
+    mount.end()
+    return "the measured file is shown, whatever takes its name"
+
+
+def sealed_store(room):
+    """Who mounts an image of a store by its name, and who mounts its files under their digests, share a mount; who mounts it
+    unsealed has another."""
+    if not room.is_root:
+        raise LeftOut("only root can share a mount at a folder")
+    own_runtime()
+    store = room.place()
+    layers = [sys.executable, "-B", TOOLS + "/layers.py", "pull", "--store", store, "oci:%s/demo/layout" % ROOT, "lantern:1"]
+    subprocess.run(layers, stdin=subprocess.DEVNULL, stdout=subprocess.DEVNULL, check=True)
+    with open(store + "/images/lantern:1", encoding="utf-8") as it:
+        described = json.load(it)["layers"]
+    images = [os.path.join(store, "blobs", *it["digest"].split(":")) for it in described]
+    digests = [fsverity_digest(open(it, "rb").read()) for it in images]
+    named = [word for it in digests for word in ("--digest", it)]
+    ways = (["lantern:1"], ["--store", store]), (["lantern"], ["--store", store]), (images, named)
+    one, two, three = (share(room, names, *words) for names, words in ways)
+    hold("one mount", 1, len({os.stat(it).st_dev for it in (one, two, three)}))
+    other = share(room, ["lantern:1"], "--store", store, "-o", "unsealed")
+    hold("another", False, os.stat(one).st_dev == os.stat(other).st_dev)
+    hold("the same tree", sorted(os.listdir(one)), sorted(os.listdir(other)))
+    rows = {row["folder"]: row for row in json.loads(run(room, "--list", "--json")[1])}
+    hold("digests", [digests, []], [rows[it]["digests"] for it in (one, other)])
+    for at in (one, two, three, other):
+        umount(at)
+    wait_until("all servers' end", lambda: not alive())
+    return "one mount by a name and by digests, another that is unsealed"
+
+
+CHECKS = (sealed_by_kernel, sealed_exchanged, sealed_store, sealed_tree, sealed_block, sealed_leaf, sealed_under_readers, sealed_refused, sealed_sharing)

@@ -17,6 +17,18 @@ def digest(data):
     return "sha256:" + hashlib.sha256(data).hexdigest()
 
 
+def fsverity_digest(data):
+    """The fs-verity digest of some bytes (Documentation/filesystems/fsverity.rst), plainly."""
+    level = [data[at:at + 4096].ljust(4096, b"\0") for at in range(0, len(data), 4096)]
+    hashes = [hashlib.sha256(block).digest() for block in level]
+    while len(hashes) > 1:
+        joined = b"".join(hashes)
+        hashes = [hashlib.sha256(joined[at:at + 4096].ljust(4096, b"\0")).digest() for at in range(0, len(joined), 4096)]
+    root = hashes[0] if hashes else bytes(32)
+    said = bytes([1, 1, 12, 0]) + bytes(4) + len(data).to_bytes(8, "little") + root.ljust(64, b"\0")
+    return digest(said.ljust(256, b"\0"))
+
+
 def entry(name, data=b"", kind=tarfile.REGTYPE, mode=0o644, **more):
     info = tarfile.TarInfo(name)
     info.type, info.mode, info.size = kind, mode, len(data)

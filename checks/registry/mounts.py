@@ -1,6 +1,8 @@
 """Checks of mounts of images by their names in a store."""
+import errno
 import json
 import os
+import random
 import shutil
 import struct
 import subprocess
@@ -8,10 +10,11 @@ import sys
 import time
 
 from checks import ROOT, TOOLS
+from checks.mounts.mounted_files import PAGE, part
 from checks.registry import made
 from checks.registry.hostile import flip
 from checks.registry.rooms import LAYERS, MOUNT, SECONDS, LeftOut, hold, needs
-from checks.registry.stores import mounted_layers
+from checks.registry.stores import VERITY, mounted_layers
 
 
 def mount(room, *words, folder=None):
@@ -187,6 +190,220 @@ def check_order_of_a_folder(room):
     mounted(room, images[2], images[0])
 
 
+# --- sealed images ---
+
+def converted(room, layers=made.LAYERS, **notes):
+    """A layout of romfs images, to whose layers notes are added; its manifest's digest, and the fs-verity digests of the
+    images."""
+    out = room.name()
+    room.layers("convert", made.layout(room.name(), layers).path, out, store=room.name())
+    read = made.Read(out, "1")
+    manifest = read.json(read.top)
+    digests = [made.fsverity_digest(read.blob(it)) for it in manifest["layers"]]
+    if notes:
+        out = moved_layout(room, read, manifest, range(len(layers)), **notes)
+        read = made.Read(out, "1")
+    return out, read.top["digest"], digests
+
+
+def seals(room, at):
+    """The digests to which the images of a mount are held, and by whom."""
+    rows = json.loads(room.ran(sys.executable, "-B", MOUNT, "--list", "--json"))
+    row, = (it for it in rows if it["folder"] == at)
+    return row["digests"], row["sealed_by"]
+
+
+def hold_sealed(room, digests, *words):
+    at = mounted(room, *words)
+    hold("%r shows" % (words,), WANTED, seen(at))
+    hold("%r is sealed" % (words,), (digests, ["strata"] * len(digests)), seals(room, at))
+    take_away(room, at)
+
+
+def hold_not_mounted(room, status, line, *words):
+    """A mount must fail with this status, and say this."""
+    at, done = mount(room, *words)
+    hold("%r" % (words,), (status, True, False), (done.returncode, line in done.stderr or done.stderr, os.path.ismount(at)))
+
+
+def check_sealed_by_name(room):
+    """A mount by name holds each layer to its digest: from a tag, or from a manifest's digest, which the store must have."""
+    out, digest, digests = converted(room)
+    room.layers("pull", "oci:" + out, "team/app:1")
+    for word in ("team/app", "team/app@" + digest, "image:team/app:1@" + digest):
+        hold_sealed(room, digests, word)
+    hold_sealed(room, digests, "-o", "sealed", "team/app:1")
+    hold_sealed(room, [], "-o", "unsealed", "team/app:1")
+    lower, *_ = mounted_layers(room, "team%app:1")
+    at = mounted(room, lower, "team/app@" + digest)
+    hold("over a file", (["-", *digests], [None] + ["strata"] * 5), seals(room, at))
+    hold_sealed(room, digests, *(word for it in digests for word in ("--digest", "sha256:" + it[7:].upper())), "team/app")
+    room.layers("pull", "oci:" + made.layout(room.name()).path, "team/archives:1")
+    hold_sealed(room, digests, "team/archives")
+    other = "sha256:" + "0" * 64
+    for word, line in (
+            ("team/app@" + other, "team/app@%s: the manifest in %s is another, %s\n" % (other, room.store, digest)),
+            ("team/app:2@" + digest, "team/app:2: no such image"), ("image:team/none@" + digest, "team/none: no such image"),
+            ("image:team/app@" + digest[:-1], "behind @ the digest of a manifest is wanted"),
+            ("team/archives@" + digest, "is another")):
+        hold_not_mounted(room, 1, line, word)
+    hold_not_mounted(room, 1, "not with -o unsealed", "-o", "unsealed", "team/app@" + digest)
+    hold_not_mounted(room, 2, "sealed: not with unsealed", "-o", "unsealed,sealed", "team/app")
+    named = [word for it in [other, *digests[1:]] for word in ("--digest", it)]
+    hold_not_mounted(room, 1, "has the digest %s, and %s was named" % (digests[0], other), *named, "team/app")
+
+
+def rename(image):
+    """Changes a bit of the name of a volume."""
+    os.chmod(image, 0o644)
+    with open(image, "r+b") as file:
+        file.seek(20)
+        byte, = file.read(1)
+        file.seek(20)
+        file.write(bytes([byte ^ 1]))
+
+
+def check_changed_stores(room):
+    """Who writes into a store changes what a tag shows, but never what a manifest's digest does."""
+    out, digest, digests = converted(room)
+    room.layers("pull", "oci:" + out, "app:1")
+    first, second = mounted_layers(room, "app:1")[:2]
+    rename(second)
+    for word in ("app:1", "app@" + digest):
+        hold_not_mounted(room, 3, "image 1: not as sealed\n", word)
+    rename(second)
+    # another layer with its own tree and digest, under the old name
+    shutil.copy(second, first)
+    os.chmod(first + ".verity", 0o644)
+    shutil.copy(second + ".verity", first + ".verity")
+    path = os.path.join(room.store, "images", "app:1")
+    with open(path, encoding="utf-8") as file:
+        value = json.load(file)
+    value["layers"][0].update(size=os.path.getsize(first), verity=digests[1])
+    with open(path, "w", encoding="utf-8") as file:
+        json.dump(value, file)
+    hold("by its tag", ([digests[1], *digests[1:]], ["strata"] * 5), seals(room, mounted(room, "app:1")))
+    hold_not_mounted(room, 3, "image 0: not as sealed\n", "app@" + digest)
+    value["text"] = value["text"].replace(digests[0], digests[1])
+    with open(path, "w", encoding="utf-8") as file:
+        json.dump(value, file)
+    hold_not_mounted(room, 1, "its manifest was changed in the store; pull the image again\n", "app@" + digest)
+
+
+def without_digests(room):
+    """Makes a store one of those that were made before there were digests of layers."""
+    for place, folders, files in os.walk(room.store):
+        for name in files:
+            path = os.path.join(place, name)
+            if name.endswith(".verity"):
+                os.unlink(path)
+            elif place.endswith("/images"):
+                with open(path, encoding="utf-8") as file:
+                    value = json.load(file)
+                value.pop("text", None)
+                for it in value["layers"]:
+                    del it["verity"]
+                with open(path, "w", encoding="utf-8") as file:
+                    json.dump(value, file)
+
+
+def check_stores_without_digests(room):
+    """A store that was made before mounts as it did; -o sealed refuses it, until the image is pulled again."""
+    out, digest, digests = converted(room)
+    room.layers("pull", "oci:" + out, "app:1")
+    without_digests(room)
+    hold_sealed(room, [], "app:1")
+    layers = mounted_layers(room, "app:1")
+    hold_not_mounted(room, 1, "%s: has no digest, and with -o sealed each layer needs one; pull the image again\n" % layers[0],
+                     "-o", "sealed", "app:1")
+    hold_not_mounted(room, 1, "its manifest says no fs-verity digest of each layer", "app@" + digest)
+    hold("verified", "", room.layers("verify"))
+    hold("pulled", "app:1: 5 layers, 0 of them new\n", room.layers("pull", "oci:" + out, "app:1"))
+    hold_sealed(room, digests, "app@" + digest)
+    without_digests(room)
+    flip(layers[2])
+    room.refused("..has other bytes than its digest says; run `strata-layers verify`, and pull again", "pull", "oci:" + out, "app:1")
+
+
+def check_manifests_without_digests(room):
+    """An image whose manifest says no digests is sealed by what its pull found; one whose manifest says others is refused."""
+    for word in (None, 7, "sha256:no"):
+        out, digest, digests = converted(room, **{VERITY: word})
+        room.layers("pull", "oci:" + out, "app:1")
+        hold_sealed(room, digests, "-o", "sealed", "app:1")
+        hold_not_mounted(room, 1, "its manifest says no fs-verity digest of each layer", "app@" + digest)
+    other = "sha256:" + "1" * 64
+    out, _, digests = converted(room, **{VERITY: other})
+    room.refused("layer 0: the fs-verity digest of its image is %s, and the manifest says %s" % (digests[0], other),
+                 "pull", "oci:" + out, "other:1")
+
+
+def check_wrong_trees(room):
+    """verify names a tree that was changed, and makes it again."""
+    out, _, digests = converted(room)
+    room.layers("pull", "oci:" + out, "app:1")
+    tree = mounted_layers(room, "app:1")[1] + ".verity"
+    hold("a tree of more than a block", True, os.path.getsize(tree) > 0)
+    flip(tree)
+    hold_not_mounted(room, 3, "image 1: not as sealed\n", "app:1")
+    done = room.tried("verify")
+    hold("verify", (1, "%s: it was changed; it is made again; mount again what is mounted of it; needed by app:1\n" % tree),
+         (done.returncode, done.stdout))
+    hold("verified", "", room.layers("verify"))
+    hold_sealed(room, digests, "app:1")
+    os.unlink(tree)
+    hold_not_mounted(room, 3, "image 1: not as sealed\n", "app:1")
+    room.layers("pull", "oci:" + out, "app:1")
+    hold_sealed(room, digests, "app:1")
+
+
+def damage(path, rng):
+    """Changes a file somewhere."""
+    os.chmod(path, 0o644)
+    with open(path, "r+b") as file:
+        size = os.path.getsize(path)
+        if rng.randrange(4) == 0:
+            file.truncate(rng.randrange(size))
+        for _ in range(rng.randrange(1, 4)):
+            file.seek(rng.randrange(size))
+            file.write(rng.randbytes(rng.choice((1, 40, 5000))))
+
+
+def check_damage_under_a_mount(room):
+    """While layers and trees of a mount are damaged at random, what is read is right or EIO; once they are mended, it is right."""
+    rng = random.Random(3)
+    files = {"f%d" % it: rng.randbytes(60000 + 1234 * it) for it in range(4)}
+    layers = [made.archive(*(made.entry(name, files[name]) for name in names)) for names in (("f0", "f1", "f2"), ("f3",))]
+    out, digest, _ = converted(room, layers)
+    room.layers("pull", "oci:" + out, "app:1")
+    at = mounted(room, "app@" + digest)
+    paths = [path + end for path in mounted_layers(room, "app:1") for end in ("", ".verity")]
+    whole = {}
+    for path in paths:
+        with open(path, "rb") as file:
+            whole[path] = file.read()
+    lost = 0
+    for turn in range(20):
+        path = rng.choice(paths)
+        damage(path, rng)
+        lost += sum(pages_read(at, files, rng.randrange(3)))
+        with open(path, "wb") as file:
+            file.write(whole[path])
+        if turn % 10 == 0:
+            hold("pages that are lost once all is mended", 0, sum(pages_read(at, files, turn % 3)))
+    hold("a page was lost", True, lost > 0)
+
+
+def pages_read(at, files, first):
+    """Reads every third page of files; of each whether it is lost. It must be right else."""
+    for name, data in files.items():
+        for place in range(first * PAGE, len(data), 3 * PAGE):
+            got = part(os.path.join(at, name), place, PAGE)
+            if got != errno.EIO:
+                hold("%s at %d" % (name, place), data[place:place + PAGE], got)
+            yield got == errno.EIO
+
+
 def acl(*entries):
     """A list of rights as Linux has it in an attribute: tags, rights, and numbers."""
     return struct.pack("<I", 2) + b"".join(struct.pack("<HHI", *it) for it in entries)
@@ -236,4 +453,5 @@ def check_mount_helper(room):
 
 
 CHECKS = [check_mounts_by_name, check_one_file, check_used_layers, check_verified_mounts, check_order, check_order_of_a_folder,
-          check_rights_of_an_acl, check_mount_helper]
+          check_rights_of_an_acl, check_mount_helper, check_sealed_by_name, check_changed_stores, check_stores_without_digests,
+          check_manifests_without_digests, check_wrong_trees, check_damage_under_a_mount]

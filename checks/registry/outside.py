@@ -10,6 +10,7 @@ import time
 from checks.registry import made
 from checks.registry.hostile import flip, hold_after_end, large_layers
 from checks.registry.loopback import Registry, needs_root, push
+from checks.registry.mounts import converted, hold_sealed
 from checks.registry.rooms import LAYERS, MOUNT, NAME, Failed, LeftOut, hold, needs
 
 HERE = os.path.dirname(os.path.abspath(__file__))
@@ -66,6 +67,20 @@ def check_back_unchanged(room):
     push(room, registry, out + ":1", "app:1")
     room.ran("skopeo", "copy", "-q", "docker://%s/app:1" % registry.host, "oci:%s:1" % back)
     hold("blobs", sorted(os.listdir(out + "/blobs/sha256")), sorted(os.listdir(back + "/blobs/sha256")))
+
+
+def check_sealed_from_a_registry(room):
+    """An image that was pushed and pulled, packed or not, as romfs or in archives, is mounted by its manifest's digest there."""
+    needs_root()
+    registry = Registry(room)
+    for number, words in enumerate(([], ["--compress", "gzip"], ["--tar", "--compress", "gzip"])):
+        _, _, digests = converted(room)
+        out, name, store = room.name(), "app%d" % number, room.name()
+        room.layers("convert", *words, made.layout(room.name()).path, out, store=store)
+        push(room, registry, out + ":1", name + ":1")
+        digest = made.Read(out, "1").top["digest"]
+        room.layers("pull", "docker://%s/%s@%s" % (registry.host, name, digest), name + ":1")
+        hold_sealed(room, digests, "%s@%s" % (name, digest))
 
 
 def check_only_what_is_missing(room):
@@ -203,5 +218,5 @@ def check_full_store(room):
     hold("why", True, line.endswith(": no space left on device"))
 
 
-CHECKS = [check_against_umoci, check_back_unchanged, check_only_what_is_missing, check_broken_registry,
+CHECKS = [check_against_umoci, check_back_unchanged, check_sealed_from_a_registry, check_only_what_is_missing, check_broken_registry,
           check_platforms_of_a_registry, check_killed_while_it_fetches, check_full_store, check_built_by_buildah]

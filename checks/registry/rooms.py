@@ -16,6 +16,8 @@ LAYERS = os.path.join(TOOLS, "layers.py")
 MOUNT = os.path.join(TOOLS, "mount.py")
 # a fault's line begins so
 NAME = "tools/layers.py: "
+# behind a layer's name, the name of its tree
+TREE = ".verity"
 # what hangs is ended after so many seconds
 SECONDS = 300
 
@@ -113,7 +115,16 @@ class Room:
                                                                           done.stderr[-600:], line))
 
     def blobs(self, store=None):
-        return sorted(os.listdir(os.path.join(store or self.store, "blobs", "sha256")))
+        """The layers of a store, each of which must have a tree, but for those set aside."""
+        found = set(os.listdir(os.path.join(store or self.store, "blobs", "sha256")))
+        layers = {it for it in found if not it.endswith(TREE)}
+        hold("layers without a tree", set(), {it for it in layers if not it.endswith(".damaged") and it + TREE not in found})
+        return sorted(layers)
+
+    def trees(self, store=None):
+        """The layers of a store that have a tree, or had one when they were there."""
+        found = os.listdir(os.path.join(store or self.store, "blobs", "sha256"))
+        return sorted(it[:-len(TREE)] for it in found if it.endswith(TREE))
 
     def close(self):
         for end in reversed(self.ends):

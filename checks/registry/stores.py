@@ -15,6 +15,9 @@ from checks.plain import plain
 from checks.registry import made
 from checks.registry.rooms import LAYERS, LeftOut, hold, shown_by
 
+# the annotation of a layer that says the fs-verity digest of its image
+VERITY = "vnd.strata.layer.verity"
+
 
 def mounted_layers(room, name, store=None):
     """The paths of an image's layers, as the file of the image in the store says them."""
@@ -31,7 +34,7 @@ def hold_converted(room, path, tag, source, packed):
     hold("media types", [made.ROMFS + packed] * len(was["layers"]), [it["mediaType"] for it in manifest["layers"]])
     config, config_was = new.json(manifest["config"]), old.json(was["config"])
     images = [unpacked(new.blob(it), packed) for it in manifest["layers"]]
-    notes = [{"vnd.strata.layer.source": it["digest"]} for it in was["layers"]]
+    notes = [{"vnd.strata.layer.source": it["digest"], VERITY: fsverity(room, image)} for it, image in zip(was["layers"], images)]
     for it, below in zip(notes[1:], images):
         it["vnd.strata.layer.parent"] = made.digest(below)
     hold("what layers were made of, and for", notes, [it["annotations"] for it in manifest["layers"]])
@@ -40,6 +43,17 @@ def hold_converted(room, path, tag, source, packed):
     hold("the configuration", config_was, config)
     hold("beginnings", [b"-rom1fs-"] * len(images), [it[:8] for it in images])
     return images
+
+
+def fsverity(room, data):
+    """The digest of some bytes as fsverity prints it, or, where it isn't there, as its documentation says for one block and
+    for more."""
+    if shutil.which("fsverity"):
+        path = room.name()
+        with open(path, "wb") as file:
+            file.write(data)
+        return room.ran("fsverity", "digest", path).split(" ")[0]
+    return made.fsverity_digest(data)
 
 
 def unpacked(data, packed):
@@ -92,9 +106,10 @@ def check_compress(room):
         hold("back", files_of(plain), files_of(back))
 
 
-def hold_archives(layout, images, packed):
+def hold_archives(room, layout, images, packed):
     """Holds that layers are archives of images, each of one file, by another reader of archives."""
     manifest = layout.json(layout.top)
+    hold("fs-verity digests", [fsverity(room, it) for it in images], [it["annotations"][VERITY] for it in manifest["layers"]])
     hold("media types", [made.ARCHIVE + packed] * len(images), [it["mediaType"] for it in manifest["layers"]])
     archives = [unpacked(layout.blob(it), packed) for it in manifest["layers"]]
     hold("digests of layers", [made.digest(it) for it in archives],
@@ -116,7 +131,7 @@ def check_archives(room):
         out, again, elsewhere = room.name(), room.name(), room.name()
         words = ["--tar", *(["--compress", packed[1:]] if packed else [])]
         room.layers("convert", *words, source.path, out)
-        hold_archives(made.Read(out, "1"), images, packed)
+        hold_archives(room, made.Read(out, "1"), images, packed)
         room.layers("convert", *words, source.path, again, store=room.name())
         hold("the same bytes", files_of(out), files_of(again))
         room.layers("pull", "oci:" + out, "taken:1", store=elsewhere)
@@ -189,11 +204,11 @@ def check_shared(room):
     hold("pruned", "0 layers removed, 0 bytes; 0 are in use by a mount\n", room.layers("prune"))
     room.layers("remove", "two")
     hold("pruned", True, room.layers("prune").startswith("2 layers removed, "))
-    hold("layers that stay", before, room.blobs())
+    hold("layers that stay", (before, before), (room.blobs(), room.trees()))
     room.refused("two: no such image in %s" % room.store, "remove", "two")
     room.layers("remove", "one:latest")
     room.layers("prune")
-    hold("nothing stays", ([], []), (room.blobs(), os.listdir(os.path.join(room.store, "made"))))
+    hold("nothing stays", ([], [], []), (room.blobs(), room.trees(), os.listdir(os.path.join(room.store, "made"))))
 
 
 def shown_with_attributes(room, name, store):

@@ -11,6 +11,7 @@ from strata_layers.layout_writer import LayoutWriter, check_tag, split_new_name
 from strata_layers.layouts import INDEXES, MANIFESTS, digest_of
 from strata_layers.packing import packed_pieces
 from strata_layers.store import pieces_of
+from strata_layers.store_images import VERITY
 from strata_layers.store_layers import Maker
 
 CONFIG = "application/vnd.oci.image.config.v1+json"
@@ -64,7 +65,7 @@ class Converter:
         """Writes a layer; its descriptor, and the digits of what it is unpacked."""
         digits, size, unpacked = self.blob(layer)
         media = self.media + ("+" + self.packing if self.packing else "")
-        notes = {SOURCE: source}
+        notes = {SOURCE: source, VERITY: layer.verity}
         if layer.part:
             notes[PART] = str(layer.part + 1)
         if layer.parent:

@@ -93,7 +93,7 @@ class Reference:
         return data, "sha256:" + hashlib.sha256(data).hexdigest()
 
     def manifest(self, asked):
-        """The manifest that is meant, and its digest."""
+        """The manifest that is meant, its bytes, their digest, and what it is called."""
         where = shown(self.name + self.rest)
         data, digest = self.raw_manifest(self.rest)
         value = parsed(data, where)
@@ -102,7 +102,7 @@ class Reference:
             it = chosen(found, where, asked)
             data, digest = self.raw_manifest("@%s:%s" % (it.algorithm, it.digits))
             value = parsed(data, where)
-        return value, digest, where
+        return value, data, digest, where
 
 
 def write_known(folder, known):
@@ -118,10 +118,11 @@ def write_known(folder, known):
 
 @contextlib.contextmanager
 def fetched(store, reference, asked, is_known):
-    """A layout with an image of a registry, and the digest of its manifest there. `is_known` tells
-    of a layer's descriptor whether the store has it; such a layer is an empty file of its size."""
+    """A layout with an image of a registry, the digest of its manifest there, and that manifest's
+    bytes. `is_known` tells of a layer's descriptor whether the store has it; such a layer is an
+    empty file of its size."""
     it = Reference(reference)
-    manifest, digest, where = it.manifest(asked)
+    manifest, data, digest, where = it.manifest(asked)
     folder = os.path.join(store.place, "new", secrets.token_hex(8))
     try:
         with faults_below(store.place):
@@ -129,6 +130,6 @@ def fetched(store, reference, asked, is_known):
             write_known(folder, known)
         # a folder's name with a colon would be another to skopeo
         skopeo("copy", TRANSPORT + it.name + "@" + digest, "oci:.:" + TAG, folder=folder, most=largest(manifest, where))
-        yield Layout(folder), digest
+        yield Layout(folder), digest, data
     finally:
         shutil.rmtree(folder, ignore_errors=True)

@@ -10,6 +10,8 @@ import re
 
 from strata_format.refused import Refused, shown
 from strata_layers.layouts import INDEXES, LAYERS_MOST, MANIFESTS, NESTED_MOST, PACKED, descriptor_of, field
+from strata_layers.store_images import VERITY
+from strata_layers.verity import DIGEST
 
 ROMFS = "application/vnd.strata.layer.v1.romfs"
 # media types of layers that are images of romfs, each with how it is packed
@@ -22,7 +24,7 @@ PARTS = re.compile("[2-9]|[1-9][0-9]{1,2}")
 PARENT = "vnd.strata.layer.parent"
 PARENTS = re.compile("sha256:[0-9a-f]{64}")
 
-Image = collections.namedtuple("Image", "descriptor manifest config media layers archives parts parents")
+Image = collections.namedtuple("Image", "descriptor manifest config media layers archives parts parents digests")
 
 
 def layers_in(manifest, where):
@@ -59,6 +61,13 @@ def parents_in(manifest):
     return [it.partition(":")[2] if isinstance(it, str) and PARENTS.fullmatch(it) else None for it in found]
 
 
+def digests_in(manifest):
+    """Of each layer of a manifest the fs-verity digest of its image, which an archive of one says,
+    too; None where it isn't said."""
+    found = [it.get("annotations", {}).get(VERITY) for it in manifest["layers"]]
+    return [it if isinstance(it, str) and DIGEST.fullmatch(it) else None for it in found]
+
+
 def notes_in(manifest, key):
     """What the annotations of each layer of a manifest say under a key; None of what is no image of
     romfs."""
@@ -76,7 +85,8 @@ def image_of(layout, descriptor, asked=None):
         raise Refused("%s: is for %s" % (where, shown(str(config["architecture"]))))
     archives = archives_in(config, len(layers), where)
     parts, parents = parts_in(manifest), parents_in(manifest)
-    return Image(descriptor, manifest, config, described.media, layers, archives, parts, parents)
+    return Image(descriptor, manifest, config, described.media, layers, archives, parts, parents,
+                 digests_in(manifest))
 
 
 def all_images(layout, tag):

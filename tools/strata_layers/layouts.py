@@ -245,18 +245,22 @@ class Layout:
     def open(self, it):
         return Blob(os.path.join(self.folder, "blobs", it.algorithm, it.digits), it, self.heard)
 
-    def document(self, it, is_config=False):
-        """A blob that is a JSON object, and what it is called. A configuration says no media type."""
-        where = "blob " + digest_of(it)
+    def small_blob(self, it):
+        """The bytes of a blob that may be no larger than a JSON object."""
         if it.size > JSON_MOST:
-            raise Refused("%s: above %d bytes" % (where, JSON_MOST))
+            raise Refused("blob %s: above %d bytes" % (digest_of(it), JSON_MOST))
         blob = self.open(it)
         try:
             data = blob.read(it.size)
             blob.settle()
         finally:
             blob.close()
-        value = parsed(data, where)
+        return data
+
+    def document(self, it, is_config=False):
+        """A blob that is a JSON object, and what it is called. A configuration says no media type."""
+        where = "blob " + digest_of(it)
+        value = parsed(self.small_blob(it), where)
         if not is_config and value.get("mediaType", it.media) != it.media:
             raise Refused("%s: its media type is %s" % (where, shown(str(value["mediaType"]))))
         return value, where

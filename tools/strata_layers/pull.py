@@ -5,8 +5,8 @@ import os
 from strata_format.progress import Progress
 from strata_format.refused import Refused, shown
 from strata_layers.fetch import TAG, TRANSPORT, fetched, split_reference
-from strata_layers.layout_images import image_of
-from strata_layers.layouts import digest_of
+from strata_layers.layout_images import digests_in, image_of
+from strata_layers.layouts import digest_of, parsed
 from strata_layers.open_layout import open_layout
 from strata_layers.store_images import LATEST, StoredImage, count_of, put_image, split_image
 from strata_layers.store_layers import Maker
@@ -32,15 +32,22 @@ def checked_name(word):
 @contextlib.contextmanager
 def opened(maker, source, platform):
     """The layout that an image is read from, its descriptor there, and the digest that it is known
-    by."""
+    by, with the bytes that have it."""
     if source.startswith(TRANSPORT):
         reference = source[len(TRANSPORT):]
-        with fetched(maker.store, reference, platform, maker.has_made) as (layout, digest):
-            yield layout, layout.descriptor(TAG, platform), digest
+        with fetched(maker.store, reference, platform, maker.has_made) as (layout, digest, data):
+            yield layout, layout.descriptor(TAG, platform), digest, data
         return
     layout, tag = open_layout(source[len(LAYOUT):])
     found = layout.descriptor(tag, platform)
-    yield layout, found, digest_of(found)
+    yield layout, found, digest_of(found), layout.small_blob(found)
+
+
+def sealed_text(data, layers):
+    """The text of a manifest that says the fs-verity digests of all these layers; else None. Without
+    them it says nothing of what is mounted."""
+    digests = digests_in(parsed(data, "manifest"))
+    return data.decode() if digests == [it.verity for it in layers] else None
 
 
 def pull(store, source, name, platform, lost):
@@ -52,13 +59,14 @@ def pull(store, source, name, platform, lost):
     name = checked_name(name or name_said(source))
     with store.locked():
         maker = Maker(store, lost, checks_archives=True)
-        with opened(maker, source, platform) as (layout, found, digest):
+        with opened(maker, source, platform) as (layout, found, digest, data):
             image = image_of(layout, found, platform)
             with Progress("layers", sum(it.size for it in image.layers)) as progress:
                 layout.heard = progress.add
                 layers = [it for found in maker.layers(layout, image) for it in found]
         lost.settle()
-        put_image(store, name, StoredImage(source, digest, layers, image.config))
+        text = sealed_text(data, layers)
+        put_image(store, name, StoredImage(source, digest, layers, image.config, text))
     return name, count_of(layers), maker.made_count
 
 

@@ -1,46 +1,13 @@
-"""`seal`: fs-verity's tree and digest of an image (Documentation/filesystems/fsverity.rst): blocks of
-4,096 bytes, no salt."""
+"""`seal`: writes the fs-verity tree of an image beside it, and says its digest."""
 import contextlib
-import hashlib
 import os
 import stat
-import struct
 
 from strata_format.files import PIECE, new_file, open_folder, write_all
 from strata_format.progress import Progress
 from strata_format.refused import Refused, shown
 from strata_layers.image_file import PASSING, check_aim
-
-BLOCK = 4096
-# the algorithms' numbers in a descriptor
-ALGORITHMS = {"sha256": 1, "sha512": 2}
-# behind an image's name
-TREE = ".verity"
-
-
-def digests_of(algorithm, data):
-    """The digests of the blocks of some bytes, the last filled with zeros."""
-    blocks = (data[at:at + BLOCK].ljust(BLOCK, b"\0") for at in range(0, len(data), BLOCK))
-    return b"".join(hashlib.new(algorithm, block).digest() for block in blocks)
-
-
-def in_blocks(data):
-    return data + bytes(-len(data) % BLOCK)
-
-
-def levels_above(algorithm, digests):
-    """The levels of a tree over these digests, the root's first, and the root hash."""
-    size, levels = hashlib.new(algorithm).digest_size, []
-    while len(digests) > size:
-        levels.append(in_blocks(digests))
-        digests = digests_of(algorithm, levels[-1])
-    return levels[::-1], digests or bytes(size)
-
-
-def file_digest(algorithm, size, root):
-    """The digest of the descriptor."""
-    descriptor = struct.pack("<BBBBIQ64s32s144s", 1, ALGORITHMS[algorithm], 12, 0, 0, size, root, b"", b"")
-    return hashlib.new(algorithm, descriptor).hexdigest()
+from strata_layers.verity import TREE, Sealing
 
 
 def open_image(path):
@@ -52,24 +19,19 @@ def open_image(path):
     return os.fdopen(number, "rb", 0)
 
 
-def read_digests(path, algorithm, progress):
-    """The digests of a file's blocks, and its size."""
-    parts, size = [], 0
-    with open_image(path) as file:
-        while data := read_whole(file, PIECE // 64):
-            parts.append(digests_of(algorithm, data))
-            size += len(data)
+def read_seal(path, algorithm, progress):
+    """The digest and the tree of a file."""
+    with open_image(path) as file, Sealing(algorithm) as sealing:
+        while data := file.read(PIECE // 64):
+            sealing.add(data)
             progress.add(len(data))
-    return b"".join(parts), size
+        return sealing.seal()
 
 
-def read_whole(file, count):
-    """So many bytes of a file, or all that are left."""
-    parts = []
-    while count and (data := file.read(count)):
-        parts.append(data)
-        count -= len(data)
-    return b"".join(parts)
+def write_tree(file, seal):
+    """Writes a tree to a new file."""
+    for level in seal.levels:
+        write_all(file, level)
 
 
 def seal_image(path, algorithm):
@@ -80,10 +42,8 @@ def seal_image(path, algorithm):
         folder = open_folder(place)
         opened.callback(os.close, folder)
         progress = opened.enter_context(Progress("image", None))
-        digests, size = read_digests(path, algorithm, progress)
-        levels, root = levels_above(algorithm, digests)
+        seal = read_seal(path, algorithm, progress)
         new = opened.enter_context(new_file(folder, place, 0o666, PASSING))
-        for level in levels:
-            write_all(new.file, level)
+        write_tree(new.file, seal)
         new.keep(folder, os.path.basename(path) + TREE)
-    return "%s:%s" % (algorithm, file_digest(algorithm, size, root))
+    return seal.digest

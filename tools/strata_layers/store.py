@@ -1,9 +1,11 @@
 """A store of layers: each layer once, as an image of romfs in a file that its digest names.
 
     STORE/blobs/sha256/DIGITS   layers, which are never written to once they have this name
+    STORE/blobs/sha256/DIGITS.verity    the fs-verity tree of one
     STORE/blobs/sha256/DIGITS.damaged   one that had other bytes than its name says
     STORE/images/NAME:TAG       images, as JSON; a slash of the name is a % here
     STORE/made/DIGEST           which layer was made of a blob of this digest
+    STORE/made/DIGEST.verity    the fs-verity digest of a layer
     STORE/new/                  what is being written; who holds the lock may clear it
     STORE/lock                  held by the one run that writes
 
@@ -26,8 +28,8 @@ DIGEST, DIGITS, DIGITS_COUNT = "sha256:", frozenset("0123456789abcdef"), 64
 NO_STORE = "%s: no store of layers"
 # the folders of a store, each behind the one that it is in
 FOLDERS = "blobs", "blobs/sha256", "images", "made", "new"
-# the end of the name of a layer that is set aside
-DAMAGED = ".damaged"
+# the end of the name of a layer that is set aside, and of that of a layer's tree
+DAMAGED, TREE = ".damaged", ".verity"
 PIECE = 1 << 18
 ZEROS = bytes(PIECE)
 SMALL_MOST = 8 << 20
@@ -271,6 +273,13 @@ class Store:
         os.fchmod(new.file.fileno(), 0o444)
         new.keep(self.blobs, digits)
 
+    def keep_tree(self, levels, digits):
+        """Keeps the tree of a layer."""
+        with self.new_file() as new:
+            for level in levels:
+                write_all(new.file, level)
+            self.keep_layer(new, digits + TREE)
+
     def set_aside(self, number, digits):
         """Takes the layer in an open file, whose bytes are wrong, out of use; whether it still had its
         name. The store must be locked."""
@@ -286,6 +295,7 @@ class Store:
         return True
 
     def layers(self, ending=""):
-        """The digits of all layers, in order; with the ending DAMAGED, of those set aside."""
+        """The digits of all layers, in order; with the ending DAMAGED, of those set aside, and with
+        TREE of those that have a tree."""
         names = (it[:len(it) - len(ending)] for it in os.listdir(self.blobs) if it.endswith(ending))
         return sorted(filter(are_digits, names))

@@ -3,9 +3,10 @@ import collections
 import fcntl
 import os
 
+from strata_format.json_text import value_of
 from strata_format.progress import Progress
 from strata_format.refused import Refused, shown
-from strata_layers.store import Shared, Store, default_place, digits_of, file_digits
+from strata_layers.store import DIGEST, Shared, Store, are_digits, default_place, digits_of, file_digits
 
 # the letters of names and tags, and which of them don't begin one
 ALPHABET = frozenset("ABCDEFGHIJKLMNOPQRSTUVWXYZabcdefghijklmnopqrstuvwxyz0123456789._-")
@@ -14,11 +15,27 @@ NAME_MOST, TAG_MOST = 120, 128
 LATEST = "latest"
 
 # what is known of an image: where it came from, its manifest's digest there, its layers from the
-# lowest up, and its configuration
-StoredImage = collections.namedtuple("StoredImage", "source manifest layers config")
+# lowest up, its configuration, and the text of that manifest, if it says the fs-verity digest of
+# each layer; else None
+StoredImage = collections.namedtuple("StoredImage", "source manifest layers config text",
+                                     defaults=(None,))
 # an image of a layer; where a layer takes several, the higher ones are its parts from 1 on. `parent`
-# has the digits of the image that it was made to lie on; None where it is the lowest, or not known
-StoredLayer = collections.namedtuple("StoredLayer", "digits size part parent", defaults=(0, None))
+# has the digits of the image that it was made to lie on; None where it is the lowest, or not known.
+# `verity` is its fs-verity digest; None where it was brought before there were any
+StoredLayer = collections.namedtuple("StoredLayer", "digits size part parent verity",
+                                     defaults=(0, None, None))
+
+
+# before the digest of a manifest
+PIN = "@"
+# the annotation of a layer in a manifest that says the fs-verity digest of its image
+VERITY = "vnd.strata.layer.verity"
+
+
+# why a manifest says no digests for a mount
+UNSEALED = ("says no fs-verity digest of each layer, or was pulled before these were noted; pull again an image"
+            " that `strata-layers convert` wrote")
+CHANGED = "was changed in the store; pull the image again"
 
 
 class NoImage(Refused):
@@ -44,6 +61,15 @@ def split_image(word):
         raise Refused("%s: no name of an image; NAME[:TAG] is wanted, of letters, digits, `.`, `_`"
                       " and `-`, and `/` within NAME" % shown(word))
     return name, tag if colon else None
+
+
+def split_pin(word):
+    """The name, and the digest of the manifest, of `NAME[:TAG][@sha256:DIGITS]`; None where there is
+    none."""
+    name, at, digest = word.partition(PIN)
+    if at and not (digest.startswith(DIGEST) and are_digits(digest[len(DIGEST):])):
+        raise Refused("%s: behind @ the digest of a manifest is wanted, sha256: with 64 hex digits" % shown(word))
+    return name, digest if at else None
 
 
 def file_name(name, tag):
@@ -78,12 +104,52 @@ def image_in(store, word):
     return image_of_json(value, "%s: %s:%s" % (store.name, name, tag))
 
 
+def digest_of_text(text):
+    """The digest of a manifest by its text."""
+    try:
+        from _sha256 import sha256  # as in sharing: hashlib has it too, but loads OpenSSL first
+    except ImportError:
+        from hashlib import sha256
+    return DIGEST + sha256(text.encode("utf-8", "surrogatepass")).hexdigest()
+
+
+def pinned_image(store, word):
+    """The image that `NAME[:TAG]@DIGEST` means: its manifest has this digest, and its layers have
+    the fs-verity digests that this manifest says, whatever else the store says of it."""
+    front, digest = split_pin(word)
+    name, tag = split_image(front)
+    every = [it.rpartition(":") for it in names(store)]
+    there = [it for its_name, _, it in every if its_name == name and tag in (None, it)]
+    if not there:
+        raise NoImage("%s: no such image in %s" % (front, store.name))
+    for image in (image_in(store, "%s:%s" % (name, it)) for it in there):
+        if image.text is not None and digest_of_text(image.text) == digest:
+            return with_digests(image, word)
+        if image.manifest == digest:
+            raise Refused("%s: its manifest %s" % (word, CHANGED if image.text else UNSEALED))
+    raise Refused("%s: the manifest in %s is another, %s" % (word, store.name, image.manifest))
+
+
+def with_digests(image, word):
+    """An image with the fs-verity digests of its layers as its manifest says them."""
+    try:
+        layers = value_of(image.text.encode())["layers"]
+        digests = [DIGEST + digits_of(it["annotations"][VERITY], word) for it in layers]
+    except (ValueError, LookupError, TypeError, RecursionError):
+        digests = []
+    if len(digests) != len(image.layers):
+        raise Refused("%s: not a valid manifest" % word)
+    return image._replace(layers=[it._replace(verity=digest) for it, digest in zip(image.layers, digests)])
+
+
 def image_of_json(value, where):
     layers, config = value.get("layers"), value.get("config")
     if not isinstance(layers, list) or not layers or not isinstance(config, dict):
         raise Refused("%s: not a valid description of an image" % where)
     found = [layer_of_json(it, where) for it in layers]
-    return StoredImage(str(value.get("source")), str(value.get("manifest")), found, config)
+    text = value.get("text")
+    return StoredImage(str(value.get("source")), str(value.get("manifest")), found, config,
+                       text if isinstance(text, str) else None)
 
 
 def layer_of_json(value, where):
@@ -92,7 +158,10 @@ def layer_of_json(value, where):
     if not isinstance(size, int) or not isinstance(part, int):
         raise Refused("%s: not a valid description of a layer" % where)
     parent = digits_of(said["parent"], where) if "parent" in said else None
-    return StoredLayer(digits_of(said.get("digest"), where), size, part, parent)
+    verity = said.get("verity")
+    if verity is not None:
+        digits_of(verity, where)
+    return StoredLayer(digits_of(said.get("digest"), where), size, part, parent, verity)
 
 
 def layer_json(layer):
@@ -101,6 +170,8 @@ def layer_json(layer):
         value["part"] = layer.part
     if layer.parent:
         value["parent"] = "sha256:" + layer.parent
+    if layer.verity:
+        value["verity"] = layer.verity
     return value
 
 
@@ -118,6 +189,8 @@ def put_image(store, word, image):
     name, tag = split_image(word)
     import json
     value = {**image._asdict(), "layers": [layer_json(it) for it in image.layers]}
+    if image.text is None:
+        del value["text"]
     data = json.dumps(value, indent=1).encode()
     store.write_small(store.images, file_name(name, tag or LATEST), data)
 
@@ -155,7 +228,7 @@ def held_layer(store, layer, word, heard):
 def layers_of(store, word, is_verified=False):
     """An image's layers, the lowest first, and open files of them: prune leaves a layer as long as
     any process has such a file, which the server of a mount is given."""
-    image, marks = image_in(store, word), []
+    image, marks = pinned_image(store, word) if PIN in word else image_in(store, word), []
     with Progress("verified", sum(it.size for it in image.layers)) as progress:
         for layer in image.layers:
             marks.append(held_layer(store, layer, word, progress.add if is_verified else None))
@@ -175,15 +248,24 @@ def image_meant(word, store):
     if store is None or is_file(word):
         return None
     try:
-        return full_name(store, word)
+        name, digest = split_pin(word)
+        if digest is None:
+            return full_name(store, name)
+        return word if has_name(store, name) else None
     except Refused:
         return None
+
+
+def has_name(store, word):
+    """Whether a store has an image of a name, under whatever tag."""
+    name, _ = split_image(word)
+    return any(it.rpartition(":")[0] == name for it in names(store))
 
 
 def may_be_stored(word):
     """Whether a word can be the name of an image of a store."""
     try:
-        split_image(word)
+        split_image(split_pin(word)[0])
         return True
     except Refused:
         return False
@@ -208,23 +290,26 @@ def store_for(words, place):
 
 def mounted_words(words, place=None, is_verified=False):
     """The paths that the words of a mount mean, files and images of the store at a place; the open
-    files that mark layers of the store as in use; and by the path of a layer the digits of the
-    images that it was made to lie on. OSError if an image can't be opened."""
-    paths, marks, parents = [], [], {}
+    files that mark layers of the store as in use; by the path of a layer the digits of the images
+    that it was made to lie on; and of each path the fs-verity digest that the store says, or None.
+    OSError if an image can't be opened."""
+    paths, marks, parents, digests = [], [], {}, []
     try:
         store = store_for(words, place or default_place())
         for word in words:
             image = image_meant(word, store)
             if image is None:
                 paths.append(word)
+                digests.append(None)
                 continue
             layers, held = layers_of(store, image, is_verified)
             marks += held
             for it in layers:
                 paths.append(store.path_of(it.digits))
+                digests.append(it.verity)
                 parents.setdefault(paths[-1], set()).add(it.parent)
     except Refused as refused:
         where, _, why = str(refused).partition(": ")
-        hint = "; " + brought(where) if isinstance(refused, NoImage) else ""
+        hint = "; " + brought(where.partition(PIN)[0]) if isinstance(refused, NoImage) else ""
         raise OSError(0, why + hint, where) from None
-    return paths, marks, parents
+    return paths, marks, parents, digests

@@ -15,8 +15,10 @@ from strata_layers.layer_images import LayerWriter, read_blob
 from strata_layers.layout_images import PACKED_ROMFS
 from strata_layers.layouts import LAYERS_MOST, PACKED, digest_of
 from strata_layers.packing import Unpacked
-from strata_layers.store import SMALL_MOST, digits_of, file_digits
+from strata_layers.store import SMALL_MOST, digits_of, pieces_of
 from strata_layers.store_images import StoredLayer, layer_json, layer_of_json
+from strata_layers.store_seals import keep_seal, made_digest, noted_digest
+from strata_layers.verity import Sealing, sealed_pieces
 
 # a layer that was made by other rules is made anew
 MAKER = 4
@@ -137,12 +139,12 @@ class Maker:
                 writer = LayerWriter(layout, number, it, archive, self.checks_archives)
                 implied = writer.write(new_file, self.lost, below)
                 archive = archive if self.checks_archives else None
-                digits = [file_digits(new.file.fileno()) for new in files]
+                read = [sealed_pieces(pieces_of(new.file.fileno())) for new in files]
             else:
-                digits, implied = [unpack_layer(layout, number, it, new_file())], []
-                self.hold_unpacked(it, "sha256:" + digits[0], archive)
-            images = [self.kept(*both, image.parts[number] + at)
-                      for at, both in enumerate(zip(files, digits))]
+                read, implied = [unpack_layer(layout, number, it, new_file())], []
+                self.hold_unpacked(it, "sha256:" + read[0][0], archive)
+            images = [self.kept(new, *both, image.parts[number] + at)
+                      for at, (new, both) in enumerate(zip(files, read))]
         self.note(record_name(it), Made(images, archive, implied, self.lost.since(before)))
         return images
 
@@ -152,10 +154,12 @@ class Maker:
             self.told.add(record_name(it))
             self.lost.add(lost)
 
-    def kept(self, new, digits, part):
-        """The image in a new file that is whole, which is kept where it isn't there. A layer is
-        counted by its lowest image."""
+    def kept(self, new, digits, seal, part):
+        """The image in a new file that is whole, which is kept where it isn't there, and so is its
+        tree. A layer is counted by its lowest image."""
         layer = StoredLayer(digits, os.fstat(new.file.fileno()).st_size, part)
+        if noted_digest(self.store, layer) != seal.digest:
+            keep_seal(self.store, digits, seal)
         if not self.stored(layer):
             self.store.keep_layer(new, digits)
             self.made_count += part == 0
@@ -194,7 +198,19 @@ class Maker:
             copy_front(number, new.file.fileno(), image.full)
             trailer.write_trailer(new.file.fileno(), image.full,
                                   {at: row for at, row in rows.items() if row is not None})
-            return self.kept(new, file_digits(new.file.fileno()), layer.part)
+            return self.kept(new, *sealed_pieces(pieces_of(new.file.fileno())), layer.part)
+
+    def sealed(self, layer):
+        """A layer of the store with its fs-verity digest. One that has no tree, as it was brought
+        before there were any, gets one, if its bytes are right."""
+        digest = noted_digest(self.store, layer)
+        if digest is None:
+            number = self.opened(layer)
+            try:
+                digest = made_digest(self.store, number, layer.digits)
+            finally:
+                os.close(number)
+        return layer._replace(verity=digest)
 
     def opened(self, layer):
         number = self.store.open_layer(layer.digits)
@@ -206,7 +222,8 @@ class Maker:
         """The images of all layers of an image, a list for each of its blobs, the lowest first."""
         below, found = Below(), []
         for at in range(len(image.layers)):
-            found.append(self.layer(layout, image, at, below))
+            found.append([self.sealed(it) for it in self.layer(layout, image, at, below)])
+            hold_digest(at, found[-1], image.digests[at])
             for layer in found[-1]:
                 number = self.opened(layer)
                 try:
@@ -217,6 +234,15 @@ class Maker:
         if count > LAYERS_MOST:
             raise Refused("its layers take %d images, and %d can be stacked" % (count, LAYERS_MOST))
         return with_parents(found, image.parents)
+
+
+def hold_digest(number, layers, said):
+    """Sees that the image of a layer has the fs-verity digest that its manifest says, if it says
+    one."""
+    digests = ", ".join(it.verity for it in layers)
+    if said not in (None, digests):
+        raise Refused("layer %d: the fs-verity digest of its image is %s, and the manifest says %s"
+                      % (number, digests, said))
 
 
 def with_parents(layers, said):
@@ -253,7 +279,8 @@ def paths_said(value, where):
 
 
 def unpack_layer(layout, number, it, file):
-    """Writes an image of romfs as it was before it was packed; the digits of its digest."""
+    """Writes an image of romfs as it was before it was packed; the digits of its digest, and its
+    seal."""
     return read_blob(layout, number, it, lambda blob: write_unpacked(blob, it, file))
 
 
@@ -261,9 +288,12 @@ def write_unpacked(blob, it, file):
     # what is not packed is hashed as the blob
     is_hashed = PACKED_ROMFS[it.media] != "" or it.algorithm != "sha256"
     source = Unpacked(blob, PACKED_ROMFS[it.media], is_hashed, UNPACKED_MOST)
-    try:
-        for data in image_pieces(iter(lambda: source.read(PIECE), b"")):
-            write_all(file, data)
-    finally:
-        source.close()
-    return source.digest().partition(":")[2] if is_hashed else it.digits
+    with Sealing() as sealing:
+        try:
+            for data in image_pieces(iter(lambda: source.read(PIECE), b"")):
+                sealing.add(data)
+                write_all(file, data)
+        finally:
+            source.close()
+        seal = sealing.seal()
+    return source.digest().partition(":")[2] if is_hashed else it.digits, seal

@@ -5,7 +5,7 @@ import os
 
 from strata_format.progress import Progress
 from strata_format.refused import Refused, shown
-from strata_layers.store import DAMAGED, file_digits
+from strata_layers.store import DAMAGED, TREE, pieces_of
 from strata_layers.store_images import count_of, image_in, layers_text, names
 
 
@@ -40,8 +40,8 @@ def users_of(found):
 
 
 def verified(store):
-    """A line for each layer whose digest is wrong, which is taken out of use, for each that is
-    missing, and for each image that can't be read."""
+    """A line for each layer whose digest is wrong, which is taken out of use, for each whose tree is
+    wrong, for each that is missing, and for each image that can't be read."""
     found, faults = found_images(store)
     yield from faults
     users, there = users_of(found), store.layers()
@@ -59,26 +59,39 @@ def needed_by(users, digits):
 
 def wrong_layer(store, digits, heard):
     """A line where a layer has other bytes than its digest says: it is set aside, if this user may
-    write in the store, so that no mount takes it, and the next pull brings it again."""
+    write in the store, so that no mount takes it, and the next pull brings it again. A wrong tree
+    is made anew."""
+    from strata_layers.store_seals import has_wrong_seal, keep_seal
+    from strata_layers.verity import sealed_pieces
     number = store.open_layer(digits)
     if number is None:
         return
     try:
-        got = file_digits(number, heard)
-        if got == digits:
-            return
+        got, seal = sealed_pieces(pieces_of(number), heard)
         where = shown(os.fsencode(store.path_of(digits)))
-        try:
-            with store.locked():
-                store.set_aside(number, digits)
-            yield ("%s: its digest is sha256:%s; it is set aside as %s%s; pull again, and mount again what is mounted"
-                   " of it" % (where, got, digits, DAMAGED))
-        except OSError as fault:
-            if fault.errno not in (errno.EACCES, errno.EPERM, errno.EROFS):
-                raise
-            yield "%s: its digest is sha256:%s; verify it as the store's owner, which sets it aside" % (where, got)
+        if got != digits:
+            yield from mended(
+                store, lambda: store.set_aside(number, digits), "%s: its digest is sha256:%s; " % (where, got),
+                "it is set aside as %s%s; pull again, and mount again what is mounted of it" % (digits, DAMAGED),
+                "sets it aside")
+        elif has_wrong_seal(store, digits, seal):
+            yield from mended(
+                store, lambda: keep_seal(store, digits, seal), "%s%s: it was changed; " % (where, TREE),
+                "it is made again; mount again what is mounted of it", "makes it again")
     finally:
         os.close(number)
+
+
+def mended(store, mend, what, done, owner_does):
+    """A line of what is wrong, and is mended if this user may write in the store."""
+    try:
+        with store.locked():
+            mend()
+        yield what + done
+    except OSError as fault:
+        if fault.errno not in (errno.EACCES, errno.EPERM, errno.EROFS):
+            raise
+        yield "%sverify it as the store's owner, which %s" % (what, owner_does)
 
 
 def prune(store):
@@ -91,6 +104,8 @@ def prune(store):
     users = users_of(found)
     unwanted = [it for it in store.layers() if it not in users]
     sizes = [taken_away(store, it) for it in unwanted + [it + DAMAGED for it in store.layers(DAMAGED)]]
+    for it in {*store.layers(TREE)} - {*store.layers()}:
+        os.unlink(it + TREE, dir_fd=store.blobs)
     forget(store)
     gone = [it for it in sizes if it is not None]
     return len(gone), sum(gone), len(sizes) - len(gone)

@@ -16,13 +16,15 @@ HELP = {
                " the same order. Layers are made in the store, each once, and copied from there."
                " Prints the name of the new layout in skopeo's form.",
     "pull": "Brings an image into the store, from a layout or, with skopeo, from a registry: only"
-            " the missing layers. Layers may be romfs images or archives, which are converted."
+            " the missing layers. Layers may be romfs images or archives, which are converted; each"
+            " gets an fs-verity tree, and must have the digest that the manifest says."
             " NAME is by default that of the layout's folder, or the image's name in the registry"
             " without the host.",
     "images": "Prints a line for each image: its name, number of layers, their bytes, and the digest"
               " of its manifest.",
     "verify": "Reads all layers and prints a line for each that is missing or has a wrong digest,"
-              " which is set aside as DIGEST.damaged; the status is then 1.",
+              " which is set aside as DIGEST.damaged, or a wrong tree, which is made again; the status"
+              " is then 1.",
     "remove": "Removes the name of an image; prune removes its layers.",
     "prune": "Removes the layers that no image names and no mount uses.",
     "config": "Prints entry point, command, environment, working directory and user of an image,"

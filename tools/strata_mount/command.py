@@ -36,9 +36,10 @@ HELP = """
 Mounts stacked romfs images, lowest first.
 
 positional arguments:
-  IMAGE.. DIR       images, lowest first, or image:NAME:TAG,
-                    and a directory; after -- names may
-                    begin with -
+  IMAGE.. DIR       images, lowest first, or image:NAME:TAG
+                    or image:NAME@sha256:MANIFEST, and a
+                    directory; after -- names may begin
+                    with -
 
 options:
   -h, --help        show this help message and exit
@@ -47,7 +48,7 @@ options:
                     max_read=N, ..; strata's: strict, whole,
                     workers=N, readers=N, uid=N, gid=N,
                     share, stack, caps, modeless, sealed,
-                    digest=DIGEST
+                    unsealed, digest=DIGEST
   --digest DIGEST   accept an image only with this fs-verity
                     digest; one a layer, in order, or none;
                     - accepts any image

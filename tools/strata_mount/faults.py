@@ -12,6 +12,7 @@ import zlib
 from strata_format import image_files, romfs
 from strata_format.refused import Refused, shown
 from strata_layers import tars
+from strata_layers.layer_order import split_blob
 from strata_layers.store import default_place
 from strata_layers.store_images import brought, may_be_stored
 from strata_mount import dead_mounts
@@ -114,8 +115,8 @@ def unsealed(path):
     try:
         front_of(path + TREE, 1)
     except OSError as fault:
-        return ("its tree %s: %s; `strata-layers seal` makes the tree of an image" % (
-            shown(os.fsencode(path + TREE)), fault.strerror.lower()))
+        how = "pull the image again" if split_blob(path)[0] else "`strata-layers seal` makes the tree of an image"
+        return "its tree %s: %s; %s" % (shown(os.fsencode(path + TREE)), fault.strerror.lower(), how)
     return "the image or its tree was changed, or the digest is another image's"
 
 

@@ -5,20 +5,28 @@ by its note.
 """
 import os
 
-from strata_format import ends
+from strata_format import ends, image_files
 from strata_format.refused import one_line
+from strata_mount import kernel_seals
 from strata_mount.mount_table import KIND, mounts
+from strata_mount.options import NOT_SEALED
 from strata_mount.runtime import start_of
 from strata_mount.sharing import noted_servers
 
 TICKS = os.sysconf("SC_CLK_TCK")
 # of `strata serve`, the options with a value behind them
 VALUED = ("--workers", "--readers", "--owner", "--digest")
+# how an image is named that the kernel holds to its digest
+DESCRIPTOR = kernel_seals.OPENED.removesuffix("%d")
+
+
+# what is said of a server
+FACTS = ("images", "digests", "sealed_by", "process", "memory", "age")
 
 
 class Server:
-    """A process that serves a mount: its number, the folder that it was mounted on first, the images,
-    and their digests where they were named."""
+    """A process that serves a mount: its number, the folder that it was mounted on first, the images
+    as it names them, and the digests to which it holds them."""
 
     def __init__(self, process, words):
         self.process, self.images, self.digests = process, [], []
@@ -30,6 +38,28 @@ class Server:
                 self.digests += [value] * (word == "--digest")
             elif not word.startswith("--") and word != "serve":
                 self.images.append(word)
+
+    def sealed_images(self):
+        """The images' names, their digests, and who holds them to these; no digests where no image
+        has one."""
+        digests = self.digests or [NOT_SEALED] * len(self.images)
+        rows = [self.sealed_image(*both) for both in zip(self.images, digests)]
+        images, digests, holders = map(list, zip(*rows)) if rows else ([], [], [])
+        return (images, digests, holders) if any(holders) else (images, [], [])
+
+    def sealed_image(self, image, digest):
+        """The same of one image. Of a descriptor, the kernel says what it is."""
+        if not image.startswith(DESCRIPTOR):
+            return image, digest, None if digest == NOT_SEALED else "strata"
+        link = "/proc/%d/fd/%s" % (self.process, image[len(DESCRIPTOR):])
+        try:
+            name, file = os.readlink(link), image_files.opened(link)
+            if file is not None:
+                with file:
+                    digest = kernel_seals.measured(file.fileno()) or digest
+            return name, digest, None if digest == NOT_SEALED else "kernel"
+        except OSError:
+            return image, digest, None
 
     def memory(self):
         """The bytes of memory that it holds, those that it shares by parts; None where that can't
@@ -79,10 +109,9 @@ def rows():
         by_device[mount.device] = by_device.get(mount.device) or server_of(mount, known, noted)
     for mount in found:
         it = by_device[mount.device]
-        facts = (None,) * 5 if it is None else (
-            it.images, it.digests, it.process, it.memory(), it.age())
-        yield {"folder": mount.place, "source": mount.source,
-               **dict(zip(("images", "digests", "process", "memory", "age"), facts))}
+        facts = (None,) * len(FACTS) if it is None else (
+            *it.sealed_images(), it.process, it.memory(), it.age())
+        yield {"folder": mount.place, "source": mount.source, **dict(zip(FACTS, facts))}
 
 
 def words_of(row):

@@ -3,7 +3,7 @@ image of the store."""
 import os
 
 from strata_format.refused import one_line
-from strata_layers.store_images import may_be_stored
+from strata_layers.store_images import PIN, may_be_stored
 
 # what images are pulled from
 SOURCES = ("docker://", "oci:")
@@ -22,6 +22,13 @@ def hold_names(words):
         front, _, name = word.partition("image:")
         if not front and name.startswith(SOURCES) and not may_be_stored(name):
             raise OSError(0, "no name of an image; " + pulled(name), name)
+
+
+def hold_unpinned(words):
+    """Looks that no image is named by its manifest's digest, where digests are left out."""
+    for word in words:
+        if PIN in word and not os.path.lexists(word):
+            raise OSError(0, "an image that is named by a digest is sealed: not with -o unsealed", word)
 
 
 def hold_split(word, images):

@@ -29,7 +29,7 @@ def option_words(plan):
     words += ["--workers", str(plan.workers)] * (plan.workers is not None)
     words += ["--readers", str(plan.readers)] * (plan.readers is not None)
     words += ["--owner", plan.owner] * (plan.owner is not None)
-    for digest in plan.digests:
+    for digest in plan.hashed():
         words += ["--digest", digest]
     return words
 
@@ -37,7 +37,7 @@ def option_words(plan):
 def serve_words(plan):
     """How strata is called."""
     words = [plan.program, "serve", "--device", "--attributes", *option_words(plan)]
-    return [*words, *map(os.path.abspath, plan.images)]
+    return [*words, *plan.opened()[:len(plan.images)]]
 
 
 def shown_name(plan):
@@ -49,7 +49,11 @@ def relay_words(plan, errors, counts):
     """How the relay is called, and the descriptors that it gets."""
     words = [sys.executable, "-IBS", RELAY, "--errors", str(errors.fileno())]
     words += ["--debug"] * plan.debug
-    numbers = [errors.fileno(), *plan.marks]
+    numbers = [errors.fileno(), *plan.passed()]
+    for number in plan.by_kernel.values():
+        words += ["--pass", str(number)]
+    for it in plan.seals():
+        words += ["--seal", "not sealed" if it is None else "sealed by %s: %s" % it]
     if counts is not None:
         words += ["--stats", str(counts)]
         numbers.append(counts)
@@ -59,7 +63,7 @@ def relay_words(plan, errors, counts):
 def served(plan, device, errors, counts, confinement):
     """Starts strata on an open device, away from the signals of the terminal and from this folder.
     The device is open there alone from then on."""
-    words, numbers = [], plan.marks
+    words, numbers = [], plan.passed()
     if plan.is_relayed():
         words, numbers = relay_words(plan, errors, counts)
     try:
@@ -76,8 +80,7 @@ def confinement_of(plan):
     """What the server will be held to; None where it keeps all privileges."""
     if plan.keeps_privileges:
         return None
-    files = list(map(os.path.abspath, plan.files()))
-    return privileges.Confinement(plan.program, files, is_direct=not plan.is_relayed())
+    return privileges.Confinement(plan.program, plan.opened(), is_direct=not plan.is_relayed())
 
 
 def prepare(confinement):

@@ -17,7 +17,7 @@ OWN = ("fd", "rootmode", "user_id", "group_id", "fsname", "subtype", "auto_unmou
 SEVERAL, OWNERS = (1, 64), (0, 2 ** 32 - 1)
 STRATA = {"strict": None, "whole": None, "modeless": None, "workers": SEVERAL, "readers": SEVERAL,
           "uid": OWNERS, "gid": OWNERS, "share": None, "stack": None, "caps": None,
-          "sealed": None}
+          "sealed": None, "unsealed": None}
 # the hex digits of a digest by its algorithm; and what stands for one
 DIGITS = {"sha256": 64, "sha512": 128}
 HEX = frozenset("0123456789abcdefABCDEF")
@@ -36,6 +36,8 @@ class Options:
         self.mount, self.strata, self.digests, self.unknown = [], {}, [], []
         for word in words_in(text):
             self.add(word)
+        if "sealed" in self.strata and "unsealed" in self.strata:
+            raise Wrong("sealed: not with unsealed")
 
     def add(self, word):
         name, equals, value = word.partition("=")

@@ -22,8 +22,9 @@ class Plan:
     # what mount(8) was given, where the images are between its colons
     word = None
     words, owner, workers, readers = (), None, None, None
-    # of each image in order, or of none; and whether each must have one
-    digests, is_sealed = (), False
+    # of each image in order, or of none; whether each must have one; and whether those that the
+    # store says are left out
+    digests, is_sealed, is_unsealed = (), False, False
     background = strict = whole = modeless = replace = debug = verify = False
     may_replace, store = True, None
     # one mount for all who ask for the same, of which --print tells the folder; over a mount that
@@ -35,6 +36,8 @@ class Plan:
     marks = ()
 
     def __init__(self, **said):
+        # open files of images that the kernel holds to their digests, by the images' numbers
+        self.by_kernel = {}
         self.__dict__.update(said)
 
     def say(self, line):
@@ -48,13 +51,35 @@ class Plan:
     def is_relayed(self):
         return self.debug or self.stats is not None
 
+    def hashed(self):
+        """The digests to which strata itself holds images, in order; none where it holds no image to
+        one."""
+        found = [NOT_SEALED if at in self.by_kernel else it for at, it in enumerate(self.digests)]
+        return found if any(it != NOT_SEALED for it in found) else []
+
     def trees(self):
-        """The files beside those images that have a digest, with their trees."""
-        return [image + TREE for image, digest in zip(self.images, self.digests) if digest != NOT_SEALED]
+        """The files beside those images that strata holds to a digest, with their trees."""
+        return [image + TREE for image, digest in zip(self.images, self.hashed()) if digest != NOT_SEALED]
 
     def files(self):
         """All files that strata reads."""
         return [*self.images, *self.trees()]
+
+    def opened(self):
+        """The names by which strata opens these files: of what the kernel holds to a digest, that of
+        the descriptor that was measured."""
+        names = map(os.path.abspath, self.files())
+        return ["/proc/self/fd/%d" % self.by_kernel[at] if at in self.by_kernel else name
+                for at, name in enumerate(names)]
+
+    def passed(self):
+        """The descriptors that the server gets."""
+        return [*self.marks, *self.by_kernel.values()]
+
+    def seals(self):
+        """Of each image by whom it is held to a digest, and to which; None where it isn't."""
+        return [None if it == NOT_SEALED else ("the kernel" if at in self.by_kernel else "strata", it)
+                for at, it in enumerate(self.digests)]
 
     def settle(self, options):
         """Takes over what -o says."""
@@ -70,7 +95,7 @@ class Plan:
         # whether it is meant that others see images that keep no modes
         self.modeless = "modeless" in options.strata
         self.digests = self.digests or options.digests
-        self.is_sealed = "sealed" in options.strata
+        self.is_sealed, self.is_unsealed = "sealed" in options.strata, "unsealed" in options.strata
         self.workers = options.strata.get("workers")
         self.readers = options.strata.get("readers")
         self.owner = options.owner()

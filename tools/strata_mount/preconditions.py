@@ -14,6 +14,8 @@ from strata_mount.options import NOT_SEALED
 # the last folder
 OPENED = ("/lib64/ld-linux-x86-64.so.2", "/etc/ld.so.preload", "/etc/ld.so.cache", "/dev/null",
           "/sys/devices/system/cpu/online", "/sys/fs/cgroup/cpu.max", "/proc/self/fd")
+# what gives a digest to the layers of an image that was pulled before there were any
+PULL_AGAIN = "; pull the image again"
 # as many links as the kernel follows on the way to a file
 LINKS_MOST = 40
 
@@ -65,21 +67,36 @@ def clear(plan):
 
 
 def find_images(plan):
-    """Puts the layers of the store's images instead of their names, and says where one lies
-    on another than it was made for."""
-    parents = {}
+    """Puts the layers of the store's images instead of their names, with their digests, and says
+    where one lies on another than it was made for."""
+    parents, digests = {}, []
     if plan.store is not None or plan.verify or not all(map(os.path.lexists, plan.images)):
         from strata_layers import store_images
         from strata_mount import meant
         meant.hold_names(plan.images)
         found = store_images.mounted_words(plan.images, plan.store, plan.verify)
-        plan.images, plan.marks, parents = found
+        if plan.is_unsealed:
+            meant.hold_unpinned(plan.images)
+        plan.images, plan.marks, parents, digests = found
         if plan.word is not None:
             meant.hold_split(plan.word, plan.images)
+    take_digests(plan, digests)
     if layer_order.is_known(plan.images):
         line = layer_order.wrong_order(plan.images, parents)
         if line is not None:
             plan.say(line)
+
+
+def take_digests(plan, noted):
+    """Takes the digests over that the store says of its layers, but with -o unsealed. One that was
+    named for such a layer must be the same."""
+    if plan.is_unsealed or not any(noted) or plan.digests and len(plan.digests) != len(noted):
+        return
+    named = plan.digests or [NOT_SEALED] * len(noted)
+    for image, word, digest in zip(plan.images, named, noted):
+        if digest and word not in (NOT_SEALED, digest) and word.lower() != digest:
+            raise OSError(0, "has the digest %s, and %s was named" % (digest, word), image)
+    plan.digests = [digest or word for word, digest in zip(named, noted)]
 
 
 def hold_digests(plan):
@@ -91,7 +108,11 @@ def hold_digests(plan):
                       % (len(digests), len(plan.images)))
     for image, digest in zip(plan.images, digests):
         if plan.is_sealed and digest == NOT_SEALED:
-            raise OSError(0, "has no digest, and with -o sealed each layer needs one", image)
+            why = "has no digest, and with -o sealed each layer needs one"
+            raise OSError(0, why + PULL_AGAIN * (layer_order.split_blob(image)[0] is not None), image)
+    if plan.digests:
+        from strata_mount import kernel_seals
+        kernel_seals.settle(plan)
 
 
 def hold_names(plan):

@@ -1,12 +1,12 @@
 """Stands between an open /dev/fuse and a server, for `strata-mount --debug` and `--stats`; without these it is not used.
 
-    relay.py [--debug] [--stats NUMBER] [--errors NUMBER] -- PROGRAM WORDS..
+    relay.py [--debug] [--stats NUMBER] [--errors NUMBER] [--pass NUMBER].. [--seal WORDS].. -- PROGRAM WORDS..
 
 Standard input is the open /dev/fuse. The program is started with one end of a socket of packets as its standard input and
 output: a read gives it one whole request, a write takes one whole reply, as at /dev/fuse. Each request and each reply is
 printed on standard error (--debug), and counted in the file that is open as NUMBER (--stats), which is written at the
-beginning, at SIGUSR1 and at the end. The program's own lines go to the file that is open as NUMBER (--errors). The status
-is the program's.
+beginning, at SIGUSR1 and at the end, with what images are sealed by (--seal). The program's own lines go to the file that is
+open as NUMBER (--errors), and it gets descriptors (--pass). The status is the program's.
 """
 import argparse
 import errno
@@ -64,8 +64,8 @@ class Count:
 class Book:
     """What was asked and not answered yet, and what is printed about it."""
 
-    def __init__(self, is_told, file):
-        self.is_told, self.file = is_told, file
+    def __init__(self, is_told, file, seals):
+        self.is_told, self.file, self.seals = is_told, file, seals
         self.counts, self.open, self.lock = {}, {}, threading.RLock()
         self.start = time.monotonic()
 
@@ -106,6 +106,8 @@ class Book:
     def lines(self):
         """The table of counts."""
         yield "# %.6f s; `kill -USR1 %d` writes this anew" % (time.monotonic() - self.start, os.getpid())
+        for at, seal in enumerate(self.seals):
+            yield "# layer %d: %s" % (at, seal)
         row = "%-16s %12s %12s %16s %16s"
         yield row % ("request", "count", "errors", "bytes asked", "bytes answered")
         with self.lock:
@@ -182,11 +184,11 @@ def widened(end):
 
 def serve(asked):
     """Starts the program and stands between; its status."""
-    device, book = os.dup(0), Book(asked.debug, asked.stats)
+    device, book = os.dup(0), Book(asked.debug, asked.stats, asked.seals)
     book.write()
     ours, theirs = map(widened, socket.socketpair(socket.AF_UNIX, socket.SOCK_SEQPACKET))
     with theirs:
-        program = subprocess.Popen(asked.words, stdin=theirs, stdout=theirs, stderr=asked.errors)
+        program = subprocess.Popen(asked.words, stdin=theirs, stdout=theirs, stderr=asked.errors, pass_fds=asked.passed)
     # nothing of this process but the device's descriptor holds the mount
     with open(os.devnull, "r+b") as nothing:
         os.dup2(nothing.fileno(), 0)
@@ -207,6 +209,8 @@ def main(words):
     parser.add_argument("--debug", action="store_true")
     parser.add_argument("--stats", type=int, metavar="NUMBER")
     parser.add_argument("--errors", type=int, metavar="NUMBER")
+    parser.add_argument("--pass", type=int, metavar="NUMBER", dest="passed", action="append", default=[])
+    parser.add_argument("--seal", metavar="WORDS", dest="seals", action="append", default=[])
     parser.add_argument("words", nargs="+")
     status = serve(parser.parse_args(words))
     sys.stderr.flush()

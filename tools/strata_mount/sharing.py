@@ -32,7 +32,7 @@ ANY_PLACE = os.O_PATH | os.O_DIRECTORY | os.O_NOFOLLOW | os.O_CLOEXEC
 def identity_of(plan):
     """What a plan would show, as bytes: the images' files and their trees', by device, inode, size
     and times, and all options, the digests among them, whatever the images are called; None where
-    an image or a tree is no file, or is missing. A layer of a store never changes, so that its file stands for its digest."""
+    an image or a tree is no file, or is missing."""
     files = []
     for path in plan.files():
         try:
@@ -43,7 +43,7 @@ def identity_of(plan):
             return None
         files.append((it.st_dev, it.st_ino, it.st_size, it.st_mtime_ns, it.st_ctime_ns))
     program = os.stat(plan.program)
-    options = mounting.option_words(plan), plan.words, plan.keeps_privileges
+    options = mounting.option_words(plan), plan.seals(), plan.words, plan.keeps_privileges
     return repr((files, options, program.st_dev, program.st_ino, program.st_mtime_ns)).encode()
 
 

@@ -15,6 +15,7 @@ import threading
 from strata_format.version import TOP
 from strata_mount.device import answers, take_away
 from strata_mount.mount_table import mounts
+from strata_mount.options import NOT_SEALED
 from strata_snapshotter.faults import Unavailable
 
 # as strata-mount is called, from the folder of its modules
@@ -24,11 +25,17 @@ MOUNT = ("import sys; sys.path.insert(0, sys.argv.pop(1)); from strata_mount.com
 WORDS = "suid,dev,allow_other,modeless,readers=4"
 
 
-def mount_chain(program, images, place):
-    """Shows images, the lowest first, at a place. Unavailable with strata's own line where that
-    can't be."""
+def digest_words(digests):
+    """The words that name the digests of images, where one is known."""
+    known = [it or NOT_SEALED for it in digests] if any(digests) else []
+    return [word for it in known for word in ("--digest", it)]
+
+
+def mount_chain(program, images, digests, place):
+    """Shows images, the lowest first, at a place, under their digests as far as these are known.
+    Unavailable with strata's own line where that can't be."""
     words = [sys.executable, "-IBS", "-c", MOUNT, TOP, "--share", "-o", WORDS, "--strata", program,
-             *images, place]
+             *digest_words(digests), *images, place]
     done = subprocess.run(words, stdin=subprocess.DEVNULL, stdout=subprocess.DEVNULL,
                           stderr=subprocess.PIPE, cwd="/", env={}, start_new_session=True)
     # what an earlier snapshotter has begun may have come first
@@ -67,7 +74,7 @@ class ChainMounts:
             with self.lock:
                 self.held.subtract(layers)
 
-    def mount(self, layer, images):
+    def mount(self, layer, images, digests):
         """The folder at which a layer is mounted, with the images of all below it."""
         place = self.places.mount(layer)
         with self.lock:
@@ -77,7 +84,7 @@ class ChainMounts:
                 os.mkdir(place, 0o700)
             if not is_served(place):
                 clear(place)
-                mount_chain(self.program, images, place)
+                mount_chain(self.program, images, digests, place)
         return place
 
     def release(self, used):

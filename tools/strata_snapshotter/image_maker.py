@@ -13,6 +13,7 @@ import sqlite3
 import threading
 
 from strata_format.refused import Refused
+from strata_layers.verity import TREE
 from strata_snapshotter import places
 from strata_snapshotter.faults import InvalidArgument, Unavailable
 from strata_snapshotter.folder_image import write_folder_image
@@ -96,7 +97,8 @@ class ImageMaker:
         try:
             with self.places.new_image() as (file, path):
                 self.write(snapshot, file)
-                self.settle(snapshot, lambda: self.replace(snapshot, path))
+                digest = self.places.seal(path)
+                self.settle(snapshot, lambda: self.replace(snapshot, path, digest))
         except (Refused, OSError, MemoryError) as fault:
             # what was begun is gone by now, and leaves its room on a full disk
             why, taken = str(fault), places.usage(self.places.files(snapshot.id))
@@ -129,13 +131,13 @@ class ImageMaker:
         with self.state.transaction():
             self.state.settle(snapshot.id, Form.FOLDER, taken)
 
-    def replace(self, snapshot, path):
+    def replace(self, snapshot, path, digest):
         """Puts an image into the place of a layer's folder, which is removed once nothing lies on
         it."""
         self.places.keep_image(path, snapshot.id)
         with self.state.transaction():
             self.state.settle(snapshot.id, Form.IMAGE,
-                              places.usage(self.places.image(snapshot.id)))
+                              places.usage(self.places.image(snapshot.id)), digest)
         self.snapshots.spare.add(snapshot.id)
 
     # --- layers that are given as images ---
@@ -148,10 +150,12 @@ class ImageMaker:
         os.link(given, path, follow_symlinks=False)
         try:
             self.hold_checked(path, name)
+            digest = self.places.seal(path)
             with self.changed:
-                self.commit_given(snapshot, path, name, labels)
+                self.commit_given(snapshot, path, name, labels, digest)
         finally:
             places.remove(path)
+            places.remove(path + TREE)
 
     def hold_checked(self, path, name):
         """Sees that a file is an image that strata mounts, and puts it on the disk."""
@@ -162,7 +166,7 @@ class ImageMaker:
         with open(path, "rb", 0) as file:
             os.fsync(file.fileno())
 
-    def commit_given(self, snapshot, path, name, labels):
+    def commit_given(self, snapshot, path, name, labels, digest):
         """Commits an image that is checked. The lock must be held."""
         self.snapshots.committable(name, snapshot.name)
         if any(it.form != Form.IMAGE for it in self.chain_of(snapshot.id)[1:]):
@@ -171,5 +175,5 @@ class ImageMaker:
             self.state.commit(snapshot, name, labels, Form.IMAGE)
             self.places.keep_image(path, snapshot.id)
             self.state.settle(snapshot.id, Form.IMAGE,
-                              places.usage(self.places.image(snapshot.id)))
+                              places.usage(self.places.image(snapshot.id)), digest)
         self.snapshots.spare.add(snapshot.id)

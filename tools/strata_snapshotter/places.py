@@ -4,6 +4,7 @@
     ROOT/snapshots/N/fs      the folder of snapshot N: what containerd unpacks or a container writes
     ROOT/snapshots/N/work    overlayfs's own folder beside it
     ROOT/snapshots/N/layer.romfs    the image of a layer
+    ROOT/snapshots/N/layer.romfs.verity    its fs-verity tree
     ROOT/mounts/N            the mount of layer N with all below it
     ROOT/new/                images that are being made
     ROOT/trash/              folders that are being removed
@@ -17,8 +18,10 @@ import secrets
 import shutil
 import stat
 
-from strata_format.files import copy_front
+from strata_format.files import copy_front, write_all
 from strata_format.refused import Refused, shown
+from strata_layers.store import pieces_of
+from strata_layers.verity import TREE, seal_of
 
 FOLDERS = ("snapshots", "mounts", "new", "trash")
 
@@ -94,14 +97,25 @@ class Places:
 
     @contextlib.contextmanager
     def new_image(self):
-        """A new file, open without a buffer, and its path; unless it is renamed it is removed."""
+        """A new file, open without a buffer, and its path; unless it is renamed it is removed, and so
+        is its tree."""
         path = self.at("new", secrets.token_hex(8))
         try:
             with open(path, "x+b", 0) as file:
                 yield file, path
         finally:
-            with contextlib.suppress(FileNotFoundError):
-                os.unlink(path)
+            for name in (path, path + TREE):
+                with contextlib.suppress(FileNotFoundError):
+                    os.unlink(name)
+
+    def seal(self, path):
+        """Writes the fs-verity tree of a new image that is whole; its digest."""
+        with open(path, "rb", 0) as image, open(path + TREE, "xb", 0) as tree:
+            found = seal_of(pieces_of(image.fileno()))
+            for level in found.levels:
+                write_all(tree, level)
+            os.fsync(tree.fileno())
+        return found.digest
 
     def take(self, number, file, path):
         """Puts an open file that nobody writes into the place of a new one: by another name, or, if
@@ -115,8 +129,9 @@ class Places:
             copy_front(number, file.fileno(), os.fstat(number).st_size)
 
     def keep_image(self, path, number):
-        """Gives an image that is whole, and on the disk, its place."""
+        """Gives an image that is whole, and on the disk with its tree, its place."""
         os.makedirs(self.snapshot(number), 0o711, exist_ok=True)
+        os.rename(path + TREE, self.image(number) + TREE)
         os.rename(path, self.image(number))
         sync_folder(self.snapshot(number))
         sync_folder(self.at("snapshots"))

@@ -8,6 +8,7 @@ import logging
 import os
 
 from strata_format.refused import Refused
+from strata_layers.verity import TREE
 from strata_snapshotter.blob_image import chain_digest, is_digest, write_blob_image
 from strata_snapshotter.given_image import hold_image
 
@@ -31,24 +32,40 @@ class ReadyLayers:
 
     def is_there(self, labels):
         """Whether a layer is in the store, or its blob at hand."""
-        number = self.store.opened(labels[REFERENCE])
-        if number is not None:
-            os.close(number)
+        found = self.store.opened(labels[REFERENCE])
+        if found is not None:
+            os.close(found[1])
             return True
         return self.content.find(labels.get(BLOB)) is not None
 
     def write(self, labels, parent, images, file, path):
         """Writes the image of the layer for which a snapshot is prepared, over a parent (or None)
-        that is made of images, the lowest first, to a new file; whether it stands ready."""
+        that is made of images, the lowest first, to a new file, and its tree beside it; its
+        fs-verity digest, or None where no layer stands ready."""
         chain = labels[REFERENCE]
-        number = self.store.opened(chain)
-        if number is not None:
-            try:
-                self.places.take(number, file, path)
-            finally:
-                os.close(number)
-            return True
-        return self.write_blob(chain, labels.get(BLOB), parent, images, file, path)
+        found = self.store.opened(chain)
+        if found is None:
+            is_written = self.write_blob(chain, labels.get(BLOB), parent, images, file, path)
+            return self.places.seal(path) if is_written else None
+        layer, number = found
+        try:
+            self.places.take(number, file, path)
+            return self.take_tree(layer, path)
+        finally:
+            os.close(number)
+
+    def take_tree(self, layer, path):
+        """Puts the tree of a layer of the store beside its new image; its fs-verity digest."""
+        number = self.store.opened_tree(layer)
+        if number is None:
+            return self.places.seal(path)
+        try:
+            with open(path + TREE, "xb", 0) as file:
+                self.places.take(number, file, path + TREE)
+                os.fsync(file.fileno())
+        finally:
+            os.close(number)
+        return layer.verity
 
     def write_blob(self, chain, digest, parent, images, out, path):
         """The same of a blob that is at hand."""

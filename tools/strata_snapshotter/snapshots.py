@@ -141,10 +141,11 @@ class Snapshots:
             return self.places.files(lower.layer)
         with self.lock:
             chain = self.state.chain(self.state.by_id(lower.layer))
+            digests = [self.state.digest(it.id) for it in reversed(chain)]
         if not chain:
             raise NotFound("layer %d: not found" % lower.layer)
         images = [self.places.image(it.id) for it in reversed(chain)]
-        return self.mounts_of.mount(lower.layer, images)
+        return self.mounts_of.mount(lower.layer, images, digests)
 
     def insert(self, name, parent, kind, labels, lowers, folders):
         """Makes the folders of a snapshot, and then the snapshot."""
@@ -180,7 +181,8 @@ class Snapshots:
             return False
         with self.places.new_image() as (file, path):
             images = [self.places.image(it.id) for it in reversed(chain)]
-            if not self.ready.write(labels, parent, images, file, path):
+            digest = self.ready.write(labels, parent, images, file, path)
+            if digest is None:
                 return False
             os.fsync(file.fileno())
             with self.lock, self.state.transaction():
@@ -190,7 +192,8 @@ class Snapshots:
                                                is_ready=True)
                     self.places.forget(number)
                     self.places.keep_image(path, number)
-                    self.state.settle(number, Form.IMAGE, places.usage(self.places.image(number)))
+                    self.state.settle(number, Form.IMAGE,
+                                      places.usage(self.places.image(number)), digest)
         return True
 
     # --- Mounts ---

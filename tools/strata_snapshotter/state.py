@@ -29,6 +29,11 @@ CREATE TABLE lowers(
 CREATE INDEX by_layer ON lowers(layer, is_mount);
 PRAGMA user_version = 1;
 """
+# the fs-verity digests of images; those of layers that were made by an older snapshotter are not known
+SEALS = """
+CREATE TABLE IF NOT EXISTS seals(
+  snapshot INTEGER PRIMARY KEY REFERENCES snapshots(id) ON DELETE CASCADE, digest TEXT NOT NULL)
+"""
 COLUMNS = "s.id, s.name, s.parent, p.name, s.kind, s.form, s.labels, s.created, s.updated, " \
           "s.size, s.inodes"
 FOUND = "SELECT %s FROM snapshots s LEFT JOIN snapshots p ON p.id = s.parent " % COLUMNS
@@ -89,6 +94,7 @@ class State:
             self.base.executescript("BEGIN;" + SCHEMA + "COMMIT;")
         elif version != VERSION:
             raise sqlite3.DatabaseError("has version %d instead of %d" % (version, VERSION))
+        self.base.execute(SEALS)
 
     def close(self):
         self.base.close()
@@ -147,6 +153,11 @@ class State:
     def numbers(self):
         return {number for number, in self.base.execute("SELECT id FROM snapshots")}
 
+    def digest(self, number):
+        """The fs-verity digest of a layer's image, or None if it isn't known."""
+        found = self.base.execute("SELECT digest FROM seals WHERE snapshot = ?", (number,))
+        return next((digest for digest, in found), None)
+
     # --- what lies on what ---
 
     def lowers(self, snapshot):
@@ -191,10 +202,13 @@ class State:
             "updated = ? WHERE id = ?",
             (name, Kind.COMMITTED, form.value, json.dumps(labels), now, now, snapshot.id))
 
-    def settle(self, number, form, usage):
-        """Says what the files of a committed snapshot are in from now on, and what they take."""
+    def settle(self, number, form, usage, digest=None):
+        """Says what the files of a committed snapshot are in from now on, what they take, and the
+        fs-verity digest of an image."""
         self.base.execute("UPDATE snapshots SET form = ?, size = ?, inodes = ? WHERE id = ?",
                           (form.value, *usage, number))
+        if digest is not None:
+            self.base.execute("INSERT OR REPLACE INTO seals VALUES(?, ?)", (number, digest))
 
     def set_labels(self, snapshot, labels):
         self.base.execute("UPDATE snapshots SET labels = ?, updated = ? WHERE id = ?",

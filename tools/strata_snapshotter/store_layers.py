@@ -5,6 +5,8 @@ import threading
 from strata_format.refused import Refused
 from strata_layers.store import Store
 from strata_layers.store_images import image_in, names
+from strata_layers.store_seals import ALGORITHM
+from strata_layers.verity import TREE, tree_size
 from strata_snapshotter.blob_image import chain_digest, is_digest
 
 
@@ -17,7 +19,7 @@ class StoreLayers:
         self.lock = threading.Lock()
 
     def opened(self, chain):
-        """An open file of the layer that ends a chain, or None."""
+        """The layer that ends a chain, and an open file of it; or None."""
         try:
             with self.lock:
                 self.look()
@@ -26,6 +28,17 @@ class StoreLayers:
         except (Refused, OSError):
             return None
         if number is not None and os.fstat(number).st_size != layer.size:
+            os.close(number)
+            return None
+        return None if number is None else (layer, number)
+
+    def opened_tree(self, layer):
+        """An open file of the fs-verity tree of a layer; None where it has none."""
+        try:
+            number = None if layer.verity is None else self.store.open_layer(layer.digits + TREE)
+        except (Refused, OSError):
+            return None
+        if number is not None and os.fstat(number).st_size != tree_size(ALGORITHM, layer.size):
             os.close(number)
             return None
         return number

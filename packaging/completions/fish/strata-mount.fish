@@ -1,6 +1,6 @@
 # fish completion for strata-mount(1)
 complete -c strata-mount -l background -d 'Return once the mount answers'
-complete -c strata-mount -s o -x -a 'allow_other noexec noatime max_read= suid dev rw strict whole modeless workers= readers= uid= gid= share stack caps sealed digest=' -d 'Mount options'
+complete -c strata-mount -s o -x -a 'allow_other noexec noatime max_read= suid dev rw strict whole modeless workers= readers= uid= gid= share stack caps sealed unsealed digest=' -d 'Mount options'
 complete -c strata-mount -l digest -x -d 'Accept a layer only with this digest'
 complete -c strata-mount -l strict -d 'Verify the checksum of every header'
 complete -c strata-mount -l replace -d 'Unmount a mount of strata there first'
