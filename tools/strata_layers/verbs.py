@@ -113,7 +113,8 @@ def sandbox_words(store, name, config, asked):
     it = RunConfig(config)
     if asked.form == "podman":
         return podman_words(it)
-    user, caller = image_user(store, name, it.user), (os.geteuid(), os.getegid())
+    caller = os.geteuid(), os.getegid()
+    user = image_user(store, name, it.user, caller)
     return bwrap_words(it, user, caller, asked.options, asked.as_caller)
 
 
