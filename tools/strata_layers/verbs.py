@@ -50,11 +50,14 @@ def run_convert(asked):
 
 
 def run_pull(asked):
+    from strata_layers.layer_order import wrong_order_of
     from strata_layers.pull import pull
-    from strata_layers.store_images import layers_text
+    from strata_layers.store_images import image_in, layers_text
     lost, store = Lost(asked.leave_out, asked.fail_on_lost), store_of(asked, make=True)
     name, count, new = pull(store, asked.source, asked.name, asked.platform, lost)
     told(lost)
+    for line in wrong_order_of(image_in(store, name).layers):
+        ends.write(line + "\n")
     print_line("%s: %s, %d of them new" % (name, layers_text(count), new), "the image is in the store")
     return 0
 

@@ -93,7 +93,7 @@ def plan_of(read, name):
     if len(os.fsencode(source)) > SOURCE_MOST:
         raise Wrong("the images' names have more than %d bytes together, the limit for the source of a mount" % SOURCE_MOST)
     plan = Plan(name=name, images=names, folder=folder, background=True, may_replace=False, source=source,
-                word=None if is_stored else spec)
+                word=None if is_stored else spec, joined=word_of)
     plan.settle(options)
     return plan
 

@@ -77,8 +77,7 @@ def find_images(plan):
         if plan.word is not None:
             meant.hold_split(plan.word, plan.images)
     if layer_order.is_known(plan.images):
-        line = layer_order.wrong_order(plan.images, parents)
-        if line is not None:
+        for line in layer_order.wrong_order(plan.images, parents, plan.joined):
             plan.say(line)
 
 
