@@ -6,6 +6,7 @@ from strata_format.refused import Refused, shown
 BLOBS = "/blobs/sha256"
 HEX = frozenset("0123456789abcdef")
 DIGITS = 64
+INDEX = "index.json"
 # so many manifests and indexes of a layout are read
 DOCUMENTS_MOST = 64
 # the file beside the images of a layout's layers that says what they are and lie on
@@ -23,7 +24,9 @@ def split_blob(path):
 
 def parents_in_layout(folder):
     """What a layout's manifests say: by the digits of a layer those of the images that it was made
-    for. A layout of a stranger that can't be read says nothing."""
+    for. A layout of a stranger that can't be read says nothing, nor does a store."""
+    if not os.path.exists(os.path.join(folder, INDEX)):
+        return {}
     from strata_layers.layout_images import layers_in, parents_in
     from strata_layers.layouts import INDEXES, MANIFESTS, Layout
     found = {}
@@ -56,14 +59,29 @@ def layers_beside(folder):
     nothing."""
     from strata_format.files import READING
     from strata_format.json_text import value_of
-    from strata_layers.store_images import layer_of_json
-    path = os.path.join(folder, BESIDE)
     try:
-        with open(os.open(path, READING), "rb") as file:
+        with open(os.open(os.path.join(folder, BESIDE), READING), "rb") as file:
             value = value_of(file.read(BESIDE_MOST))
-        return {it["name"]: layer_of_json(it, path) for it in value["layers"]}
-    except (Refused, OSError, ValueError, LookupError, TypeError, RecursionError):
+        return {it["name"]: Noted(it) for it in value["layers"]}
+    except (OSError, ValueError, LookupError, TypeError, AttributeError, RecursionError):
         return {}
+
+
+class Noted:
+    """What a file beside images says of one: its digits, its size, and the digits of that which it
+    was made for, or None. To load what a store has for that takes longer than to mount."""
+
+    def __init__(self, said):
+        self.digits, self.size = digits_in(said["digest"]), said["size"]
+        self.parent = digits_in(said["parent"]) if "parent" in said else None
+
+
+def digits_in(digest):
+    """The digits of a digest; ValueError where it is none."""
+    algorithm, _, digits = digest.partition(":")
+    if algorithm != "sha256" or len(digits) != DIGITS or not HEX.issuperset(digits):
+        raise ValueError(digest)
+    return digits
 
 
 class Known:

@@ -1,9 +1,9 @@
 """The images of a store by their names, and the layers of an image for a mount."""
-import collections
 import fcntl
 import os
 
 from strata_format.progress import Progress
+from strata_format.records import record
 from strata_format.refused import Refused, shown
 from strata_layers.store import Shared, Store, default_place, digits_of, file_digits
 
@@ -15,10 +15,10 @@ LATEST = "latest"
 
 # what is known of an image: where it came from, its manifest's digest there, its layers from the
 # lowest up, and its configuration
-StoredImage = collections.namedtuple("StoredImage", "source manifest layers config")
+StoredImage = record("StoredImage", "source manifest layers config")
 # an image of a layer; where a layer takes several, the higher ones are its parts from 1 on. `parent`
 # has the digits of the image that it was made to lie on; None where it is the lowest, or not known
-StoredLayer = collections.namedtuple("StoredLayer", "digits size part parent", defaults=(0, None))
+StoredLayer = record("StoredLayer", "digits size part parent", defaults=(0, None))
 
 
 class NoImage(Refused):
