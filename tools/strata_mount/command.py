@@ -48,8 +48,8 @@ options:
                     share, stack, caps, modeless, sealed,
                     digest=DIGEST
   --digest DIGEST   accept an image only with this fs-verity
-                    digest; for each layer in order, or none;
-                    - accepts any image
+                    digest; one for each layer in order, or
+                    none; - accepts any image
   --strict          verify the checksum of every header, too
   --replace         unmount a mount of strata at DIR first
   --share           one mount for all who ask for the same
