@@ -6,14 +6,15 @@ REQUESTS and REPLIES are files as `strata serve --requests REQUESTS --replies RE
 import sys
 sys.dont_write_bytecode = True
 
+from strata_format import ends
 from strata_format.fuse_text import stream_lines
 
 
 def main(requests, replies):
     with open(requests, "rb") as asked, open(replies, "rb") as answered:
-        for line in stream_lines(asked.read(), answered.read()):
-            print(line)
+        lines = stream_lines(asked.read(), answered.read())
+        return ends.tell("tools/show.py", "".join(line + "\n" for line in lines))
 
 
 if __name__ == "__main__":
-    main(*sys.argv[1:])
+    sys.exit(main(*sys.argv[1:]))

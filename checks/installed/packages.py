@@ -34,7 +34,7 @@ def made(root, target, suffix):
 
 
 def package(root):
-    """The package installs, mounts by fstab to who has nothing else, has no error of lintian's, and goes without a trace."""
+    """The package installs, mounts by fstab to who has nothing else, is clean to lintian, and goes without a trace."""
     root.needs("dpkg", "dpkg-deb", "strip")
     path, number = made(root, "deb", ".deb"), version()
     root.enter()
@@ -89,14 +89,17 @@ def unbuilt(root):
 
 
 def linted(root, path):
-    """What lintian finds, which must be no error."""
+    """What lintian finds in this package and the snapshotter's, which must be no error and nothing that it warns of."""
     try:
         root.needs("lintian")
     except LeftOut as missing:
         return "left out: %s" % missing
-    done = root.run("lintian", "--fail-on", "error", path)
-    hold("lintian", (0, []), (done.status, [line for line in done.out.splitlines() if line.startswith("E:")]))
-    return "lintian finds no error"
+    folder = os.path.dirname(path)
+    paths = [os.path.join(folder, name) for name in sorted(os.listdir(folder)) if name.endswith(".deb")]
+    done = root.run("lintian", "--fail-on", "error,warning", *paths)
+    found = [line for line in done.out.splitlines() if line.startswith(("E:", "W:"))]
+    hold("lintian", (2, 0, []), (len(paths), done.status, found))
+    return "lintian finds nothing"
 
 
 def sum_of(path):

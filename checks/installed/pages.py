@@ -118,8 +118,8 @@ def on_terminal(words, columns):
 def narrow(root):
     """Each help fits a terminal of 60 columns."""
     root.install()
-    programs = (["strata-mount"], ["/sbin/mount.strata"], ["strata-snapshotter"], ["strata-layers"],
-                *(["strata-layers", it] for it in VERBS))
+    names = ("strata-mount", "/sbin/mount.strata", "strata-snapshotter", "strata-layers")
+    programs = (*([it] for it in names), *(["strata-layers", it] for it in VERBS))
     for words in programs:
         lines = on_terminal([*words, "--help"], NARROW)
         hold("an empty help", True, len(lines) > 3)

@@ -11,7 +11,7 @@ from checks.installed.roots import LeftOut, hold, hold_in
 SOURCE = os.path.join(ROOT, "crates", "strata_words", "src", "version.rt")
 LOGIC = "dac8208d650f15bf"
 # what takes longer to load than to mount
-HEAVY = ("argparse", "contextlib", "ctypes", "enum", "hashlib", "json", "re", "shutil", "signal", "socket", "subprocess",
+HEAVY = ("argparse", "collections", "contextlib", "ctypes", "enum", "hashlib", "json", "re", "shutil", "signal", "socket", "subprocess",
          "tempfile", "threading")
 EVIL = "raise SystemExit('a stranger was imported')\n"
 
@@ -101,10 +101,13 @@ def lean(root):
     shutil.copytree(os.path.join(ROOT, "demo", "layout"), root.top + "/srv/layout")
     root.install()
     hold("pull", 0, root.run("strata-layers", "pull", "oci:/srv/layout", "lantern").status)
+    hold("images", 0, root.run("strata-layers", "/srv/layout", "/srv/images").status)
+    images = sorted("/srv/images/" + it for it in os.listdir("/srv/images") if it.endswith(".romfs"))
     os.mkdir("/mnt/lean")
     with open("/usr/local/bin/strata-mount", encoding="utf-8") as it:
         python = it.readline().split()[0][2:]
     for words in (("bin/strata-mount", "--background", "/srv/lower.romfs"), ("bin/strata-mount", "--share", "image:lantern"),
+                  ("bin/strata-mount", "--background", *images),
                   ("sbin/mount.strata", "/srv/lower.romfs"), ("sbin/mount.strata", "image:lantern")):
         told = root.run(python, "-IBS", "-v", "/usr/local/" + words[0], *words[1:], "/mnt/lean")
         hold("the status of %s" % (words,), 0, told.status)

@@ -54,6 +54,9 @@ def ends(root):
         hold("full", 0, root.run(HELPER, LOWER, PLACE, "-v", stdout=full, stderr=full).status)
         taken_away(root)
         hold("full, and no image", NOT_MOUNTED, root.run(HELPER, "/none", PLACE, stdout=full, stderr=full).status)
+        done = root.run("strata-mount", "--share", "--print", LOWER, stdout=full)
+        hold("full, of a folder", (1, "strata-mount: /dev/stdout: No space left on device\n"), (done.status, done.err))
+        hold("full, of a folder: mounts", [], places())
         done = root.run("strata-layers", "--version", stdout=full)
         hold("full, of strata-layers", (1, "strata-layers: /dev/stdout: no space left on device\n"), (done.status, done.err))
     held_refused(root, "SIGCHLD ignored", NOT_MOUNTED, "image 0 is /none: no such file", HELPER, "/none", PLACE,

@@ -286,6 +286,7 @@ def test_refused_images(room):
                  "`strata-layers image - IMAGE < ARCHIVE`" % folder)
     refuse_image(room, (folder, folder), "%s: exists and is not a file" % folder)
     refuse_image(room, (folder, "/dev/null"), "/dev/null: exists and is not a file")
+    refuse_image(room, (folder, "-"), "an image cannot be written to standard output; ./- is a file of that name")
     refuse_image(room, (folder, none + "/x"), none + ": no such file or directory")
     line = "the image must be outside the folder that it is made from"
     refuse_image(room, (folder, folder + "/d1/x.romfs"), line)

@@ -1,8 +1,11 @@
-"""Checks of what a full disk leaves: a file system in memory that is too small for what is made."""
+"""Checks of what a full disk leaves: a file system in memory that is too small for what is made; and of an output that
+takes nothing."""
 import os
 import random
 import sys
+import tempfile
 
+from checks import TOOLS
 from checks.registry import made
 from checks.registry.rooms import LAYERS, LeftOut, hold, needs
 
@@ -104,5 +107,69 @@ def check_pull_on_a_full_disk(room):
     hold("the image at last", (".", 4), (before, at_last.count("./store/blobs/sha256/")))
 
 
+def hold_full(room, done, *words):
+    """A command of strata-layers whose standard output takes nothing fails with a line that says what is done
+    nevertheless."""
+    with open("/dev/full", "wb") as full, tempfile.TemporaryFile() as errors:
+        status = room.forked(list(words), full, errors)
+        told = os.pread(errors.fileno(), 1 << 16, 0).decode()
+    line = "tools/layers.py: /dev/stdout: %s%s\n" % (NO_SPACE, "; " + done if done else "")
+    hold(" ".join(words), (1, line), (status, told))
+
+
+def into_full(room, ends, script, *words):
+    """Status and lines of a tool some of whose standard ends take nothing."""
+    words = [sys.executable, "-B", os.path.join(TOOLS, script), *words]
+    environment = {**room.environment, "PYTHONUNBUFFERED": ""}
+    done = room.run("sh", "-c", 'exec "$@" ' + ends, "sh", *words, env=environment)
+    return done.returncode, done.stderr.partition(": ")[2]
+
+
+def check_full_output(room):
+    """What was made is whole, whoever takes the line about it; and a line says so."""
+    folder, source, store = room.name(), layout(room, 3), ["--store", room.store]
+    os.mkdir(folder)
+    there = [room.name() for _ in range(4)]
+    hold_full(room, "the image is made", "image", folder, there[0])
+    room.ran(sys.executable, "-B", LAYERS, "image", folder, there[1])
+    hold("images", *(open(it, "rb").read() for it in (there[1], there[0])))
+    hold_full(room, "the images are made", source, there[2])
+    hold("images of layers", 3, sum(it.endswith(".romfs") for it in os.listdir(there[2])))
+    hold_full(room, "the layout is written", "convert", *store, source, there[3] + ":1")
+    read = made.Read(there[3], "1")
+    hold("layers of the layout", 3, len(read.json(read.top)["layers"]))
+    hold_full(room, "the image is in the store", "pull", *store, "oci:" + source, "a:1")
+    hold("the store", 3, int(room.layers("images").split()[1]))
+    for verb in (["images"], ["config", "a:1"], ["config", "--podman", "a:1"]):
+        hold_full(room, "", verb[0], *store, *verb[1:])
+    hold_full(room, "the image has them", "attributes", folder, there[0])
+    hold_full(room, "its tree is written", "seal", there[0])
+    hold("a tree", True, os.path.exists(there[0] + ".verity"))
+    hold_full(room, "all is written", "podman", *store, "a:1", room.name())
+    for digits in room.blobs()[:2]:
+        place = os.path.join(room.store, "blobs", "sha256", digits)
+        os.chmod(place, 0o644)
+        os.truncate(place, 1024)
+    hold_full(room, "all is verified", "verify", *store)
+    hold("set aside", 2, sum(it.endswith(".damaged") for it in room.blobs()))
+    room.layers("remove", "a:1")
+    hold_full(room, "the layers are removed", "prune", *store)
+    hold("left", [], room.blobs())
+
+
+def check_full_output_of_help(room):
+    """Help and version that nobody takes: one line, whatever the words are."""
+    line = "/dev/stdout: %s\n" % NO_SPACE
+    verbs = ("image", "convert", "pull", "images", "verify", "remove", "prune", "config", "attributes", "seal", "podman")
+    for verb in verbs:
+        hold_full(room, "", verb, "--help")
+    asked = [("layers.py", "image", "--help"), ("layers.py", "--help"), ("layers.py", "-V"), ("mount.py", "--list")]
+    asked += [(it, word) for it in ("mount.py", "mount_helper.py", "snapshotter.py") for word in ("--help", "--version")]
+    for words in asked:
+        hold(" ".join(words), (1, line), into_full(room, "> /dev/full", *words))
+    for script, wrong in (("layers.py", 2), ("mount.py", 2), ("mount_helper.py", 1), ("snapshotter.py", 2)):
+        hold(script, (wrong, ""), into_full(room, "2> /dev/full", script, "--none"))
+
+
 CHECKS = [check_convert_on_a_full_disk, check_images_on_a_full_disk, check_image_on_a_full_disk,
-          check_pull_on_a_full_disk]
+          check_pull_on_a_full_disk, check_full_output, check_full_output_of_help]

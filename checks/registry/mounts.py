@@ -143,12 +143,17 @@ def check_order(room):
     blobs = [os.path.join(out, "blobs", *it.split(":")) for it in digests]
     hold("files in order", WANTED, seen(mounted(room, *blobs)))
     line = "layer 0 is %%s: made to lie on %.19s.., and is the lowest; 1 more lie on others" % digests[0]
-    told_of(room, line % blobs[1], blobs[1], blobs[0], *blobs[2:])
-    told_of(room, "layer 1 is %s: made to lie on %.19s.., and lies on %.19s.." % (blobs[2], digests[1], digests[0]),
-            blobs[0], blobs[2], blobs[3])
+    told_of(room, line % blobs[1], blobs, blobs[1], blobs[0], *blobs[2:])
+    other = "layer 1 is %s: made to lie on %.19s.., and lies on %.19s.." % (blobs[2], digests[1], digests[0])
+    told_of(room, other, blobs[:4], blobs[0], blobs[2], blobs[3])
+    os.rename(blobs[1], blobs[1] + "-away")
+    told_of(room, other, [], blobs[0], blobs[2], blobs[3])
+    os.rename(blobs[1] + "-away", blobs[1])
     order = 1, 0, 2, 3, 4
-    room.layers("pull", "oci:" + moved_layout(room, read, manifest, order), "moved:1")
-    told_of(room, line % mounted_layers(room, "moved:1")[0], "moved:1")
+    done = room.tried("pull", "oci:" + moved_layout(room, read, manifest, order), "moved:1")
+    hold("pull", (0, [line % digests[1], "the right order: " + " ".join(digests)]), (done.returncode, done.stderr.splitlines()))
+    stored = mounted_layers(room, "moved:1")
+    told_of(room, line % stored[0], [stored[at] for at in order], "moved:1")
     for number, word in enumerate(("sha256:no", 7, None)):
         name = "other%d" % number
         room.layers("pull", "oci:" + moved_layout(room, read, manifest, order, **{"vnd.strata.layer.parent": word}), name)
@@ -158,11 +163,11 @@ def check_order(room):
     mounted(room, blobs[1], blobs[0])
 
 
-def told_of(room, line, *words):
-    """A mount must be made, and say this alone."""
+def told_of(room, line, order, *words):
+    """A mount must be made, and say this alone, and which order is right, if there is one."""
     _, done = mount(room, *words)
-    hold("status, and lines", (0, 1), (done.returncode, done.stderr.count("\n")))
-    hold("told", line, done.stderr.partition(": ")[2].rstrip("\n"))
+    wanted = [line] + ["the right order: " + " ".join(order)] * bool(order)
+    hold("status, and lines", (0, wanted), (done.returncode, [it.partition(": ")[2] for it in done.stderr.splitlines()]))
 
 
 def check_order_of_a_folder(room):
@@ -173,9 +178,14 @@ def check_order_of_a_folder(room):
     images = ["%s/%02d.romfs" % (out, number) for number in range(5)]
     hold("in order", WANTED, seen(mounted(room, *images)))
     told_of(room, "layer 0 is %s: made to lie on 00.romfs, and is the lowest; 1 more lie on others" % images[1],
-            images[1], images[0], *images[2:])
+            images, images[1], images[0], *images[2:])
     told_of(room, "layer 1 is %s: made to lie on 01.romfs, and lies on 00.romfs" % images[2],
-            images[0], images[2], images[3])
+            images[:4], images[0], images[2], images[3])
+    # one of which nothing is known may lie anywhere
+    own = room.name()
+    shutil.copy(images[0], own)
+    told_of(room, "layer 0 is %s: made to lie on 01.romfs, and is the lowest" % images[2],
+            [own, *images[:3]], images[2], own, images[1], images[0])
     # what lies between is another's, and one that was exchanged is not the one that is noted
     other = room.name()
     shutil.copy(images[0], other)

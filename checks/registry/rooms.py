@@ -77,11 +77,15 @@ class Room:
         """The tool as it is run by its name, but that Python has begun already."""
         words = [verb, "--store", store or self.store, *words]
         with tempfile.TemporaryFile() as out, tempfile.TemporaryFile() as errors:
-            child = os.fork()
-            if child == 0:
-                self.become_tool(words, out.fileno(), errors.fileno())
-            status = os.waitstatus_to_exitcode(os.waitpid(child, 0)[1])
+            status = self.forked(words, out, errors)
             return Done(status, *(os.pread(it.fileno(), 1 << 20, 0).decode() for it in (out, errors)))
+
+    def forked(self, words, out, errors):
+        """The status of the tool, with open files as its ends."""
+        child = os.fork()
+        if child == 0:
+            self.become_tool(words, out.fileno(), errors.fileno())
+        return os.waitstatus_to_exitcode(os.waitpid(child, 0)[1])
 
     def become_tool(self, words, out, errors):
         status = 99

@@ -15,10 +15,11 @@ for name in of-root of-tape of-worker of-all; do
     (read -r word < /data/$name) 2> /dev/null && echo $name
 done
 while read -r what one rest; do case $what in Uid:|Gid:) echo "$what $one";; esac; done < /proc/self/status
+echo "Home: $HOME"
 (: > /data/new) 2> /dev/null && echo written
 exit 0
 """
-PASSWD = b"root:x:0:0::/:/\nworker:x:1000:1000::/:/\nnobody:x:65534:65534::/:/\n"
+PASSWD = b"root:x:0:0::/root:/\nworker:x:1000:1000::/home/worker:/\nnobody:x:65534:65534:::/\n"
 GROUP = b"root:x:0:\ntape:x:26:worker\nworker:x:1000:\n"
 FILES = (("of-root", 0o600, 0, 0), ("of-tape", 0o640, 0, 26), ("of-worker", 0o600, 1000, 1000), ("of-all", 0o644, 0, 0))
 OPTIONS = ("--dev", "/dev", "--proc", "/proc")
@@ -53,12 +54,13 @@ def ran(room, words, command):
     return done.stdout.split("\n")[:-1]
 
 
-# by the user that an image says: what its program reads, and as whom it runs
+# by the user that an image says: what its program reads, as whom it runs, and its home
 SEEN = {
-    "": ["of-root", "of-tape", "of-worker", "of-all", "Uid: 0", "Gid: 0"],
-    "worker": ["of-tape", "of-worker", "of-all", "Uid: 1000", "Gid: 1000"],
-    "1000:1000": ["of-worker", "of-all", "Uid: 1000", "Gid: 1000"],
-    "nobody": ["of-all", "Uid: 65534", "Gid: 65534"],
+    "": ["of-root", "of-tape", "of-worker", "of-all", "Uid: 0", "Gid: 0", "Home: /root"],
+    "worker": ["of-tape", "of-worker", "of-all", "Uid: 1000", "Gid: 1000", "Home: /home/worker"],
+    "1000:1000": ["of-worker", "of-all", "Uid: 1000", "Gid: 1000", "Home: /home/worker"],
+    "nobody": ["of-all", "Uid: 65534", "Gid: 65534", "Home: /"],
+    "4321": ["of-all", "Uid: 4321", "Gid: 0", "Home: /"],
 }
 
 
@@ -94,7 +96,7 @@ def check_users_of_other_callers(room):
     hold("refused", (None, True), (command, "the image's user is 1000:1000, and you are 65534:65534" in fault))
     command = room.ran(*become, sys.executable, "-B", LAYERS, "config", "--store", room.store, "--bwrap", "--as-caller", "app",
                        "--ro-bind", at, "/", *OPTIONS)
-    hold("his own rights", ["of-all", "Uid: 1000", "Gid: 1000"], ran(room, become, command))
+    hold("his own rights", ["of-all", "Uid: 1000", "Gid: 1000", "Home: /home/worker"], ran(room, become, command))
     hold("words", "bwrap", shlex.split(command)[0])
 
 

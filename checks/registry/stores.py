@@ -283,13 +283,13 @@ def check_config(room):
     room.layers("pull", "oci:" + source.path, "a")
     hold("config", "entrypoint /bin/say 'it'\"'\"'s'\ncommand 'a b'\nenv PATH=/bin\nenv 'WORD=x y'\nenv HOME\nfolder /var\nuser 7:8\n",
          room.layers("config", "a"))
-    rest = ["--clearenv", "--setenv", "PATH", "/bin", "--setenv", "WORD", "x y", "--setenv", "HOME", "",
+    rest = ["--clearenv", "--setenv", "HOME", "/", "--setenv", "PATH", "/bin", "--setenv", "WORD", "x y",
             "--chdir", "/var", "--", "/bin/say", "it's", "a b"]
     hold_bwrap(room, "a", ["--uid", "7", "--gid", "8"], ["setpriv", "--reuid", "7", "--regid", "8", "--clear-groups",
                                                          "--inh-caps=-all"], rest)
     words = shlex.split(room.layers("config", "--podman", "a"))
     hold("podman", ["--entrypoint", '["/bin/say", "it\'s", "a b"]', "--workdir", "/var", "--env", "PATH=/bin",
-                    "--env", "WORD=x y", "--env", "HOME=", "--user", "7:8"], words)
+                    "--env", "WORD=x y", "--user", "7:8"], words)
     line = "tools/layers.py config: %s: after NAME[:TAG] only options of bwrap are allowed, with --bwrap before it; see --help\n"
     for before in ((), ("--podman",)):
         for after in (("--ro-bind", "/", "/"), ("--bwrap",), ("x",)):
@@ -316,19 +316,24 @@ def hold_bwrap(room, name, numbers, become, rest):
 
 def hold_user_by_name(room):
     """A user's name is looked up in the image's own files, of which the upper layer's count; one that is not there is
-    refused for bwrap, and podman looks it up by itself."""
-    passwd, group = b"root:x:0:0::/:/\nweb:x:33:34::/:/\n", b"tape:x:26:web\nown:x:34:\n"
-    layers = [made.archive(made.entry("etc/passwd", b"web:x:1:1::/:/\n"), made.entry("etc/group", group)),
+    refused for bwrap, and podman looks it up by itself. So is his home, where the image names none."""
+    passwd, group = b"root:x:0:0::/:/\nweb:x:33:34::/srv/web:/\n", b"tape:x:26:web\nown:x:34:\n"
+    layers = [made.archive(made.entry("etc/passwd", b"web:x:1:1::/lower:/\n"), made.entry("etc/group", group)),
               made.archive(made.entry("etc/passwd", passwd))]
     for user, name in (("web", "named"), ("nobody", "unnamed")):
         source = made.Layout(room.name(), {**made.RUN, "User": user})
         source.index(made.tagged(source.image(layers), "1"))
         room.layers("pull", "oci:" + source.path, name)
         hold("podman", True, user in shlex.split(room.layers("config", "--podman", name)))
-    rest = ["--clearenv", "--setenv", "PATH", "/bin", "--setenv", "WORD", "x y", "--chdir", "/var", "--", "/bin/say", "it's",
-            "a b"]
-    hold_bwrap(room, "named", ["--uid", "33", "--gid", "34"],
-               ["setpriv", "--reuid", "33", "--regid", "34", "--groups", "26", "--inh-caps=-all"], rest)
+    said = ["--setenv", "PATH", "/bin", "--setenv", "WORD", "x y"]
+    rest = ["--chdir", "/var", "--", "/bin/say", "it's", "a b"]
+    numbers = ["--uid", "33", "--gid", "34"]
+    become = ["setpriv", "--reuid", "33", "--regid", "34", "--groups", "26", "--inh-caps=-all"]
+    hold_bwrap(room, "named", numbers, become, ["--clearenv", "--setenv", "HOME", "/srv/web", *said, *rest])
+    source = made.Layout(room.name(), {**made.RUN, "User": "web", "Env": [*made.RUN["Env"], "HOME=/own"]})
+    source.index(made.tagged(source.image(layers), "1"))
+    room.layers("pull", "oci:" + source.path, "own")
+    hold_bwrap(room, "own", numbers, become, ["--clearenv", *said, "--setenv", "HOME", "/own", *rest])
     room.refused("the image has no user nobody", "config", "--bwrap", "unnamed")
 
 

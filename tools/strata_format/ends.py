@@ -3,6 +3,8 @@ import _signal as signal  # without enum, which takes longer to load than all of
 import os
 import sys
 
+OUTPUT = "/dev/stdout"
+
 
 def begin():
     """Opens the standard ends that are closed, so that no other file takes their numbers. Children are waited for, also
@@ -27,14 +29,25 @@ def write(text, end=None):
         lose(end)
 
 
-def put(data):
-    """Writes bytes on standard output, which are what was asked for; OSError where it doesn't take them."""
+def put(data, done=""):
+    """Writes bytes on standard output, which are what was asked for; OSError where it doesn't take them, with what is done
+    nevertheless."""
     try:
         sys.stdout.buffer.write(data)
         sys.stdout.flush()
     except OSError as fault:
         lose(sys.stdout)
-        raise OSError(fault.errno, fault.strerror, "/dev/stdout") from None
+        raise OSError(fault.errno, fault.strerror + ("; " + done if done else ""), OUTPUT) from None
+
+
+def tell(name, text, done=""):
+    """The same of text, by a program of this name; the status to end with, after a line where it isn't taken."""
+    try:
+        put(text.encode(errors="surrogateescape"), done)
+        return 0
+    except OSError as fault:
+        write("%s: %s: %s\n" % (name, OUTPUT, fault.strerror.lower()))
+        return 1
 
 
 def leave(status):

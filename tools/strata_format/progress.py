@@ -4,6 +4,8 @@ import os
 import sys
 import time
 
+from strata_format import ends
+
 FIRST_AFTER, NEXT_AFTER = 1.0, 0.2
 MEGABYTE = 1_000_000
 
@@ -26,13 +28,11 @@ class Progress:
             self.due, self.is_written = time.monotonic() + NEXT_AFTER, True
             of_all = "" if self.total is None else " of %d" % (self.total // MEGABYTE)
             line = "%s: %d%s MB" % (self.what, self.count // MEGABYTE, of_all)
-            sys.stderr.write("\r" + line + "\x1b[K")
-            sys.stderr.flush()
+            ends.write("\r" + line + "\x1b[K")
 
     def end(self):
         if self.is_written:
-            sys.stderr.write("\r\x1b[K")
-            sys.stderr.flush()
+            ends.write("\r\x1b[K")
             self.is_written = False
 
     def __enter__(self):

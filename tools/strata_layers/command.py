@@ -71,7 +71,7 @@ def images_of_layout(words, fails):
     paths = write_images(*words, lost)
     for line in lost.lines():
         say(line)
-    ends.put(os.fsencode(quoted([command("mount"), *paths, "DIR"])) + b"\n")
+    ends.put(os.fsencode(quoted([command("mount"), *paths, "DIR"])) + b"\n", "the images are made")
     return 0
 
 

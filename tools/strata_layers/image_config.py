@@ -5,6 +5,8 @@ import shlex
 
 from strata_format.refused import Refused
 
+HOME = "HOME"
+
 
 def is_text(value):
     """Whether a word of the system can say it: JSON may name halves of characters, too."""
@@ -42,6 +44,12 @@ class RunConfig:
         self.entry_point, self.command = texts(value, "Entrypoint"), texts(value, "Cmd")
         self.environment = texts(value, "Env")
         self.folder, self.user = one_text(value, "WorkingDir") or "/", one_text(value, "User")
+
+    def variables(self):
+        """The names and values of the environment. An empty HOME is none, as container runtimes
+        have it."""
+        found = [text.partition("=") for text in self.environment]
+        return [(name, value) for name, _, value in found if value or name != HOME]
 
     def words(self):
         """The words of the program that the image starts."""
@@ -84,21 +92,23 @@ def renumbered(user, caller):
 
 def bwrap_words(it, user, caller, options, as_caller):
     """A whole command of bwrap: these options, then environment, folder and program of the image,
-    run as its user. Where the image says none and the caller is not root, it is the caller. No word
-    of the image is taken as an option."""
-    user = user if it.user or caller[0] == 0 else user._replace(uid=caller[0], gid=caller[1])
+    run as its user, whose home is HOME unless the image says another. No word of the image is taken
+    as an option."""
     words = [] if as_caller else become(user, caller)
     words += ["bwrap", *options, *(renumbered(user, caller) if as_caller else []), "--clearenv"]
-    for text in it.environment:
-        name, _, value = text.partition("=")
+    variables = it.variables()
+    if HOME not in dict(variables):
+        variables.insert(0, (HOME, user.home))
+    for name, value in variables:
         words += ["--setenv", name, value]
     return [*words, "--chdir", it.folder, "--", *it.words()]
 
 
 def podman_words(it):
-    """Words of podman run: all of it, so that only --rootfs follows."""
+    """Words of podman run: all of it, so that only --rootfs follows. podman looks users up, and
+    sets HOME, by itself."""
     words = ["--entrypoint", json.dumps(it.words()), "--workdir", it.folder]
-    for text in it.environment:
+    for name, value in it.variables():
         # a name alone would mean the value that it has outside
-        words += ["--env", text if "=" in text else text + "="]
+        words += ["--env", "%s=%s" % (name, value)]
     return words + (["--user", it.user] if it.user else [])

@@ -88,6 +88,8 @@ def write_archive_image(out, lost, progress):
 
 def write_image_file(source, path, lost, is_upper=False):
     """Makes the image at a path of a folder, or of standard input."""
+    if path == STANDARD_INPUT:
+        raise Refused("an image cannot be written to standard output; ./- is a file of that name")
     check_aim(path)
     if source == STANDARD_INPUT:
         keep_image(path, lost, lambda out, progress: write_archive_image(out, lost, progress))

@@ -3,7 +3,8 @@ its own layers show, as container runtimes find them.
 
 Of `USER[:GROUP]` each is a name or a number. A name must stand in the image's file; a number need
 not. Without GROUP it is the user's group in passwd, or 0, and the user has the other groups that
-list his name.
+list his name. Without USER it is root, or, where an unprivileged user calls, he. His home is that of
+passwd, or `/`.
 """
 import collections
 import os
@@ -15,9 +16,9 @@ from strata_layers.store_images import layers_of
 FILE_MOST = 1 << 20
 NUMBER_MOST = (1 << 32) - 2
 
-# a user's number, his group's, and those of his other groups
-User = collections.namedtuple("User", "uid gid groups")
-ROOT = User(0, 0, [])
+# a user's number, his group's, those of his other groups, and the path of his home
+User = collections.namedtuple("User", "uid gid groups home")
+ROOT = 0, 0
 
 
 def file_at(below, folder, name):
@@ -60,27 +61,36 @@ def number_of(row, word, what):
     return number
 
 
+def home_of(row):
+    """The path of the home that a row of passwd, or none, says."""
+    found = row[5] if row is not None and len(row) > 5 else b""
+    return os.fsdecode(found) if found and b"\0" not in found else "/"
+
+
 def user_of(text, passwd, group):
     """The user that a configuration says, by these two files."""
     word, colon, group_word = text.encode().partition(b":")
     groups = rows_of(group, 3)
     row = found_row(rows_of(passwd, 4), word or b"0")
-    uid = number_of(row, word or b"0", "user")
+    uid, home = number_of(row, word or b"0", "user"), home_of(row)
     if colon and group_word:
-        return User(uid, number_of(found_row(groups, group_word), group_word, "group"), [])
+        return User(uid, number_of(found_row(groups, group_word), group_word, "group"), [], home)
     gid = number_in(row[3]) or 0 if row is not None else 0
     name = row[0] if row is not None else None
     listed = [number_in(it[2]) for it in groups if len(it) > 3 and name in it[3].split(b",")]
-    return User(uid, gid, sorted({it for it in listed if it is not None} - {gid}))
+    return User(uid, gid, sorted({it for it in listed if it is not None} - {gid}), home)
 
 
-def image_user(store, name, text):
-    """The user of an image of a store, whose configuration says this text."""
-    if not text:
-        return ROOT
+def image_user(store, name, text, caller):
+    """The user of an image of a store, whose configuration says this text; `caller` has a user's
+    and a group's number."""
     _, files = layers_of(store, name)
     below = Below()
     for number in files:
         below.add(number)
         os.close(number)
-    return user_of(text, *(file_at(below, (b"etc",), it) for it in (b"passwd", b"group")))
+    passwd, group = (file_at(below, (b"etc",), it) for it in (b"passwd", b"group"))
+    if text:
+        return user_of(text, passwd, group)
+    uid, gid = ROOT if caller[0] == 0 else caller
+    return User(uid, gid, [], home_of(found_row(rows_of(passwd, 4), b"%d" % uid)))

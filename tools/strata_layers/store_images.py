@@ -1,10 +1,10 @@
 """The images of a store by their names, and the layers of an image for a mount."""
-import collections
 import fcntl
 import os
 
 from strata_format.json_text import value_of
 from strata_format.progress import Progress
+from strata_format.records import record
 from strata_format.refused import Refused, shown
 from strata_layers.store import DIGEST, Shared, Store, are_digits, default_place, digits_of, file_digits
 
@@ -17,13 +17,11 @@ LATEST = "latest"
 # what is known of an image: where it came from, its manifest's digest there, its layers from the
 # lowest up, its configuration, and the text of that manifest, if it says the fs-verity digest of
 # each layer; else None
-StoredImage = collections.namedtuple("StoredImage", "source manifest layers config text",
-                                     defaults=(None,))
+StoredImage = record("StoredImage", "source manifest layers config text", defaults=(None,))
 # an image of a layer; where a layer takes several, the higher ones are its parts from 1 on. `parent`
 # has the digits of the image that it was made to lie on; None where it is the lowest, or not known.
 # `verity` is its fs-verity digest; None where it was brought before there were any
-StoredLayer = collections.namedtuple("StoredLayer", "digits size part parent verity",
-                                     defaults=(0, None, None))
+StoredLayer = record("StoredLayer", "digits size part parent verity", defaults=(0, None, None))
 
 
 # before the digest of a manifest

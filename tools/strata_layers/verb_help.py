@@ -44,7 +44,10 @@ CHOSEN = "store_const"
 
 
 class Parser(argparse.ArgumentParser):
-    """Says in one line what is wrong with the words."""
+    """Says in one line what is wrong with the words, and helps, or says that nobody takes it."""
+
+    def print_help(self, file=None):
+        ends.put(self.format_help().encode())
 
     def error(self, message):
         ends.write("%s: %s; see --help\n" % (self.prog, one_line(message)))

@@ -1,5 +1,6 @@
 """The verbs of strata-layers: image, convert, pull, images, verify, remove, prune, config,
 attributes, seal, podman."""
+import collections
 import os
 
 from strata_format import ends
@@ -10,8 +11,9 @@ from strata_layers.lost import Lost
 from strata_layers.verb_words import read
 
 
-def print_line(text):
-    ends.put(bytes_of(text) + b"\n")
+def print_line(text, done=""):
+    """Prints a line of what was asked for, or of what is done; OSError where it isn't taken."""
+    ends.put(bytes_of(text) + b"\n", done)
 
 
 def told(lost):
@@ -32,7 +34,7 @@ def run_image(asked):
     lost = Lost(asked.leave_out, asked.fail_on_lost)
     write_image_file(asked.folder, asked.image, lost, asked.upper)
     told(lost)
-    print_line(quoted([command("mount"), asked.image, "DIR"]))
+    print_line(quoted([command("mount"), asked.image, "DIR"]), "the image is made")
     return 0
 
 
@@ -43,17 +45,20 @@ def run_convert(asked):
     lost, store = Lost(asked.leave_out, asked.fail_on_lost), store_of(asked, make=True)
     folder, tag = convert(store, layout, tag, asked.new_layout, asked, lost)
     told(lost)
-    print_line("oci:%s:%s" % (folder, tag))
+    print_line("oci:%s:%s" % (folder, tag), "the layout is written")
     return 0
 
 
 def run_pull(asked):
+    from strata_layers.layer_order import wrong_order_of
     from strata_layers.pull import pull
-    from strata_layers.store_images import layers_text
+    from strata_layers.store_images import image_in, layers_text
     lost, store = Lost(asked.leave_out, asked.fail_on_lost), store_of(asked, make=True)
     name, count, new = pull(store, asked.source, asked.name, asked.platform, lost)
     told(lost)
-    print_line("%s: %s, %d of them new" % (name, layers_text(count), new))
+    for line in wrong_order_of(image_in(store, name).layers):
+        ends.write(line + "\n")
+    print_line("%s: %s, %d of them new" % (name, layers_text(count), new), "the image is in the store")
     return 0
 
 
@@ -67,9 +72,15 @@ def run_images(asked):
 def run_verify(asked):
     from strata_layers.store_upkeep import verified
     is_right = True
-    for line in verified(store_of(asked)):
+    lines = verified(store_of(asked))
+    for line in lines:
         is_right = False
-        print_line(line)
+        try:
+            print_line(line, "all is verified")
+        except OSError:
+            # what is damaged is set aside nevertheless
+            collections.deque(lines, 0)
+            raise
     return 0 if is_right else 1
 
 
@@ -88,7 +99,7 @@ def run_prune(asked):
     with store.locked():
         count, size, used = prune(store)
     print_line("%s removed, %d bytes; %d %s in use by a mount"
-               % (layers_text(count), size, used, "is" if used == 1 else "are"))
+               % (layers_text(count), size, used, "is" if used == 1 else "are"), "the layers are removed")
     return 0
 
 
@@ -113,7 +124,8 @@ def sandbox_words(store, name, config, asked):
     it = RunConfig(config)
     if asked.form == "podman":
         return podman_words(it)
-    user, caller = image_user(store, name, it.user), (os.geteuid(), os.getegid())
+    caller = os.geteuid(), os.getegid()
+    user = image_user(store, name, it.user, caller)
     return bwrap_words(it, user, caller, asked.options, asked.as_caller)
 
 
@@ -122,14 +134,14 @@ def run_attributes(asked):
     lost = Lost(fails=asked.fail_on_lost)
     count = add_attributes(asked.folder, asked.image, lost)
     told(lost)
-    print_line("%s: attributes of %d files" % (asked.image, count))
+    print_line("%s: attributes of %d files" % (asked.image, count), "the image has them")
     return 0
 
 
 def run_seal(asked):
     from strata_layers.seal import seal_image
     for image in asked.images:
-        print_line("%s %s" % (seal_image(image, asked.algorithm), image))
+        print_line("%s %s" % (seal_image(image, asked.algorithm), image), "its tree is written")
     return 0
 
 
@@ -143,7 +155,7 @@ def run_podman(asked):
     made = kind(os.path.abspath(asked.folder), name, image_in(store, name), store)
     for images, place in made.write():
         words = [command("mount"), "--background", "-o", "allow_other,suid,dev", *images, place]
-        print_line(quoted(words))
+        print_line(quoted(words), "all is written")
     return 0
 
 

@@ -16,7 +16,6 @@ Status: 0 after an unmount, 1 if nothing can be mounted, 2 for wrong arguments, 
 """
 import _signal as signal
 import os
-import sys
 
 from strata_format import ends
 from strata_format.version import version
@@ -50,8 +49,8 @@ options:
                     share, stack, caps, modeless, sealed,
                     unsealed, digest=DIGEST
   --digest DIGEST   accept an image only with this fs-verity
-                    digest; one a layer, in order, or none;
-                    - accepts any image
+                    digest; one for each layer in order, or
+                    none; - accepts any image
   --strict          verify the checksum of every header, too
   --replace         unmount a mount of strata at DIR first
   --share           one mount for all who ask for the same
@@ -139,14 +138,12 @@ def main(words, name):
     try:
         read = Reader(FLAGS, VALUED).read(words)
         if "help" in read.said:
-            sys.stdout.write(USAGE % name + HELP)
-            return 0
+            return ends.tell(name, USAGE % name + HELP)
         if "version" in read.said:
-            print(name, version())
-            return 0
+            return ends.tell(name, "%s %s\n" % (name, version()))
         if "list" in read.said:
             from strata_mount import listing
-            return listing.tell("json" in read.said)
+            return ends.tell(name, listing.text("json" in read.said))
         plan = plan_of(read, name)
     except WrongWords as wrong:
         ends.write(USAGE % name + "%s: error: %s\n" % (name, wrong))

@@ -12,7 +12,6 @@ for the words, 8 for an interrupt, 32 where nothing was mounted.
 """
 import _signal as signal
 import os
-import sys
 
 from strata_format import ends
 from strata_format.refused import one_line
@@ -94,7 +93,7 @@ def plan_of(read, name):
     if len(os.fsencode(source)) > SOURCE_MOST:
         raise Wrong("the images' names have more than %d bytes together, the limit for the source of a mount" % SOURCE_MOST)
     plan = Plan(name=name, images=names, folder=folder, background=True, may_replace=False, source=source,
-                word=None if is_stored else spec)
+                word=None if is_stored else spec, joined=word_of)
     plan.settle(options)
     return plan
 
@@ -138,11 +137,9 @@ def main(words, name="mount.strata"):
     try:
         read = Reader(FLAGS, VALUED).read(words)
         if "help" in read.said:
-            sys.stdout.write(HELP % name)
-            return 0
+            return ends.tell(name, HELP % name)
         if "version" in read.said:
-            print(name, version())
-            return 0
+            return ends.tell(name, "%s %s\n" % (name, version()))
         plan = plan_of(read, name)
     except (Wrong, WrongWords) as wrong:
         ends.write("%s: %s\n" % (name, one_line(str(wrong))))
@@ -154,5 +151,5 @@ def main(words, name="mount.strata"):
         return looked_at(plan)
     status = mounted(plan)
     if status == 0 and "verbose" in read.said:
-        ends.write("%s: %s on %s\n" % (name, one_line(plan.source), one_line(plan.folder)), sys.stdout)
+        ends.tell(name, "%s: %s on %s\n" % (name, one_line(plan.source), one_line(plan.folder)), "it is mounted")
     return ends.leave(status)

@@ -5,7 +5,7 @@ by its note.
 """
 import os
 
-from strata_format import ends, image_files
+from strata_format import image_files
 from strata_format.refused import one_line
 from strata_mount import kernel_seals
 from strata_mount.mount_table import KIND, mounts
@@ -122,20 +122,13 @@ def words_of(row):
     return [process, memory, age, one_line(row["folder"]), " ".join(map(one_line, images))]
 
 
-def tell(is_json):
-    """Prints all mounts; the status to end with."""
+def text(is_json):
+    """All mounts."""
     found = list(rows())
     if is_json:
         import json
-        text = json.dumps(found, indent=1) + "\n"
-    else:
-        lines = [["PROCESS", "MIB", "SECONDS", "FOLDER", "IMAGES"], *map(words_of, found)]
-        process, memory, age, folder = (max(map(len, column)) for column in list(zip(*lines))[:4])
-        form = "%%%ds  %%%ds  %%%ds  %%-%ds  %%s\n" % (process, memory, age, folder)
-        text = "".join(form % tuple(line) for line in lines)
-    try:
-        ends.put(os.fsencode(text))
-    except OSError as fault:
-        ends.write("strata-mount: /dev/stdout: %s\n" % fault.strerror.lower())
-        return 1
-    return 0
+        return json.dumps(found, indent=1) + "\n"
+    lines = [["PROCESS", "MIB", "SECONDS", "FOLDER", "IMAGES"], *map(words_of, found)]
+    process, memory, age, folder = (max(map(len, column)) for column in list(zip(*lines))[:4])
+    form = "%%%ds  %%%ds  %%%ds  %%-%ds  %%s\n" % (process, memory, age, folder)
+    return "".join(form % tuple(line) for line in lines)

@@ -3,6 +3,7 @@ import os
 
 from strata_format import ends, version
 from strata_format.refused import one_line
+from strata_format.words import quoted
 from strata_mount.options import NOT_SEALED
 
 WORDS = ("ro", "nosuid", "nodev", "default_permissions")
@@ -32,6 +33,8 @@ class Plan:
     share = is_printed = is_stacked = keeps_privileges = False
     # the name of the file in which requests are counted
     stats = None
+    # how several images are said
+    joined = staticmethod(quoted)
     # open files that mark layers of the store as in use while strata runs
     marks = ()
 

@@ -82,8 +82,7 @@ def find_images(plan):
             meant.hold_split(plan.word, plan.images)
     take_digests(plan, digests)
     if layer_order.is_known(plan.images):
-        line = layer_order.wrong_order(plan.images, parents)
-        if line is not None:
+        for line in layer_order.wrong_order(plan.images, parents, plan.joined):
             plan.say(line)
 
 

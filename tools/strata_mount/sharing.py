@@ -218,11 +218,21 @@ def attempt(plan):
         if is_new:
             sweep(folder)
         if status == 0 and plan.is_printed:
-            ends.put(os.fsencode(plan.folder) + b"\n")
+            tell(plan, is_new)
         return status
     finally:
         note.close()
         os.close(folder)
+
+
+def tell(plan, is_new):
+    """Prints the folder. A new mount that nobody learns of is unmounted."""
+    try:
+        ends.put(os.fsencode(plan.folder) + b"\n")
+    except OSError:
+        if is_new:
+            take_away(plan.folder)
+        raise
 
 
 def joined_or_mounted(plan, note, identity):

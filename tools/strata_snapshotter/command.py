@@ -8,6 +8,7 @@ import logging
 import os
 import resource
 import signal
+import sys
 import threading
 
 from strata_format import ends, version
@@ -22,8 +23,19 @@ GRACE = 2
 NO_GRPC = "needs grpcio and protobuf of this python3 (Debian: python3-grpcio, python3-protobuf): %s"
 
 
+class Parser(argparse.ArgumentParser):
+    """Writes as the other commands do, also where nobody takes it."""
+
+    def print_help(self, file=None):
+        sys.exit(ends.tell(NAME, self.format_help()))
+
+    def error(self, message):
+        ends.write("%s%s: error: %s\n" % (self.format_usage(), NAME, message))
+        sys.exit(2)
+
+
 def parser():
-    found = argparse.ArgumentParser(
+    found = Parser(
         prog=NAME, description="Serves snapshots to containerd: its layers as romfs images.",
         epilog="containerd's configuration names the socket as a proxy plugin of type snapshot.")
     found.add_argument("--root", metavar="DIR", default=ROOT,
@@ -93,8 +105,7 @@ def main(words):
     ends.begin()
     words = parser().parse_args(words)
     if words.version:
-        print(NAME, version.version())
-        return 0
+        return ends.tell(NAME, "%s %s\n" % (NAME, version.version()))
     begin(words)
     try:
         serve(words)
