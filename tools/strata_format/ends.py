@@ -20,14 +20,13 @@ def begin():
     sys.stderr = sys.stderr or open(2, "w", encoding="utf-8", errors="backslashreplace", closefd=False)
 
 
-def write(text, end=None):
-    """Writes text on standard error, or another end, if that takes it: what was done stays done."""
-    end = end or sys.stderr
+def write(text):
+    """Writes text on standard error, if that takes it: what was done stays done."""
     try:
-        end.write(text)
-        end.flush()
+        sys.stderr.write(text)
+        sys.stderr.flush()
     except OSError:
-        lose(end)
+        lose(sys.stderr)
 
 
 def put(data, done=""):
