@@ -107,6 +107,16 @@ def check_pull_on_a_full_disk(room):
     hold("the image at last", (".", 4), (before, at_last.count("./store/blobs/sha256/")))
 
 
+def check_podman_on_a_full_disk(room):
+    """A store for podman: all of it or nothing."""
+    folder = os.path.join(room.path, "disk", "podman")
+    room.layers("pull", "oci:" + layout(room, 4), "a:1")
+    for words, name in (([], "images.json"), (["--layers"], "layer.romfs")):
+        filled = "head -c 592k /dev/zero > '%s/filling'" % os.path.dirname(folder)
+        before, after, at_last = on_disk(room, ["podman", "--store", room.store, *words, "a:1", folder], filled)
+        hold("a store", (before, True), (after, name in at_last))
+
+
 def hold_full(room, done, *words):
     """A command of strata-layers whose standard output takes nothing fails with a line that says what is done
     nevertheless."""
@@ -172,4 +182,4 @@ def check_full_output_of_help(room):
 
 
 CHECKS = [check_convert_on_a_full_disk, check_images_on_a_full_disk, check_image_on_a_full_disk,
-          check_pull_on_a_full_disk, check_full_output, check_full_output_of_help]
+          check_pull_on_a_full_disk, check_podman_on_a_full_disk, check_full_output, check_full_output_of_help]

@@ -186,6 +186,16 @@ def check_order_of_a_folder(room):
     shutil.copy(images[0], own)
     told_of(room, "layer 0 is %s: made to lie on 01.romfs, and is the lowest" % images[2],
             [own, *images[:3]], images[2], own, images[1], images[0])
+    # names that a stranger noted are shown in one line, and suggested only where they can be printed
+    with open(os.path.join(out, ".layers.json"), encoding="utf-8") as beside:
+        noted = beside.read()
+    os.rename(images[0], out + "/\x1b[2J")
+    with open(os.path.join(out, ".layers.json"), "w", encoding="utf-8") as beside:
+        beside.write(noted.replace('"00.romfs"', '"\\u001b[2J"'))
+    told_of(room, "layer 0 is %s: made to lie on \\1b[2J, and is the lowest" % images[1], [], images[1])
+    os.rename(out + "/\x1b[2J", images[0])
+    with open(os.path.join(out, ".layers.json"), "w", encoding="utf-8") as beside:
+        beside.write(noted)
     # what lies between is another's, and one that was exchanged is not the one that is noted
     other = room.name()
     shutil.copy(images[0], other)

@@ -10,23 +10,23 @@ def begin():
     """Opens the standard ends that are closed, so that no other file takes their numbers. Children are waited for, also
     where SIGCHLD was ignored, since then the system tells nobody how they ended."""
     signal.signal(signal.SIGCHLD, signal.SIG_DFL)
-    number = os.open(os.devnull, os.O_RDWR)
-    while number <= 2:
-        os.set_inheritable(number, True)
-        number = os.open(os.devnull, os.O_RDWR)
-    os.close(number)
+    for number in range(3):
+        try:
+            os.fstat(number)
+        except OSError:
+            # it gets this number, since those below are taken
+            os.set_inheritable(os.open(os.devnull, os.O_RDWR), True)
     sys.stdout = sys.stdout or open(1, "w", encoding="utf-8", closefd=False)
     sys.stderr = sys.stderr or open(2, "w", encoding="utf-8", errors="backslashreplace", closefd=False)
 
 
-def write(text, end=None):
-    """Writes text on standard error, or another end, if that takes it: what was done stays done."""
-    end = end or sys.stderr
+def write(text):
+    """Writes text on standard error, if that takes it: what was done stays done."""
     try:
-        end.write(text)
-        end.flush()
+        sys.stderr.write(text)
+        sys.stderr.flush()
     except OSError:
-        lose(end)
+        lose(sys.stderr)
 
 
 def put(data, done=""):

@@ -62,7 +62,7 @@ def layers_beside(folder):
     try:
         with open(os.open(os.path.join(folder, BESIDE), READING), "rb") as file:
             value = value_of(file.read(BESIDE_MOST))
-        return {it["name"]: Noted(it) for it in value["layers"]}
+        return {it["name"]: Noted(it) for it in value["layers"] if isinstance(it["name"], str)}
     except (OSError, ValueError, LookupError, TypeError, AttributeError, RecursionError):
         return {}
 
@@ -144,7 +144,7 @@ class Known:
         """How an image is named: by its name in a folder, or else by its digest."""
         names = (name for it in self.folders.values() for name, layer in it.items()
                  if layer.digits == digits)
-        return next(names, "sha256:%s.." % digits[:12])
+        return shown(next(names, "sha256:%s.." % digits[:12]))
 
 
 def is_known(paths):
@@ -174,7 +174,7 @@ def right_order(stack, images):
     """The paths in an order in which each image lies on one that it was made for, with those that
     are missing where they stand beside them; none where there is no such order."""
     left, order, below = list(stack), [], None
-    while left and len(order) < IMAGES_MOST:
+    while left and len(order) + len(left) <= IMAGES_MOST:
         fit = [it for it in left if below is not None and below.digits in it.wanted - {None}]
         fit = fit or [it for it in left if None in it.wanted]
         if fit:
@@ -203,7 +203,7 @@ def order_lines(stack, images, joined):
     yield "layer %d is %s: made to lie on %s, and %s%s" % (
         at, shown(os.fsencode(it.path)), images.name_of(sorted(it.wanted)[0]), lies, more)
     order = right_order(stack, images)
-    if order:
+    if order and all(map(str.isprintable, order)):
         yield "the right order: " + joined(order)
 
 

@@ -17,7 +17,7 @@ from strata_format import romfs
 from strata_format.files import new_file, open_folder, write_all
 from strata_format.image import Image
 from strata_format.read_romfs import ReadImage
-from strata_format.refused import Refused, shown
+from strata_format.refused import Refused
 from strata_layers.entries import MARKER, OPAQUE
 from strata_layers.image_maker import VOLUME_NAME
 from strata_layers.store_images import held_layer
@@ -110,8 +110,6 @@ class LayerStore:
 
     def write(self):
         """Writes all but what the mounts show; the images, and where each is to be mounted."""
-        if os.path.isdir(self.folder) and os.listdir(self.folder):
-            raise Refused("%s: is not empty" % shown(self.folder))
         archives, blobs = self.archives(), blobs_by_layers(self.store)
         lowers, found = [], []
         for archive, layer in zip(archives, self.image.layers):

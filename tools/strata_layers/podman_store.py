@@ -11,6 +11,7 @@ import base64
 import hashlib
 import json
 import os
+import shutil
 
 from strata_format.files import make_folder, new_file, write_all
 from strata_format.refused import Refused, shown
@@ -34,6 +35,26 @@ def data_name(name):
     if all(it.isascii() and it.isalnum() or it in "-_." for it in name):
         return name
     return "=" + base64.b64encode(name.encode()).decode()
+
+
+class new_or_empty:
+    """A folder that must be new or empty, and is so again where what writes to it fails."""
+
+    def __init__(self, folder):
+        self.folder, self.is_new = folder, not os.path.isdir(folder)
+        if not self.is_new and os.listdir(folder):
+            raise Refused("%s: is not empty" % shown(folder))
+
+    def __enter__(self):
+        return self
+
+    def __exit__(self, kind, *_):
+        if kind is None or not os.path.isdir(self.folder):
+            return
+        for name in os.listdir(self.folder):
+            shutil.rmtree(os.path.join(self.folder, name))
+        if self.is_new:
+            os.rmdir(self.folder)
 
 
 class ImageStore:
@@ -78,8 +99,6 @@ class ImageStore:
     def write(self):
         """Writes all but what the mount shows, images.json last; the image, and where it is to be
         mounted."""
-        if os.path.isdir(self.folder) and os.listdir(self.folder):
-            raise Refused("%s: is not empty" % shown(self.folder))
         short = base64.b32encode(bytes.fromhex(self.layer)).decode()[:SHORT_MOST]
         os.makedirs(self.mount_place())
         os.mkdir(os.path.join(self.folder, "overlay", "l"))

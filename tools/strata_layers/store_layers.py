@@ -233,7 +233,7 @@ class Maker:
         count = sum(map(len, found))
         if count > LAYERS_MOST:
             raise Refused("its layers take %d images, and %d can be stacked" % (count, LAYERS_MOST))
-        return with_parents(found, image.parents)
+        return with_parents(found, image)
 
 
 def hold_digest(number, layers, said):
@@ -245,15 +245,15 @@ def hold_digest(number, layers, said):
                       % (number, digests, said))
 
 
-def with_parents(layers, said):
-    """The images of layers, a list for each, with those that they were made to lie on: what a
-    layout says of an image of romfs, and else the one below."""
+def with_parents(layers, image):
+    """The images of an image's layers, a list for each, with those that they were made to lie on:
+    what a layout says of an image of romfs, and of others the one below."""
     below, found = None, []
-    for images, parent in zip(layers, said):
+    for images, blob, parent in zip(layers, image.layers, image.parents):
         found.append([])
         for it in images:
-            found[-1].append(it._replace(parent=parent or below))
-            parent, below = None, it.digits
+            found[-1].append(it._replace(parent=parent if blob.media in PACKED_ROMFS else below))
+            below = it.digits
     return found
 
 

@@ -147,13 +147,15 @@ def run_seal(asked):
 
 def run_podman(asked):
     from strata_layers.podman_layers import LayerStore
-    from strata_layers.podman_store import ImageStore
+    from strata_layers.podman_store import ImageStore, new_or_empty
     from strata_layers.store_images import full_name, image_in
     store = store_of(asked)
     name = full_name(store, asked.name)
     kind = LayerStore if asked.layers else ImageStore
-    made = kind(os.path.abspath(asked.folder), name, image_in(store, name), store)
-    for images, place in made.write():
+    folder = os.path.abspath(asked.folder)
+    with new_or_empty(folder):
+        written = kind(folder, name, image_in(store, name), store).write()
+    for images, place in written:
         words = [command("mount"), "--background", "-o", "allow_other,suid,dev", *images, place]
         print_line(quoted(words), "all is written")
     return 0

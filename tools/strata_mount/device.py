@@ -8,7 +8,7 @@ from strata_mount.mount_table import KIND
 from strata_mount.options import CLEARS, SETS
 from strata_mount.processes import found_program, start
 
-DEVICE = "/dev/fuse"
+DEVICE, MTAB = "/dev/fuse", "/etc/mtab"
 # the numbers of this device, which never change
 NUMBERS = os.makedev(10, 229)
 NOT_FUSE = "not FUSE's device, which root makes by `mknod -m 666 %s c 10 229`" % DEVICE
@@ -81,6 +81,9 @@ def mounted_by_helper(plan):
     if status != 0:
         # it has said why
         sys.exit(1)
+    if not os.path.exists(MTAB):
+        plan.say("%s is missing, and fusermount3 unmounts nothing without it: `ln -s ../proc/self/mounts %s` as root"
+                 % (MTAB, MTAB))
     _, found, _, _ = ours.recvmsg(1, socket.CMSG_SPACE(INT_SIZE), socket.MSG_CMSG_CLOEXEC)
     ours.close()
     if not found:

@@ -52,7 +52,8 @@ def opened_notes(makes=True):
         is_link = fault.errno in (errno.ELOOP, errno.ENOTDIR)
         what = "is a symbolic link" if is_link else fault.strerror
         where = top if above is None else place
-        raise OSError(0, "%s; shared mounts are noted there" % what, where) from None
+        other = "; XDG_RUNTIME_DIR names another directory" * (above is None and top != "/run")
+        raise OSError(0, "%s; shared mounts are noted there%s" % (what, other), where) from None
     finally:
         if above is not None:
             os.close(above)
