@@ -164,7 +164,7 @@ bare_more lists i x bare l there none = record {
 pub none_bare : AreBare []
 none_bare = record { each = λ layer position. refl }
 
--- what is told of a list is told of the same list
+-- what a search gives of a list it gives of an equal one
 pub told : (o : Option (List Extended)) (a b : List Extended) → a ≡ b → MatchOption o (a ≡ []) (λ found. a ≡ found)
     → MatchOption o (b ≡ []) (λ found. b ≡ found)
 told o a b e m = subst (λ l. MatchOption o (l ≡ []) (λ found. l ≡ found)) e m

@@ -1,5 +1,5 @@
--- Attributes of a place, as Linux's stat has them, its extended attributes (xattr(7)), and its data:
--- what its header says, and what a row of its layer's trailer does.
+-- Attributes of a place, as Linux's stat has them, its extended attributes (xattr(7)), and its
+-- data: what its header says, and what a row of its layer's trailer does.
 use Rattle.std.specs.Prelude.{ℕ, ◌+◌, ◌-◌, ◌*◌, ◌/◌, ◌%◌, ◌^◌, List, [], min, Bool, Option, None, Some, take, drop, sum_by, count_by, slice_index_or, bit_and, bit_or, if◌then◌else◌, true, false, not, nat_eq}
 use Rattle.std.specs.List.{list_any}
 use Rattle.std.specs.Option.{option_map_or}

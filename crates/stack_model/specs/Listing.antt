@@ -20,8 +20,8 @@ pub record Entry : Type 0 where
   pub header : ℕ
 
 -- layers, lowest first, and entries that they show; the rows of attributes of each layer, the list
--- of extended attributes for each row, and the owner of nodes without a row; and whether the layers are complete, or have zeros where nothing is
--- held of them
+-- of extended attributes for each row, and the owner of nodes without a row; and whether the layers
+-- are complete, or have zeros where nothing is held of them
 pub record Stacked : Type 0 where
   pub layers : List (List ℕ)
   pub entries : List Entry
