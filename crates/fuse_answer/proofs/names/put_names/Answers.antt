@@ -1,4 +1,4 @@
-use Rattle.std.proofs.Common.{◌∙◌, ◌++◌, sym, ap, length, arith, append_assoc}
+use Rattle.std.proofs.Common.{◌∙◌, ◌++◌, ap, length, arith, append_assoc}
 use Rattle.std.proofs.lemmas.Result.{err_from_is_err_and}
 use Rattle.fuse_wire.proofs.Sizes.{length-head, length-reply_with}
 use Rattle.fuse_wire.specs.Replies.{reply_head, reply_with}
