@@ -146,7 +146,8 @@ def hold_change(room, sample, change, way, messages, wanted, seen):
     """Holds what comes of changed files: refused, or EIO for the READs of what was changed."""
     what, data, tree = change
     lost = sample.lost(data, tree)
-    is_refused = lost is None or bool(lost) and (way == "--whole" or not sample.looked_at.isdisjoint(lost))
+    # a small image is read in full, unless it must stay in its file
+    is_refused = lost is None or bool(lost) and (way != "--in-files" or not sample.looked_at.isdisjoint(lost))
     told, path = "%s, %s, %s" % (sample.image.algorithm, what, way), os.path.join(room.folder, "image")
     words = ["check"] if way == "check" else ["serve", way]
     got, done = talk([room.program, *words, "--attributes", "--digest", sample.image.digest, path],

@@ -9,7 +9,7 @@ from checks.plain.plain_verity import BLOCK
 from checks.shared.shown_files import ShownFiles
 
 TREE = ".verity"
-# when lies begin, as a number of reads and where they are told at all; how many reads there were, and how many lies
+# from which read on the server lies; how many reads there were, and how many lies
 ORDER, COUNTS = struct.Struct("=Q"), struct.Struct("=QQ")
 NEVER = 2 ** 64 - 1
 
@@ -27,7 +27,7 @@ class SealedImage:
         return {self.name: (self.right, self.other)[which], self.name + TREE: self.trees[which]}
 
 
-# --- what is told: each of these gives the bytes of a read, or an error's number ---
+# --- lies: each of these gives the bytes of a read, or an error's number ---
 
 def bit(lie, name, offset, right):
     """One bit is another."""
@@ -138,7 +138,7 @@ MOMENTS = (always, often, often, seldom, at_second, at_first, further, at_large,
 
 
 class Lie:
-    """What is told of the files of some images, at random."""
+    """How reads of some images' files are answered, at random."""
 
     def __init__(self, rng, images):
         self.rng = rng
@@ -149,6 +149,8 @@ class Lie:
         self.names = rng.choice([list(self.right), [it.name for it in images], [it.name + TREE for it in images],
                                  [rng.choice(list(self.right))]])
         self.has_sizes = rng.random() < 0.2
+        if rng.random() < 0.2:  # another sealed image altogether, whose blocks and digests agree
+            self.kinds, self.moment, self.names = [other], rng.choice([always, further]), list(self.right)
         self.place, self.seen, self.end = rng.randrange(1 << 16), Counter(), 0
 
     def told(self):
@@ -157,7 +159,7 @@ class Lie:
         return "%s, %s, of %s%s" % (kinds, self.moment.__name__, " ".join(self.names), ", sizes" * self.has_sizes)
 
     def data(self, name, offset, size, is_on):
-        """The bytes that are told, or an error's number, and whether that is a lie."""
+        """The bytes that a read gives, or an error's number, and whether that is a lie."""
         right = self.right[name][offset:offset + size]
         self.seen[name, offset // BLOCK] += 1
         is_lie = is_on and name in self.names and self.moment(self, name, offset, size)
@@ -170,7 +172,7 @@ class Lie:
         return told, told != right
 
     def size(self, name, is_on):
-        """The size that is told: of some files another one, cut or grown."""
+        """The size that a file has: of some another one, cut or grown."""
         size = len(self.right[name])
         if not (is_on and self.has_sizes and name in self.names):
             return size
@@ -187,7 +189,7 @@ class LyingFiles(ShownFiles):
         super().__init__(room, list(lie.right))
 
     def begin(self, first=0):
-        """From this read on lies are told."""
+        """From this read on it lies."""
         ORDER.pack_into(self.shared, 0, first)
 
     def counts(self):

@@ -45,7 +45,7 @@ class ShownFiles:
         raise NotImplementedError
 
     def note_waiting(self, count):
-        """Is told again and again how many reads wait."""
+        """Called again and again with the number of reads that wait."""
 
     def serve(self):
         """Answers requests until the unmount."""
