@@ -17,7 +17,7 @@ from checks.shared.mounting import hold
 from checks.shared.random_inputs import read_body
 
 # a try changes each so manyth byte of one of the samples
-STEP = 64
+STEP = 256
 ALGORITHMS = ("sha256", "sha512")
 # sizes of files, which make trees of no level, of one, and of two by SHA-512
 SIZES = ([9, 1000], [3 * BLOCK, 100, 2 * BLOCK + 5], [BLOCK, 5 * BLOCK], [66 * BLOCK, 9])
@@ -125,7 +125,7 @@ def bytes_changed(sample, number):
 
 
 def try_changed(room, seed, seen):
-    """Seeds go through the samples, and then through their bytes: after 512 of them each byte was changed."""
+    """Seeds go through the samples, and then through their bytes: after 2,048 of them each byte was changed."""
     sample, rng = Sample((seed - 1) % len(SAMPLES)), random.Random(seed)
     path = os.path.join(room.folder, "image")
     messages = sample.messages()
