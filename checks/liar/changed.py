@@ -125,7 +125,8 @@ def bytes_changed(sample, number):
 
 
 def try_changed(room, seed, seen):
-    """Seeds go through the samples, and then through their bytes: after 2,048 of them each byte was changed."""
+    """Seeds go through the samples, and then through their bytes: after 2,048 of them each was changed, of large files each
+    sixteenth."""
     sample, rng = Sample((seed - 1) % len(SAMPLES)), random.Random(seed)
     path = os.path.join(room.folder, "image")
     messages = sample.messages()
