@@ -17,13 +17,14 @@
 # make speed: measures the tables of docs/SPEED.md and writes them, with README's table and the pictures; as root, on a quiet machine.
 # make fuzz [FUZZ=WORDS]: random and changed inputs, against a plain reading of the formats; WORDS are those of checks/fuzz/fuzz.py,
 # as `--minutes 120 --seed 1000000 long device`.
+# make liar [LIAR=WORDS]: sealed images whose files lie; WORDS are those of checks/liar/liar.py, as `--minutes 120 --seed 1000 mounts`.
 # make threads: 10,000 runs of one stream by 64 workers, each of which must give the same bytes; and valgrind over it.
 # make soak [MINUTES=20]: little memory by steps, the largest image, and random requests for so many minutes a part.
 # make demo_files: writes the images, requests and container image of demo/ once more, which give the same bytes.
 # make install [PREFIX=/usr/local] [DESTDIR=], make uninstall: what make build has made, with man pages and the mount helper.
 # make deb, make dist [PACKAGES=build]: a Debian package, a tar of the same files. make installed: all of these in fresh roots.
 # Each of these starts a file of checks/ by `python3 checks NAME WORDS..`; `python3 checks` lists them.
-.PHONY: test build kept demo doors links crate_order logic cases layers registry mounted plant trials wrong_bodies bench growth speed fuzz threads soak demo_files needed pictures
+.PHONY: test build kept demo doors links crate_order logic cases layers registry mounted plant trials wrong_bodies bench growth speed fuzz liar threads soak demo_files needed pictures
 .PHONY: install uninstall deb dist installed snapshots engines
 
 PYTHON = python3 -B
@@ -44,6 +45,7 @@ test: needed
 	$(CHECKS) layers_umoci build/strata
 	$(CHECKS) registry build/strata --quick
 	$(CHECKS) mounted build/strata
+	$(CHECKS) liar build/strata --quick
 	$(CHECKS) snapshots build/strata
 	$(CHECKS) installed build/strata
 	$(CHECKS) soak build/strata --quick memory
@@ -99,6 +101,9 @@ speed: build/strata
 
 fuzz: build/strata
 	$(CHECKS) fuzz build/strata $(FUZZ)
+
+liar: build/strata
+	$(CHECKS) liar build/strata $(LIAR)
 
 threads: build/strata
 	nice $(CHECKS) threads build/strata

@@ -4,7 +4,8 @@ python3 checks fuzz PROGRAM [--seed N] [--tries N] [--minutes N] [PART..]
 
 Each try of a part makes its inputs of a seed of its own, from N (1) on, and uses any plan, strictly or not, with attributes or
 not, over images that stay in their files or are read in full, and with any owner. Some images have an attribute trailer, right or
-broken. The parts:
+broken. Some stacks are sealed: each image, or each but some, has its digest on the line and its tree in a file, which changes
+nothing either, unless one is not as sealed. The parts:
 
 - `images`: images, most of them broken, through `check` and `list`; `stacks`: stacks of 1 to 6 layers, too.
 - `streams`: requests over such stacks through `serve`, from files and through pipes in pieces, lastingly or not, with
@@ -32,7 +33,7 @@ import time
 
 from checks.fuzz.fuzz_runs import Difference, Running, TooSlow, Wanted
 from checks.fuzz.mutations import Made, demo_images, has_genromfs, mutated_image, mutated_stream, recorded
-from checks.plain import plain
+from checks.plain import plain, plain_verity
 from checks.plain.plain_attributes import trailer
 from checks.shared.build import init
 from checks.shared.clients import Client
@@ -68,6 +69,40 @@ class Profile:
         return [with_trailer(rng, data) if rng.random() < (0.7 if self.attributes else 0.1) else data for data in images]
 
 
+def sealed_words(running, rng, images):
+    """What names the digests of images, whose trees are written beside them; and the lowest image that is not as sealed, if one
+    is not."""
+    words, wrong = [], []
+    for number, data in enumerate(images):
+        name, algorithm = "image-%d" % number, rng.choice(["sha256", "sha512"])
+        tree, digest = plain_verity.tree(algorithm, data), plain_verity.digest(algorithm, data)
+        if rng.random() < 0.2:
+            digest = "-"
+        elif rng.random() < 0.03:
+            wrong.append(number)
+            tree, digest = unlike(rng, algorithm, data, tree, digest)
+        running.write(name + ".verity", tree)
+        words += ["--digest", digest]
+    return words, min(wrong, default=None)
+
+
+def unlike(rng, algorithm, data, tree, digest):
+    """A tree and a digest that are not both an image's: the digest of other bytes, another digit, or another tree."""
+    other = "0" if digest[-1] != "0" else "1"
+    choices = [(tree, plain_verity.digest(algorithm, data + b"\0")), (tree, digest[:-1] + other)]
+    if tree:
+        choices += [(tree[:-1], digest), (b"", digest), (bytes([tree[0] ^ 1]) + tree[1:], digest)]
+    return rng.choice(choices)
+
+
+def seal(running, rng, images):
+    """The words that seal one stack in five, and what must come where an image is not as sealed."""
+    if rng.random() < 0.8:
+        return [], None
+    words, wrong = sealed_words(running, rng, images)
+    return words, None if wrong is None else Wanted(3, b"", "image %d: not as sealed\n" % wrong, {})
+
+
 def unread(images, profile):
     """What is printed of images whose trailer is not asked for."""
     return "" if profile.attributes else "".join("layer %d: attributes not read\n" % number
@@ -82,12 +117,13 @@ def lines_or_stop(lines, images, profile):
         return Wanted(stop.args[1], b"", stop.args[0] + "\n", {})
 
 
-def hold_lines(running, images, profile):
+def hold_lines(running, rng, images, profile):
     """Holds `check` and `list` of these images; how `list` must end."""
     names = [running.write("image-%d" % number, data) for number, data in enumerate(images)]
-    running.hold(["check", *profile.checked, *names], lines_or_stop(plain.check, images, profile))
-    want = lines_or_stop(plain.list_, images, profile)
-    running.hold(["list", *names, *profile.checked], want)
+    digests, unsealed = seal(running, rng, images)
+    running.hold(["check", *profile.checked, *digests, *names], unsealed or lines_or_stop(plain.check, images, profile))
+    want = unsealed or lines_or_stop(plain.list_, images, profile)
+    running.hold(["list", *names, *digests, *profile.checked], want)
     return want
 
 
@@ -99,14 +135,14 @@ def rule_of(want):
 def try_image(running, rng, seen):
     """Holds a single image."""
     profile = Profile(rng, 0.3)
-    want = hold_lines(running, profile.images(rng, [mutated(rng, random_image(rng))]), profile)
+    want = hold_lines(running, rng, profile.images(rng, [mutated(rng, random_image(rng))]), profile)
     seen[rule_of(want)] += 1
 
 
 def try_stack(running, rng, seen):
     profile = Profile(rng, 0.2)
     images = profile.images(rng, random_stack(rng, others_of(rng)))
-    want = hold_lines(running, images, profile)
+    want = hold_lines(running, rng, images, profile)
     seen["broken"] += want.status != 0
     seen["lines"] += want.output.count(b"\n")
     seen["markers"] += sum(data.count(b".wh.") for data in images)
@@ -147,9 +183,14 @@ class Inputs:
             self.stop = stop
             self.stack = plain.stack_of([data for data in images if plain.fault(data) is None] or [EMPTY])
         self.words = [running.write("image-%d" % number, data) for number, data in enumerate(images)]
-        self.words += profile.served + (["--owner", "%d:%d" % owner] if owner else [])
+        digests, self.unsealed = seal(running, rng, images)
+        self.words += digests + profile.served + (["--owner", "%d:%d" % owner] if owner else [])
         if rng.random() < 0.8:
             self.words += random_plan(rng, are_long)
+
+    def is_refused(self):
+        """Whether no request is read."""
+        return self.stop or self.unsealed
 
     def cut(self, stream):
         """A stream in pieces: in long ones where its lists are."""
@@ -170,6 +211,8 @@ class Inputs:
 
     def served(self, stream, is_lasting):
         """What must come of serving a stream: how it ends, and the replies."""
+        if self.unsealed:
+            return self.unsealed, b""
         if self.stop:
             return Wanted(self.stop.args[1], b"", self.stop.args[0] + "\n", {"balances": b""}), b""
         done = plain.Answered(self.stack, stream, is_lasting)
@@ -190,7 +233,8 @@ def serve(inputs, make, seen):
         pieces = inputs.cut(stream)
     if rng.random() < 0.5:
         words += ["--replies", "replies"]
-        want.files["replies"] = replies
+        if not inputs.unsealed:  # else no file is made
+            want.files["replies"] = replies
     else:
         want = want._replace(output=replies)
     running.hold(words, want, pieces)
@@ -215,7 +259,7 @@ def serve_clients(inputs, make, seen):
     streams = [make() for _ in range(rng.choice([1, 2, 3]))]
     words = ["socket", "--listen", "socket", "--sessions", str(len(streams)), *["--lasting"] * is_lasting, *inputs.words]
     wants = [inputs.served(stream, is_lasting) for stream in streams]
-    if inputs.stop:
+    if inputs.is_refused():
         inputs.running.hold(words, wants[0][0]._replace(files={}))
         return
     clients = [random_client(inputs, stream, replies) for stream, (_, replies) in zip(streams, wants)]
@@ -228,7 +272,7 @@ def serve_device(inputs, make, seen):
     """Holds `serve --device`, which is lasting, over a stand-in that stays or goes away early."""
     rng, stream = inputs.rng, make()
     want, replies = inputs.served(stream, True)
-    patience = rng.randrange(len(single(replies)) + 1) if rng.random() < 0.15 and not inputs.stop else None
+    patience = rng.randrange(len(single(replies)) + 1) if rng.random() < 0.15 and not inputs.is_refused() else None
     inputs.running.hold_device(["serve", "--device", *inputs.words], want, replies, inputs.packets(stream), patience)
     seen["devices"] += 1
     note(seen, [stream], [replies])
@@ -287,7 +331,7 @@ def try_made(running, rng, seen):
     images = [mutated_image(rng, MADE.image(rng)) for _ in range(rng.choice([1, 1, 2, 3]))]
     profile = Profile(rng, 0.3)
     images = profile.images(rng, images)
-    want = hold_lines(running, images, profile)
+    want = hold_lines(running, rng, images, profile)
     seen[rule_of(want)] += 1
     if rng.random() < 0.3:
         inputs = Inputs(running, rng, images)

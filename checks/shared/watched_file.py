@@ -1,17 +1,10 @@
-"""A FUSE file system (linux/fuse.h) of one file, `image`, whose reads wait, fail or tell other bytes as a check says. It keeps
-nothing in the kernel's page cache, so each read comes here."""
+"""A file, `image`, in a file system of its own, whose reads wait, fail or tell other bytes as a check says."""
 import errno
 import mmap
-import os
-import select
 import struct
 
-from strata_format.system import called, libc
-from strata_mount.device import DEVICE, MNT_DETACH
+from checks.shared.shown_files import ShownFiles
 
-LOOKUP, FORGET, GETATTR, OPEN, READ, RELEASE, FLUSH, INIT, INTERRUPT = 1, 2, 3, 14, 15, 18, 25, 26, 36
-ROOT, FILE = 1, 2
-FOPEN_DIRECT_IO = 1
 # what is done with reads that touch some bytes: their reply is held back, is EIO, has a few bytes, or has other ones
 SERVE, WAIT, FAIL, CUT, TURN = 0, 1, 2, 3, 4
 FEW = 100
@@ -24,23 +17,13 @@ def turned(data):
     return bytes(byte ^ 0xff for byte in data)
 
 
-class WatchedFile:
-    """The file system, mounted, with a process that serves it."""
+class WatchedFile(ShownFiles):
+    """The file, shown by a process of its own."""
 
     def __init__(self, room, data):
-        self.at, self.data = room.place(), data
-        self.shared = mmap.mmap(-1, ORDER.size + COUNTS.size)
-        self.device = os.open(DEVICE, os.O_RDWR)
-        text = "fd=%d,rootmode=40000,user_id=%d,group_id=%d" % (self.device, 0, 0)
-        called(libc.mount(b"watched", os.fsencode(self.at), b"fuse", 0, text.encode()))
-        self.server = os.fork()
-        if self.server == 0:
-            try:
-                self.serve()
-            finally:
-                os._exit(0)
-        os.close(self.device)
-        self.image = self.at + "/image"
+        self.data, self.shared = data, mmap.mmap(-1, ORDER.size + COUNTS.size)
+        super().__init__(room, ["image"])
+        self.image = self.path("image")
 
     def order(self, what, first=0, last=1 << 63):
         """From now on this is done with reads that touch bytes of this range."""
@@ -65,54 +48,15 @@ class WatchedFile:
 
     def end(self):
         self.order(SERVE)
-        called(libc.umount2(os.fsencode(self.at), MNT_DETACH))
-        os.waitpid(self.server, 0)
+        super().end()
 
-    def serve(self):
-        """Answers requests until the unmount."""
-        waiting = []
-        while True:
-            if select.select([self.device], [], [], 0.002)[0]:
-                try:
-                    message = os.read(self.device, 1 << 18)
-                except OSError:
-                    return
-                if not self.answer(message):
-                    waiting.append(message)
-            waiting = [message for message in waiting if self.ordered()[0] == WAIT or not self.answer(message)]
-            self.count(len(waiting), self.reads())
+    def size(self, name):
+        return len(self.data)
 
-    def reply(self, unique, data=b"", error=0):
-        try:
-            os.write(self.device, struct.pack("<IiQ", 16 + len(data), -error, unique) + data)
-        except OSError:
-            pass
+    def note_waiting(self, count):
+        self.count(count, self.reads())
 
-    def attr(self, node):
-        size, mode = (len(self.data), 0o100644) if node == FILE else (0, 0o040755)
-        return struct.pack("<QQQQQQIIIIIIIIII", node, size, size // 512, 0, 0, 0, 0, 0, 0, mode, 1, 0, 0, 0, 4096, 0)
-
-    def answer(self, message):
-        """Answers a request; whether that was done."""
-        _, opcode, unique, node = struct.unpack_from("<IIQQ", message)
-        body = message[40:]
-        if opcode == INIT:
-            self.reply(unique, struct.pack("<IIIIHHIIHH8I", 7, 31, 0, 0, 16, 12, 131072, 1, 32, 0, *[0] * 8))
-        elif opcode == LOOKUP and node == ROOT and body.rstrip(b"\0") == b"image":
-            self.reply(unique, struct.pack("<QQQQII", FILE, 0, 60, 60, 0, 0) + self.attr(FILE))
-        elif opcode == GETATTR:
-            self.reply(unique, struct.pack("<QII", 60, 0, 0) + self.attr(node))
-        elif opcode == OPEN:
-            self.reply(unique, struct.pack("<QII", 0, FOPEN_DIRECT_IO, 0))
-        elif opcode == READ:
-            return self.answer_read(unique, *struct.unpack_from("<QQI", body)[1:])
-        elif opcode in (RELEASE, FLUSH):
-            self.reply(unique)
-        elif opcode not in (FORGET, INTERRUPT):
-            self.reply(unique, error=errno.ENOENT if opcode == LOOKUP else errno.ENOSYS)
-        return True
-
-    def answer_read(self, unique, offset, size):
+    def answer_read(self, unique, name, offset, size):
         what, first, last = self.ordered()
         touched = offset < last and first < offset + size
         if touched and what == WAIT:
