@@ -12,6 +12,8 @@ from strata_layers.store_images import LATEST, StoredImage, count_of, put_image,
 from strata_layers.store_layers import Maker
 
 LAYOUT = "oci:"
+# so long may a manifest be that is kept; one of 128 layers has a quarter of that
+TEXT_MOST = 1 << 18
 
 
 def name_of(source, tag):
@@ -44,8 +46,10 @@ def opened(maker, source, platform):
 
 
 def sealed_text(data, layers):
-    """The text of a manifest that says the fs-verity digests of all these layers; else None. Without
-    them it says nothing of what is mounted."""
+    """The text of a manifest that says the fs-verity digests of all these layers; else None, as of a
+    very long one. Without them it says nothing of what is mounted."""
+    if len(data) > TEXT_MOST:
+        return None
     digests = digests_in(parsed(data, "manifest"))
     return data.decode() if digests == [it.verity for it in layers] else None
 

@@ -105,9 +105,12 @@ def image_in(store, word):
 def digest_of_text(text):
     """The digest of a manifest by its text."""
     try:
-        from _sha256 import sha256  # as in sharing: hashlib has it too, but loads OpenSSL first
+        from _sha256 import sha256  # hashlib has it too, but loads OpenSSL first
     except ImportError:
-        from hashlib import sha256
+        try:
+            from _sha2 import sha256  # of a newer Python
+        except ImportError:
+            from hashlib import sha256
     return DIGEST + sha256(text.encode("utf-8", "surrogatepass")).hexdigest()
 
 
