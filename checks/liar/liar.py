@@ -5,7 +5,7 @@ sealed image, and what is refused at startup must say `image <n>: not as sealed`
 of a seed of its own. The parts:
 
 - `streams`: a FUSE file system of the test's own shows the files and lies as checks/liar/lies.py says: after the images were
-  opened, from a random read on, or from the first. `serve` answers READs through pipes, or over a socket in place of /dev/fuse, by
+  opened, from a random read on, or from the first. `serve` answers READs through pipes, or over a socket instead of /dev/fuse, by
   one reader or four.
 - `written`: the same over files that another process writes over, cuts and mends meanwhile.
 - `mounts`: such images are mounted, and 8 processes read while the files lie; at the end the files tell the truth, everything

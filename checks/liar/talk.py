@@ -13,7 +13,7 @@ from checks.shared.runs import MINUTE
 
 
 def ends_of(is_device):
-    """Where the server reads and writes, and where its client does: pipes, or a socket in place of /dev/fuse."""
+    """Where the server reads and writes, and where its client does: pipes, or a socket instead of /dev/fuse."""
     if is_device:
         ours, theirs = socket.socketpair(socket.AF_UNIX, socket.SOCK_SEQPACKET)
         widen(ours, theirs)

@@ -186,7 +186,7 @@ def check_order_of_a_folder(room):
     shutil.copy(images[0], own)
     told_of(room, "layer 0 is %s: made to lie on 01.romfs, and is the lowest" % images[2],
             [own, *images[:3]], images[2], own, images[1], images[0])
-    # names that a stranger noted are shown in one line, and suggested only where they can be printed
+    # names that a stranger noted are shown in one line, and suggested only if they can be printed
     with open(os.path.join(out, ".layers.json"), encoding="utf-8") as beside:
         noted = beside.read()
     os.rename(images[0], out + "/\x1b[2J")
