@@ -13,14 +13,18 @@ use romfs_seal::{Digest, Files, SealFault, SealedImage};
 use std::alloc::Allocator;
 use std::os::unix::fs::FileExt;
 
+/// The size from which on no file is read under a digest. An image with its trailer ends below half
+/// of it, and memory is taken for a part of the size before the digest vouches for it.
+const TOO_LARGE: u64 = 1 << 33;
+
 /// What is loaded of a file whose fs-verity digest is this one, with the file of its tree. Each
 /// block is hashed when it is read. All bytes are read, or what the rules look at, with the trailer
 /// where it is asked for; then both files stay open, or are let go. Of what is read the named file
 /// has the bytes, unless a read gives, in the place of a block, another with its digest.
 ///
-/// `Digest` and `Length` come where the files are not the named ones, `Unread` where a read fails
-/// or gives a block that has another digest, and `Memory` where memory was refused, or where a
-/// trailer ends at 2^32 or behind.
+/// `Digest` and `Length` come where the files are not the named ones, `Length` also where the file
+/// has 2^33 bytes or more, `Unread` where a read fails or gives a block that has another digest, and
+/// `Memory` where memory was refused, or where a trailer ends at 2^32 or behind.
 pub fn load_sealed<F: FileExt + Drop, A: Allocator + Copy>(
     alloc: A,
     image: InFile<F>,
@@ -78,6 +82,9 @@ fn under_digest<F: FileExt + Drop, A: Allocator + Copy>(
     ensures { IfOk result (IsUnder digest) }
 {
     let size = image.size();
+    if size >= TOO_LARGE {
+        return Err(SealFault::Length);
+    }
     let files = Files {
         image,
         tree,
