@@ -58,7 +58,7 @@ answer_data stack (Rows listing) = listed_data stack listing
 answer_data stack (Forgotten forget) = []
 answer_data stack (AllForgotten items) = []
 
--- bytes by the size of a request: with 0 how many they are, and otherwise these, unless they are more
+-- bytes by the size of a request: with 0 how many they are, and else these, unless they are more
 abbrev pub by_size : {A : Type 0} → ℕ → ℕ → Answer A → Result (Answer A) Errno
 by_size size len a =
     if size == 0 then Ok (Size len) else if nat_lt size len then Err ERANGE else Ok a

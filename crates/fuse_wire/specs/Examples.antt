@@ -81,7 +81,8 @@ pub record XattrExamples : Type 0 where
   pub empty : op_of 22 (zeros 9) ≡ malformed 22
   pub unended : op_of 22 (zeros 8 ++ codes "user.a") ≡ malformed 22
   pub two_zeros : op_of 22 (zeros 8 ++ codes "a" ++ zeros 2) ≡ malformed 22
-  pub zero_within : op_of 22 (zeros 8 ++ codes "a" ++ zeros 1 ++ codes "b" ++ zeros 1) ≡ malformed 22
+  pub zero_within : op_of 22 (zeros 8 ++ codes "a" ++ zeros 1 ++ codes "b" ++ zeros 1)
+      ≡ malformed 22
   pub short_list : op_of 23 (zeros 7) ≡ malformed 23
   pub longer_list : op_of 23 (u32 5 ++ zeros 4 ++ codes "a") ≡ at_node (listxattr 5)
   pub out : getxattr_out 0x10203 ≡ 3 ∷ 2 ∷ 1 ∷ 0 ∷ 0 ∷ 0 ∷ 0 ∷ 0 ∷ []

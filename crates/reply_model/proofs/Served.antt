@@ -79,7 +79,10 @@ module _ (stack : Stacked) where
   served s node op f a = go (has_xattrs stack) refl
     where
       go : (b : Bool) → has_xattrs stack ≡ b → (refusal stack s node op ≡ Some ENOSYS) ↔ (b ≡ false)
-      go true h = (λ r. absurd (else_served (agreement_of s) node op a (sym (alone _) ∙ (rw (f, no_init op a, a, h) at r))), λ e. absurd (cc))
+      go true h = (
+        λ r. absurd (else_served (agreement_of s) node op a (sym (alone _) ∙ (rw (f, no_init op a, a, h) at r))),
+        λ e. absurd (cc),
+      )
       go false h = (λ r. refl, λ e. rw (f, no_init op a, a, h) refl)
 
   abbrev asking : ℕ → ℕ → NodeOp → Asked

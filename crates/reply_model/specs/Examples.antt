@@ -279,8 +279,10 @@ pub record ReaddirExamples : Type 0 where
   pub both : over_empty (Ready false false) (request 28 2 1 (read_in 0 4096))
       ≡ headed 2 80 ++ own_row ++ upper_row
   pub one : over_empty (Ready false false) (request 28 2 1 (read_in 0 63)) ≡ headed 2 48 ++ own_row
-  pub just_one : over_empty (Ready false false) (request 28 2 1 (read_in 0 32)) ≡ headed 2 48 ++ own_row
-  pub too_small : over_empty (Ready false false) (request 28 2 1 (read_in 0 31)) ≡ refused 2 0xffffffea
+  pub just_one : over_empty (Ready false false) (request 28 2 1 (read_in 0 32))
+      ≡ headed 2 48 ++ own_row
+  pub too_small : over_empty (Ready false false) (request 28 2 1 (read_in 0 31))
+      ≡ refused 2 0xffffffea
   pub no_room : over_empty (Ready false false) (request 28 2 1 (read_in 0 0)) ≡ refused 2 0xffffffea
   pub too_large : over_empty (Ready false false) (request 28 2 1 (read_in 0 (MAX_DATA_SIZE + 1)))
       ≡ refused 2 0xffffffea
@@ -460,7 +462,8 @@ pub record NodeExamples : Type 0 where
       ++ zeros 28
   pub statfs_of_two_paths :
       take 8 (drop 40
-      (reply (stacked (empty_image ∷ []) two_paths) (Ready false false) (asked (request 17 2 0 []))))
+      (reply (stacked (empty_image ∷ []) two_paths)
+      (Ready false false) (asked (request 17 2 0 []))))
       ≡ u64 1
   pub readdir_of_file : over_sample (request 28 2 2 (read_in 0 4096)) ≡ refused 2 0xffffffec
   pub readdirplus_of_link : over_sample (request 44 2 5 (read_in 0 4096)) ≡ refused 2 0xffffffec

@@ -29,7 +29,7 @@ told_of_opening need_not unique flags =
 
 -- the usual and the lasting reply to a request, over a tree with access control lists or without:
 -- INIT is answered other terms; that LOOKUP finds no entry is an entry of no node; OPEN and OPENDIR
--- are answered that the client need not ask, or OPENDIR other flags; and FLUSH that it need not ask.
+-- are answered that the client need not ask, or OPENDIR other flags; and FLUSH that it need not.
 -- Every other reply is the same
 abbrev pub LastsAs : Bool → Agreement → ℕ → Op → List ℕ → List ℕ → Type 0
 LastsAs acls agreed unique (init major minor readahead flags) usual lasting =

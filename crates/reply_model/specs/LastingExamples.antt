@@ -63,11 +63,13 @@ pub record LastingSessionExamples : Type 0 where
   pub no_flags : session_after LastingFresh (init 7 31 131072 0x6001)
       ≡ LastingReady false false false false
   pub export : session_after LastingFresh (init 7 12 0 0x10) ≡ LastingReady true false false false
-  pub no_open : session_after LastingFresh (init 7 31 0 0x20000) ≡ LastingReady false false true false
+  pub no_open : session_after LastingFresh (init 7 31 0 0x20000)
+      ≡ LastingReady false false true false
   pub acls : session_after LastingFresh (init 7 31 0 0x100000) ≡ LastingReady false true false false
   pub no_opendir : session_after LastingFresh (init 7 31 0 0x1000000)
       ≡ LastingReady false false false true
-  pub all_flags : session_after LastingFresh (init 7 39 0 0x73fffffb) ≡ LastingReady true true true true
+  pub all_flags : session_after LastingFresh (init 7 39 0 0x73fffffb)
+      ≡ LastingReady true true true true
   pub other_flags : session_after LastingFresh (init 7 31 0 0xfeedffef)
       ≡ LastingReady false false false false
   pub usually : session_after Fresh (init 7 39 0 0x73fffffb) ≡ Ready true true
@@ -144,10 +146,12 @@ pub record LastingFlushExamples : Type 0 where
 -- of a LOOKUP that is refused ENAMETOOLONG, and of one that finds no entry: the one reply has to
 -- stay, and the other has to become an entry of no node
 pub record LastingStayExamples : Type 0 where
-  pub too_long : (lasting : List ℕ) → LastsAs false (agreement_of (LastingReady false false false false)) 2
+  pub too_long : (lasting : List ℕ)
+      → LastsAs false (agreement_of (LastingReady false false false false)) 2
       (at_node (lookup (codes "x"))) (error_reply 2 ENAMETOOLONG) lasting
       → lasting ≡ error_reply 2 ENAMETOOLONG
-  pub missing : (lasting : List ℕ) → LastsAs false (agreement_of (LastingReady false false false false)) 2
+  pub missing : (lasting : List ℕ)
+      → LastsAs false (agreement_of (LastingReady false false false false)) 2
       (at_node (lookup (codes "x"))) (error_reply 2 ENOENT) lasting
       → lasting ≡ reply_with 2 negative_entry_out
 

@@ -1,5 +1,5 @@
--- linux/fuse.h, FUSE_GETXATTR and FUSE_LISTXATTR, and xattr(7): what of a node's extended attributes
--- a client gets.
+-- linux/fuse.h, FUSE_GETXATTR and FUSE_LISTXATTR, and xattr(7): what a client gets of a node's
+-- extended attributes.
 use Rattle.std.specs.Prelude.{ℕ, List, [], filter, length, Bool, not, ◌==◌, ◌&&◌, nat_lt, Option, Some, None, if◌then◌else◌}
 use Rattle.std.specs.Option.{option_map_or}
 use Rattle.romfs_format.specs.Extended.{Extended, is_acl_name, value_of}

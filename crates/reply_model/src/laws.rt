@@ -122,8 +122,8 @@ pub fn lasting_replies_differ_in_four_ways()
         ≡ balance_after stack Fresh messages node }
 {}
 
-/// Whether a request for extended attributes is answered ENOSYS depends on the stack alone, never on
-/// a node or name: it is if no node has any.
+/// Whether a request for extended attributes is answered ENOSYS depends on the stack alone, never
+/// on a node or name: it is if no node has any.
 #[tactic(auto, using(crate::proofs::Served::served))]
 pub fn attributes_are_served_or_not()
     ensures { (stack : Stacked) (s : Session) (node : ℕ) (op : Op) →

@@ -108,7 +108,70 @@ module _ (body : List ℕ) (b : AreBytes body) where
   xattr_modest (Some name) = tt
 
   served_modest : AllByRecursion (λ row. Modest (row.1 body)) served
-  served_modest = (name_modest _ _, (sized_modest FORGET 8 (λ body. silent (forget (field 8 0 body))) (wide 0 body b), (sized_modest GETATTR 16 (λ _. at_node getattr) tt, (tt, (sized_modest OPEN 8 (λ body. at_node (open_file (field 4 0 body))) tt, (sized_modest READ 40 (λ body. at_node (read (field 8 8 body) (field 4 16 body))) tt, (tt, (tt, (tt, (sized_modest GETXATTR 8 getxattr_of (xattr_modest (body_name (cut_at_zero (drop 8 body)))), (sized_modest LISTXATTR 8 (λ body. at_node (listxattr (field 4 0 body))) tt, (tt, (sized_modest INIT 16 (λ body. init (field 4 0 body) (field 4 4 body) (field 4 8 body) (field 4 12 body)) tt, (sized_modest OPENDIR 8 (λ _. at_node opendir) tt, (sized_modest READDIR 40 (λ body. at_node (readdir (field 8 8 body) (field 4 16 body))) tt, (tt, (tt, (tt, (tt, (sized_modest BATCH_FORGET 8 (λ body. silent (batch_forget (forgets_of body))) batch_modest, (sized_modest READDIRPLUS 40 (λ body. at_node (readdirplus (field 8 8 body) (field 4 16 body))) (narrow 16 body b), tt)))))))))))))))))))))
+  served_modest = (
+    name_modest _ _,
+    (
+      sized_modest FORGET 8 (λ body. silent (forget (field 8 0 body))) (wide 0 body b),
+      (
+        sized_modest GETATTR 16 (λ _. at_node getattr) tt,
+        (
+          tt,
+          (
+            sized_modest OPEN 8 (λ body. at_node (open_file (field 4 0 body))) tt,
+            (
+              sized_modest READ 40 (λ body. at_node (read (field 8 8 body) (field 4 16 body))) tt,
+              (
+                tt,
+                (
+                  tt,
+                  (
+                    tt,
+                    (
+                      sized_modest GETXATTR 8 getxattr_of (xattr_modest (body_name (cut_at_zero (drop 8 body)))),
+                      (
+                        sized_modest LISTXATTR 8 (λ body. at_node (listxattr (field 4 0 body))) tt,
+                        (
+                          tt,
+                          (
+                            sized_modest INIT 16 (λ body. init (field 4 0 body) (field 4 4 body) (field 4 8 body) (field 4 12 body)) tt,
+                            (
+                              sized_modest OPENDIR 8 (λ _. at_node opendir) tt,
+                              (
+                                sized_modest READDIR 40 (λ body. at_node (readdir (field 8 8 body) (field 4 16 body))) tt,
+                                (
+                                  tt,
+                                  (
+                                    tt,
+                                    (
+                                      tt,
+                                      (
+                                        tt,
+                                        (
+                                          sized_modest BATCH_FORGET 8 (λ body. silent (batch_forget (forgets_of body))) batch_modest,
+                                          (
+                                            sized_modest READDIRPLUS 40 (λ body. at_node (readdirplus (field 8 8 body) (field 4 16 body))) (narrow 16 body b),
+                                            tt,
+                                          ),
+                                        ),
+                                      ),
+                                    ),
+                                  ),
+                                ),
+                              ),
+                            ),
+                          ),
+                        ),
+                      ),
+                    ),
+                  ),
+                ),
+              ),
+            ),
+          ),
+        ),
+      ),
+    ),
+  )
 
   op_modest : (opcode : ℕ) → Modest (op_of opcode body)
   unfolding op_of

@@ -20,7 +20,8 @@ use Rattle.serve_core.proofs.Nodes.{IsNode, used_node}
 use Rattle.serve_core.proofs.Rows.{direntpluses, fitting_forms}
 use Rattle.serve_core.proofs.Replied.{refusal_same}
 
-module _ (la lb : List (List ℕ)) (es : List Entry) (rs : List (List AttributeRow)) (ls : List (List (List Extended))) (owner : Owner) (wa wb : Bool)
+module _ (la lb : List (List ℕ)) (es : List Entry) (rs : List (List AttributeRow)) (ls : List (List (List Extended)))
+    (owner : Owner) (wa wb : Bool)
     (same : (p : Place) → IsNode es p → IsSamePlace la lb p) where
   abbrev a : Stacked
   a = record { layers = la; entries = es; rows = rs; lists = ls; owner = owner; whole = wa }

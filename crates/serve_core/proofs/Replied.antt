@@ -39,7 +39,8 @@ IsNoRead (readdirplus offset size) = ⊤
 IsNoRead (getxattr size name) = ⊤
 IsNoRead (listxattr size) = ⊤
 
-module _ (la lb : List (List ℕ)) (es : List Entry) (rs : List (List AttributeRow)) (ls : List (List (List Extended))) (owner : Owner) (wa wb : Bool)
+module _ (la lb : List (List ℕ)) (es : List Entry) (rs : List (List AttributeRow)) (ls : List (List (List Extended)))
+    (owner : Owner) (wa wb : Bool)
     (same : (p : Place) → IsNode es p → IsSamePlace la lb p) where
   abbrev a : Stacked
   a = record { layers = la; entries = es; rows = rs; lists = ls; owner = owner; whole = wa }
@@ -62,7 +63,8 @@ module _ (la lb : List (List ℕ)) (es : List Entry) (rs : List (List AttributeR
   arguments_same agreed (listxattr size) p n = refl
   arguments_same agreed (readdirplus offset size) p n =
       ap (λ t. refuse_if (is_too_large size || t) EINVAL)
-      (small_forms (direntplus_of a) (direntplus_of b) size (rows_after es p offset) (direntpluses la lb es rs ls owner wa wb same p offset n))
+      (small_forms (direntplus_of a) (direntplus_of b) size (rows_after es p offset) (direntpluses la lb es rs ls owner wa wb same
+      p offset n))
 
   kinds_same : (agreed : Agreement) (op : NodeOp) → (service a agreed op).by_kind ≡ (service b agreed op).by_kind
   kinds_same agreed (lookup name) = refl

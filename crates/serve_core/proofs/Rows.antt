@@ -63,7 +63,8 @@ attr_by ino row owner size mode links dev = record {
   rdev = dev;
 }
 
-module _ (la lb : List (List ℕ)) (es : List Entry) (rs : List (List AttributeRow)) (ls : List (List (List Extended))) (owner : Owner) (wa wb : Bool)
+module _ (la lb : List (List ℕ)) (es : List Entry) (rs : List (List AttributeRow)) (ls : List (List (List Extended)))
+    (owner : Owner) (wa wb : Bool)
     (same : (p : Place) → IsNode es p → IsSamePlace la lb p) where
   abbrev A : Stacked
   A = record { layers = la; entries = es; rows = rs; lists = ls; owner = owner; whole = wa }

@@ -119,7 +119,8 @@ replied_front unique None xs ys e = record {
   head = head_before unique xs ∙ ap (reply_head unique) e ∙ sym (head_before unique ys);
 }
 
-module _ (la bs : List (List ℕ)) (es : List Entry) (rs : List (List AttributeRow)) (ls : List (List (List Extended))) (owner : Owner) (wa wb : Bool)
+module _ (la bs : List (List ℕ)) (es : List Entry) (rs : List (List AttributeRow)) (ls : List (List (List Extended)))
+    (owner : Owner) (wa wb : Bool)
     (same : (p : Place) → IsNode es p → IsSamePlace la (map image bs) p)
     (there : (p : Place) → IsNode es p → (b : List ℕ) × (slice_get bs p.0 ≡ Some b))
     (blocks : blocks_all la ≡ blocks_all (map image bs)) (s : Session) (unique node : ℕ) (bytes : List ℕ) where

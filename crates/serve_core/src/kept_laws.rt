@@ -47,7 +47,8 @@ pub fn refused_as_they_are()
         (AreRefused profile kept r ↔ AreRefused profile images r) }
 {}
 
-/// It can be stacked if they can, and then shows what they show: the same entries, rows, lists and owner.
+/// It can be stacked if they can, and then shows what they show: the same entries, rows, lists and
+/// owner.
 pub fn stacked_as_they_are()
     ensures forth { (profile : Profile) (images kept : List (List ℕ)) →
         WereGatheredFor profile images kept → (owner : Owner) (stack : Stacked) →

@@ -6,16 +6,16 @@ use Rattle.fuse_answer.proofs.decide.answer_served.Goals as goal
 
 pub returns-in-Lookup : goal.returns-in-Lookup
 returns-in-Lookup g c =
-    decided_at c.args.table.now c.args.agreed (asked_of c.args.request.now) (lookup c.in-Lookup.name.now) (ap op_said c.in-Lookup.is) c.requires
-    c.look_up.result c.look_up.ensures
+    decided_at c.args.table.now c.args.agreed (asked_of c.args.request.now) (lookup c.in-Lookup.name.now) (ap op_said c.in-Lookup.is)
+    c.requires c.look_up.result c.look_up.ensures
 
 pub returns-in-Getattr : goal.returns-in-Getattr
-returns-in-Getattr g c = decided_at c.args.table.now c.args.agreed (asked_of c.args.request.now) getattr (ap op_said c.in-Getattr.is) c.requires
-    c.get_attr.result c.get_attr.ensures
+returns-in-Getattr g c = decided_at c.args.table.now c.args.agreed (asked_of c.args.request.now) getattr (ap op_said c.in-Getattr.is)
+    c.requires c.get_attr.result c.get_attr.ensures
 
 pub returns-in-Readlink : goal.returns-in-Readlink
-returns-in-Readlink g c = decided_at c.args.table.now c.args.agreed (asked_of c.args.request.now) readlink (ap op_said c.in-Readlink.is) c.requires
-    c.read_link.result c.read_link.ensures
+returns-in-Readlink g c = decided_at c.args.table.now c.args.agreed (asked_of c.args.request.now) readlink (ap op_said c.in-Readlink.is)
+    c.requires c.read_link.result c.read_link.ensures
 
 pub returns-in-Open : goal.returns-in-Open
 returns-in-Open g c =
@@ -24,12 +24,12 @@ returns-in-Open g c =
 
 pub returns-in-Read : goal.returns-in-Read
 returns-in-Read g c =
-    decided_at c.args.table.now c.args.agreed (asked_of c.args.request.now) (read c.in-Read.offset c.in-Read.size) (ap op_said c.in-Read.is) c.requires
-    c.read.result c.read.ensures
+    decided_at c.args.table.now c.args.agreed (asked_of c.args.request.now) (read c.in-Read.offset c.in-Read.size) (ap op_said c.in-Read.is)
+    c.requires c.read.result c.read.ensures
 
 pub returns-in-Opendir : goal.returns-in-Opendir
-returns-in-Opendir g c = decided_at c.args.table.now c.args.agreed (asked_of c.args.request.now) opendir (ap op_said c.in-Opendir.is) c.requires
-    c.open_directory.result c.open_directory.ensures
+returns-in-Opendir g c = decided_at c.args.table.now c.args.agreed (asked_of c.args.request.now) opendir (ap op_said c.in-Opendir.is)
+    c.requires c.open_directory.result c.open_directory.ensures
 
 pub returns-in-Readdir : goal.returns-in-Readdir
 returns-in-Readdir g c =

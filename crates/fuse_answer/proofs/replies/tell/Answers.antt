@@ -38,4 +38,5 @@ returns-in-Ok g c =
     let reads : reading_of by q ≡ answer_reading by c.in-Ok.answer =
     reading_is stack by.sources q ∙ sym (a.reads_are by.sources) in
     subst (λ r. AppendsTold c.write.result c.args.out.now c.write.new.out r q.unique (reply stack s q)) (sym reads)
-    (subst (AppendsTold c.write.result c.args.out.now c.write.new.out (answer_reading by c.in-Ok.answer) q.unique) (sym same) c.write.ensures)
+    (subst (AppendsTold c.write.result c.args.out.now c.write.new.out (answer_reading by c.in-Ok.answer) q.unique) (sym same)
+    c.write.ensures)
