@@ -454,7 +454,7 @@ def test_little_is_loaded(room):
 
 
 def test_words_of_image(room):
-    for words in ((), ("x",), ("x", "y", "z"), ("--no", "x", "y")):
+    for words in ((), ("x",), ("x", "y", "z"), ("--other", "x", "y")):
         errors = io.StringIO()
         with contextlib.redirect_stderr(errors), contextlib.suppress(SystemExit):
             run_tool("image", *words)

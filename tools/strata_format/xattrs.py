@@ -77,7 +77,10 @@ class Part:
         number = WORD.unpack_from(self.data, self.rows + 4 * number)[0] if self.lists else 0
         if number == 0:
             return ()
-        return tuple((self.text(2 * at), self.text(2 * at + 1)) for at in range(self.word(number), self.word(number + 1)))
+        first, end = self.word(number), self.word(number + 1)
+        # of a stranger's image no more are read than a good list may have
+        end = min(end, first + NAMES_MOST // 2)
+        return tuple((self.text(2 * at), self.text(2 * at + 1)) for at in range(first, end))
 
 
 def acl_entries(value):
