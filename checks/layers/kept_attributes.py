@@ -1,7 +1,6 @@
 """Tests of images that keep extended attributes, in version 2 of the trailer: they are held against
 the plain reading of it. A test is a function of a room."""
 import base64
-import contextlib
 import os
 import shutil
 import struct
@@ -14,19 +13,8 @@ from checks.layers.shown_trees import read
 from checks.plain import plain, plain_attributes
 from checks.shared.layer_files import archive, directory, file, hard, images_in, layout_of, symlink
 from strata_format.read_romfs import ReadImage
-from strata_layers import attributes
 
 CAPABILITY = struct.pack("<5I", 0x02000001, 1 << 13, 0, 0, 0)
-
-
-@contextlib.contextmanager
-def keeping():
-    """Images keep extended attributes meanwhile."""
-    attributes.KEEPS, before = True, attributes.KEEPS
-    try:
-        yield
-    finally:
-        attributes.KEEPS = before
 
 
 def kept(image):
@@ -67,26 +55,25 @@ def test_kept_of_archives(room):
         ("broken", 0o664, {"SCHILY.xattr." + ACCESS: "\2\0\0\0x", "SCHILY.xattr.security.capability": "x"}, 0o604, {})]
     entries = [file(name, b"1", mode=mode, pax_headers=said) for name, mode, said, _, _ in made]
     entries += [directory("d", pax_headers={"SCHILY.acl.default": CLOSED_TEXT}), hard("ping2", "ping"),
-                symlink("l", "x", pax_headers={"SCHILY.xattr.trusted.x": "1"})]
+                symlink("l", "x", pax_headers={"SCHILY.xattr.trusted.x": "1", "SCHILY.acl.access": CLOSED_TEXT})]
     wanted = {name: (mode, there) for name, _, _, mode, there in made}
     wanted.update({"": (None, {}), "ping2": wanted["ping"], "l": (0o777, {b"trusted.x": b"1"}),
                    "d": (0o755, {b"system.posix_acl_default": CLOSED})})
     layout = layout_of(room.name(), [archive(entries)]).path
-    told = ["extended attributes are not kept: 2 entries (1 capability, 2 ACLs)", "  layer 0: names: acl.access"]
-    with keeping():
-        out, place = room.name(), room.name()
-        for words in ([layout, out], ["convert", "--store", place, layout, room.name() + ":1"]):
-            status, _, lines = run_tool(*words)
-            expect((status, lines[:2]) == (0, told), "told %r" % lines)
-            expect(lines[3:] == ["attributes of overlayfs's own are left out: 1 entry", "  layer 0: own: user.overlay.opaque"],
-                   "told %r" % lines)
-        image = images_in(out)[0]
-        got = kept(image)
-        expect({name: it for name, it in got.items() if name in wanted} == {**got, **wanted}, "kept %r" % got)
-        # a store has both, one by the other, and counts again
-        for words, line in (([], told[0]), (["--no-xattrs"], "extended attributes are not kept: 12 entries"), ([], told[0])):
-            status, _, lines = run_tool("pull", "--store", place, *words, "oci:" + layout, "x:1")
-            expect(status == 0 and lines[0].startswith(line), "%r: told %r" % (words, lines))
+    told = ["extended attributes are not kept: 3 entries (1 capability, 3 ACLs)", "  layer 0: names: acl.access"]
+    out, place = room.name(), room.name()
+    for words in ([layout, out], ["convert", "--store", place, layout, room.name() + ":1"]):
+        status, _, lines = run_tool(*words)
+        expect((status, lines[:2]) == (0, told), "told %r" % lines)
+        expect(lines[4:] == ["attributes of overlayfs's own are left out: 1 entry", "  layer 0: own: user.overlay.opaque"],
+               "told %r" % lines)
+    image = images_in(out)[0]
+    got = kept(image)
+    expect({name: it for name, it in got.items() if name in wanted} == {**got, **wanted}, "kept %r" % got)
+    # a store has both, one by the other, and counts again
+    for words, line in (([], told[0]), (["--no-xattrs"], "extended attributes are not kept: 12 entries"), ([], told[0])):
+        status, _, lines = run_tool("pull", "--store", place, *words, "oci:" + layout, "x:1")
+        expect(status == 0 and lines[0].startswith(line), "%r: told %r" % (words, lines))
     # readers of version 1 see the same modes as ever
     stack = plain.stack_of([read(image)], True, True)
     expect(stack.attributes(stack.paths[(b"ping",)])[0] == 0o100755, "the mode")
@@ -101,20 +88,19 @@ def test_kept_of_folders(room):
         set_mark(path, "user.x", b"y" * 1000)
     os.symlink("f", folder + "/l")
     both = {ACCESS.encode(): CLOSED, b"user.x": b"y" * 1000}
-    with keeping():
-        image, told = image_of(room, folder)
-        got = kept(image)
-        expect(told == [] and all(got["d/f%02d" % number] == (0o640, both) for number in range(20)), "kept %r" % got)
-        expect(os.path.getsize(image) < 8000, "lists stand there many times")
-        expect(read(image_of(room, folder)[0]) == read(image), "other bytes")
-        bare, told = image_of(room, "--no-xattrs", folder)
-        expect(kept(bare)["d/f00"] == (0o600, {}) and told[0].endswith("(20 ACLs, 20 user attributes)"), "told %r" % told)
-        if shutil.which("genromfs") is None:
-            raise LeftOut("genromfs: there is no such program")
-        made = room.name()
-        subprocess.run(["genromfs", "-d", folder, "-f", made, "-V", "x"], check=True)
-        status, _, told = run_tool("attributes", folder, made)
-        expect((status, told) == (0, []) and kept(made) == got, "told %r" % told)
+    image, told = image_of(room, folder)
+    got = kept(image)
+    expect(told == [] and all(got["d/f%02d" % number] == (0o640, both) for number in range(20)), "kept %r" % got)
+    expect(os.path.getsize(image) < 8000, "lists stand there many times")
+    expect(read(image_of(room, folder)[0]) == read(image), "other bytes")
+    bare, told = image_of(room, "--no-xattrs", folder)
+    expect(kept(bare)["d/f00"] == (0o600, {}) and told[0].endswith("(20 ACLs, 20 user attributes)"), "told %r" % told)
+    if shutil.which("genromfs") is None:
+        raise LeftOut("genromfs: there is no such program")
+    made = room.name()
+    subprocess.run(["genromfs", "-d", folder, "-f", made, "-V", "x"], check=True)
+    status, _, told = run_tool("attributes", folder, made)
+    expect((status, told) == (0, []) and kept(made) == got, "told %r" % told)
 
 
 def test_kept_of_implied_folders(room):
@@ -122,16 +108,15 @@ def test_kept_of_implied_folders(room):
     low = archive([directory("d", mode=0o750, pax_headers={"SCHILY.xattr.user.x": "1"}), file("d/a", b"1")])
     other = archive([directory("d", mode=0o700, pax_headers={"SCHILY.xattr.user.x": "2"})])
     high, place = archive([file("d/b", b"2")]), room.name()
-    with keeping():
-        for number, (below, mode, value) in enumerate(((low, 0o750, b"1"), (other, 0o700, b"2"), (low, 0o750, b"1"))):
-            layout = layout_of(room.name(), [below, high], ("",)).path
-            out = room.name()
-            run_tool(layout, out)
-            expect(kept(images_in(out)[1])["d"] == (mode, {b"user.x": value}), "converted")
-            status, _, told = run_tool("convert", "--store", place, layout, room.name() + ":%d" % number)
-            expect((status, told) == (0, []), "told %r" % told)
-            names = [os.path.join(place, "blobs", "sha256", it) for it in os.listdir(place + "/blobs/sha256")]
-            expect(read(images_in(out)[1]) in map(read, names), "a store has another")
+    for number, (below, mode, value) in enumerate(((low, 0o750, b"1"), (other, 0o700, b"2"), (low, 0o750, b"1"))):
+        layout = layout_of(room.name(), [below, high], ("",)).path
+        out = room.name()
+        run_tool(layout, out)
+        expect(kept(images_in(out)[1])["d"] == (mode, {b"user.x": value}), "converted")
+        status, _, told = run_tool("convert", "--store", place, layout, room.name() + ":%d" % number)
+        expect((status, told) == (0, []), "told %r" % told)
+        names = [os.path.join(place, "blobs", "sha256", it) for it in os.listdir(place + "/blobs/sha256")]
+        expect(read(images_in(out)[1]) in map(read, names), "a store has another")
 
 
 def test_room_for_lists(room):
@@ -155,8 +140,7 @@ def test_hostile_lists(room):
     """Of a stranger's image a list that leads nowhere, or has very many names, is none."""
     folder = room.name()
     set_mark(put(folder, "a", b"1"), "user.x", b"1")
-    with keeping():
-        image = image_of(room, folder)[0]
+    image = image_of(room, folder)[0]
     data = bytearray(read(image))
     place = data.index(b"-attr02-")
     for at in range(place, len(data) - 4, 4):

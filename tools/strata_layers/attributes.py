@@ -18,8 +18,6 @@ SCHILY_ACL, ACCESS_TEXT = b"SCHILY.acl.", b"acl.access"
 # the front of names of records, which no attribute has
 UNREAD = b"acl."
 TEXTS = {ACCESS_TEXT: ACCESS, b"acl.default": DEFAULT}
-# whether images keep extended attributes: from when on strata reads version 2 of the trailer
-KEEPS = False
 # what is reported about an attribute, by the front of its name, in the singular and the plural
 KINDS = {
     b"security.capability": ("capability", "capabilities"),
@@ -79,13 +77,13 @@ def of_file(path):
 
 def settled(mode, attributes, keeps):
     """The mode of a file, its extended attributes that an image keeps, in order, and those that it
-    loses; without `keeps` it keeps none."""
-    if not keeps:
+    loses, by what `keeps` says of a name."""
+    if not any(map(keeps, attributes)):
         return mode_without(mode, attributes), (), attributes
     found, lost = with_binary_acls(attributes), {}
     for name, value in [*found.items()]:
         value = sorted_acl(name, value)
-        if is_kept(name, value) and not name.startswith(UNREAD):
+        if keeps(name) and is_kept(name, value) and not name.startswith(UNREAD):
             found[name] = value
         else:
             lost[name] = found.pop(name)

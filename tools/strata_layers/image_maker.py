@@ -76,8 +76,8 @@ class Maker:
     def __init__(self, image, lost, where=""):
         self.image, self.lost, self.where = image, lost, where
         self.faults, self.left_out, self.refused = Faults(), set(), set()
-        # what was settled last: of which mode and attributes, and what came of it
-        self.settled = (None, None), None
+        # what was settled last: of which attributes and mode, and what came of it
+        self.settled = None, None, None
 
     def put_archive(self, entries):
         """All entries of an archive of tar."""
@@ -145,13 +145,14 @@ class Maker:
     def settle(self, entry):
         """The extended attributes of an entry that are kept, which has those that are lost then, and
         the mode that goes with this. Very many entries may have the very same many."""
-        if entry.attributes:
-            key = entry.mode, entry.attributes
-            if self.settled[0][0] != entry.mode or self.settled[0][1] is not entry.attributes:
-                self.settled = key, settled(*key, self.lost.keeps)
-            entry.mode, items, entry.attributes = self.settled[1]
-            return items
-        return ()
+        there = entry.attributes
+        if not there:
+            return ()
+        keeps = self.lost.keeps_of_link if entry.kind == entries.SYMBOLIC else self.lost.keeps
+        if self.settled[0] is not there or self.settled[1] != (entry.mode, keeps):
+            self.settled = there, (entry.mode, keeps), settled(entry.mode, there, keeps)
+        entry.mode, items, entry.attributes = self.settled[2]
+        return items
 
     def is_left_out(self, entry):
         """Whether an entry is a hard link to what was left out."""

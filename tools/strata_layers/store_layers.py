@@ -21,7 +21,9 @@ from strata_layers.store_seals import keep_seal, made_digest, noted_digest
 from strata_layers.verity import Sealing, sealed_pieces
 
 # a layer that was made by other rules is made anew
-MAKER = 4
+MAKER = 5
+# by these extended attributes were lost; else its layers are the same
+BEFORE = 4
 # above what an image of romfs can have, with all that stands behind it
 UNPACKED_MOST = 1 << 33
 BROKEN = "%s: the layer sha256:%s is broken"
@@ -48,10 +50,10 @@ class Maker:
     # --- what is there ---
 
     def record_name(self, it):
-        """The name of what is noted of a blob, the images of which keep extended attributes, if it
-        is an archive, or don't."""
-        keeps = self.lost.keeps and it.media not in PACKED_ROMFS
-        return "%s-%s%s" % (it.algorithm, it.digits, ".2" if keeps else "")
+        """The name of what is noted of a blob; another one for images that lose extended
+        attributes."""
+        is_bare = self.lost.bare and it.media not in PACKED_ROMFS
+        return "%s-%s%s" % (it.algorithm, it.digits, "-bare" * is_bare)
 
     def stored(self, layer):
         """Whether an image is there with its size."""
@@ -64,13 +66,15 @@ class Maker:
             is_there = self.stored(images[0])
             return Made(images if is_there else None, "sha256:" + it.digits, [], {})
         value = self.store.small_json(self.store.records, self.record_name(it))
-        if value is None or value.get("maker") != MAKER:
+        if value is None or value.get("maker") not in (MAKER, BEFORE):
             return NOTHING
         where = "%s: %s" % (self.store.name, self.record_name(it))
         images = layers_said(value.get("layers"), where)
         if it.media in PACKED_ROMFS:
             images = [images[0]._replace(part=part)]
         lost = counts_said(value.get("lost"), where)
+        if value["maker"] == BEFORE and "attributes" in lost:
+            return NOTHING
         is_taken = self.lost.leaves_out or "entries" not in lost
         is_there = all(map(self.stored, images)) and is_taken
         return Made(images if is_there else None, value.get("archive"),
