@@ -16,6 +16,8 @@ from strata_format.romfs import (DIRECTORY, EXECUTABLE, HARD, HEAD_SIZE, MAGIC, 
 # so many bytes are gathered before they are written, and copied from a file at once
 ROOM = 1 << 20
 HOLE_LEAST = 1 << 16
+# a stranger may write different lists of extended attributes without end, and they stay in memory
+LISTS_MOST = 64 << 20
 # a directory's `.` and `..`
 DOTS_SIZE = 64
 
@@ -44,7 +46,7 @@ class Part:
         # the bytes of all that has come, and how many rows a trailer has at most
         self.claimed, self.nodes = self.at, 1
         # lists of extended attributes, and the bytes that they take behind the rows at most
-        self.lists, self.lists_size = set(), 32
+        self.lists, self.lists_size, self.list = set(), 32, None
 
     # --- bytes ---
 
@@ -95,9 +97,16 @@ class Part:
     def claim_list(self, items):
         """Claims room for a list of extended attributes; equal ones take it once. What is beyond is
         noticed with the next header, or at the end."""
-        if items not in self.lists:
-            self.lists.add(items)
-            self.lists_size += list_size(items)
+        if items is self.list:
+            return
+        self.list = items
+        if items in self.lists:
+            return
+        self.lists.add(items)
+        self.lists_size += list_size(items)
+        if self.lists_size > LISTS_MOST:
+            raise Refused("the extended attributes of its files take more than %d bytes; --no-xattrs"
+                          " leaves them out" % LISTS_MOST)
 
     def claim(self, path, size):
         """Claims room for a header with all that stands behind it. The image must hold it, and

@@ -7,7 +7,7 @@ import os
 import struct
 
 from strata_format.files import write_at
-from strata_format.xattrs import Part, part_of
+from strata_format.xattrs import Part, part_of, words_sum
 from strata_format.xattrs import is_good as are_good
 
 MAGIC = b"-attr01-"
@@ -19,7 +19,6 @@ MODE_MOST, OWNER_MOST, SECOND = 0o7777, 2 ** 32 - 1, 10 ** 9
 END_MOST = 2 ** 32 - 16
 # a block device gives whole blocks only
 BLOCK_SIZE = 1024
-PIECE = 1 << 20
 
 
 def said(mode, uid, gid, seconds, nanoseconds):
@@ -41,11 +40,6 @@ def place_of(full):
 def end_of(full, count):
     """Where the trailer of an image of this full size ends, if it has so many rows."""
     return place_of(full) + HEAD_SIZE + ROW_SIZE * count
-
-
-def words_sum(data):
-    pieces = (data[at:at + PIECE] for at in range(0, len(data), PIECE))
-    return sum(sum(struct.unpack(">%dI" % (len(piece) // 4), piece)) for piece in pieces)
 
 
 def trailer_of(rows, lists):
