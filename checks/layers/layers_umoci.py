@@ -150,13 +150,17 @@ def by_archives(umoci):
     umoci.add(archive([directory("p"), file("p/t", b"t"), file("m", b"m")], tarfile.USTAR_FORMAT))
 
 
+def texts(data):
+    return data.decode("utf-8", "surrogateescape")
+
+
 def by_attributes(umoci):
     """Capabilities, lists of rights and users' own, in two layers."""
-    ability = struct.pack("<5I", 0x02000001, 1 << 13, 0, 0, 0).decode("latin-1")
+    ability = struct.pack("<5I", 0x02000001, 1 << 13, 0, 0, 0)
     umoci.add(archive([
         directory("./"), directory("d", pax_headers={XATTR + "user.low": "1", XATTR + "user.both": "1"}),
-        file("d/ping", b"1", mode=0o755, pax_headers={XATTR + "security.capability": ability}), hard("d/ping4", "d/ping"),
-        file("d/acl", b"2", mode=0o640, pax_headers={XATTR + "system.posix_acl_access": CLOSED.decode("latin-1")}),
+        file("d/ping", b"1", mode=0o755, pax_headers={XATTR + "security.capability": texts(ability)}), hard("d/ping4", "d/ping"),
+        file("d/acl", b"2", mode=0o640, pax_headers={XATTR + "system.posix_acl_access": texts(CLOSED)}),
         file("d/many", b"3", pax_headers={XATTR + "user.%d" % number: "v" * number for number in range(1, 40)}),
         symlink("l", "d", pax_headers={XATTR + "trusted.link": "x"})], tarfile.PAX_FORMAT))
     umoci.add(archive([
