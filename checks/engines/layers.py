@@ -160,24 +160,36 @@ def stays_a_folder(snapshotter, fill):
         return [it for it in lines if "stays a folder" in it]
 
 
-def check_what_images_do_not_hold(snapshotter):
-    """A capability, an attribute of users, a name of whiteouts: told by name, and nothing is
-    lost."""
-    def ability(folder):
+def attributes_of(path):
+    return {name: os.getxattr(path, name) for name in os.listxattr(path)}
+
+
+def check_extended_attributes(snapshotter):
+    """A capability and an attribute of users are in the image, and what is written over it has
+    them. overlayfs's own are not shown."""
+    ability = bytes.fromhex("0100000200200000" + "00" * 12)
+
+    def fill(folder):
         put(folder, "ping", b"x", 0o755)
-        os.setxattr(folder + "/ping", "security.capability",
-                    bytes.fromhex("0100000200200000" + "00" * 12))
+        os.setxattr(folder + "/ping", "security.capability", ability)
+        make_folder(folder, "etc")
+        os.setxattr(folder + "/etc", "user.colour", b"green")
+        os.setxattr(folder + "/etc", "trusted.overlay.opaque", b"y")
 
-    def colour(folder):
-        os.setxattr(folder, "user.colour", b"green")
+    snapshotter.layer("one", "", lowest)
+    snapshotter.layer("two", "one", fill)
+    shown = snapshotter.view("v", "two")
+    hold("the capability", {"security.capability": ability}, attributes_of(shown + "/ping"))
+    hold("the folder's", {"user.colour": b"green"}, attributes_of(shown + "/etc"))
+    hold("a file without", {}, attributes_of(shown + "/opt/one"))
 
-    for number, (fill, said) in enumerate((
-            (ability, "ping: has the extended attribute security.capability"),
-            (colour, "/: has the extended attribute user.colour"),
-            (lambda folder: put(folder, ".wh.x"), ".wh.x: a layer takes a name that begins with .wh. as a whiteout")), 1):
-        lines = stays_a_folder(snapshotter, fill)
-        hold("lines", 2 * number, len(lines))
-        hold("the line", True, "middle stays a folder, with all above it: " + said in lines[-2])
+
+def check_what_images_do_not_hold(snapshotter):
+    """A name of whiteouts: told by name, and nothing is lost."""
+    lines = stays_a_folder(snapshotter, lambda folder: put(folder, ".wh.x"))
+    hold("lines", 2, len(lines))
+    said = ".wh.x: a layer takes a name that begins with .wh. as a whiteout"
+    hold("the line", True, "middle stays a folder, with all above it: " + said in lines[-2])
 
 
 def check_many_layers(snapshotter):
@@ -394,7 +406,8 @@ def check_sealed_images(snapshotter):
     hold("digests", ["-"] * 3 + image_digests(snapshotter)[3:], server_digests(snapshotter))
 
 
-CHECKS = (check_sealed_images, check_a_tree, check_whiteouts_of_all_forms, check_what_images_do_not_hold,
+CHECKS = (check_sealed_images, check_a_tree, check_whiteouts_of_all_forms, check_extended_attributes,
+          check_what_images_do_not_hold,
           check_many_layers,
           check_layers_of_a_store, check_shared_servers, check_blobs_at_hand,
           check_blobs_that_are_images, check_lying_labels, check_given_images)

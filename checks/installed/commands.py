@@ -15,7 +15,7 @@ from checks.installed import pages
 from checks.installed.roots import BIND, PATH, REC, Failed, hold, mount
 
 # programs that a system may lack
-OPTIONAL = ("genromfs", "skopeo", "bwrap", "podman", "runc", "busybox", "mksquashfs")
+OPTIONAL = ("genromfs", "skopeo", "bwrap", "podman", "runc", "busybox", "mksquashfs", "ping", "setcap")
 # what replaces an image of a registry here
 STANDS_FOR = {"docker://alpine:3.20": "oci:demo/layout:lantern"}
 FAR = ("docker://", "app-strata:1")

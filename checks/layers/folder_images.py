@@ -385,8 +385,7 @@ def test_upper_folder(room):
         os.link(upper + "/a/x", upper + "/c")
         os.link(upper + "/a/x", upper + "/d")
     below, above = image_of(room, low)[0], image_of(room, "--upper", upper)
-    lost = ["extended attributes are not kept: 1 entry (1 user attribute)", "  empty: user.note"]
-    expect(above[1] == lost, "told %r" % above[1])
+    expect(above[1] == [], "told %r" % above[1])
     stack = plain.stack_of([read(below), read(above[0])], True, True)
     paths = {b"/".join(path).decode() for path in stack.paths}
     hidden = {"a/x", "c", "d", "d/x"} if os.path.exists(upper + "/d") else set()
@@ -396,7 +395,7 @@ def test_upper_folder(room):
     told = image_of(room, upper)[1]
     marks = ["attributes of overlayfs's own are left out: 2 entries",
              "  a: %s.overlay.impure" % kind, "  b: %s.overlay.opaque" % kind]
-    expect(told == lost + marks, "told %r" % told)
+    expect(told == marks, "told %r" % told)
     put(upper, ".wh.name")
     set_mark(upper + "/a", kind + ".overlay.redirect", b"/b")
     refuse_image(room, ("--upper", upper, room.name()),
@@ -454,7 +453,7 @@ def test_little_is_loaded(room):
 
 
 def test_words_of_image(room):
-    for words in ((), ("x",), ("x", "y", "z"), ("--no", "x", "y")):
+    for words in ((), ("x",), ("x", "y", "z"), ("--other", "x", "y")):
         errors = io.StringIO()
         with contextlib.redirect_stderr(errors), contextlib.suppress(SystemExit):
             run_tool("image", *words)

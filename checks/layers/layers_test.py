@@ -11,14 +11,14 @@ import os
 import shutil
 import sys
 
-from checks.layers import (added_trailers, folder_images, lost_attributes, read_layouts, refused_layers, sealed_images,
-                           sparse_layers, split_layers, taken_layers, written_folders, written_trailers)
+from checks.layers import (added_trailers, folder_images, kept_attributes, lost_attributes, read_layouts,
+                           refused_layers, sealed_images, sparse_layers, split_layers, taken_layers, written_folders, written_trailers)
 from checks.layers.layer_room import LeftOut, Room
 from checks.layers.shown_trees import Unlike
 from checks.plain import plain_layers
 
 MODULES = (folder_images, taken_layers, refused_layers, sparse_layers, split_layers, read_layouts,
-           written_folders, written_trailers, added_trailers, lost_attributes, sealed_images)
+           written_folders, written_trailers, added_trailers, lost_attributes, kept_attributes, sealed_images)
 
 
 def main(strata):

@@ -1,14 +1,16 @@
 """Holds tools/layers.py and strata against umoci, over images that umoci makes: python3 checks layers_umoci PROGRAM
 
-Three images of four layers and more, with whiteouts of both kinds: one by `umoci repack` of an edited tree, one by `umoci
-insert`, one of archives by `umoci raw add-layer`. What strata shows of the images of the layers must be what `umoci unpack`
+Four images, three of them of four layers and more, with whiteouts of both kinds: one by `umoci repack` of an edited tree, one by `umoci
+insert`, two of archives by `umoci raw add-layer`. What strata shows of the images of the layers must be what `umoci unpack`
 writes: at each path the type, whether it is executable, its size, its names, a link's target, the content. As root, where umoci
-can keep them, the mode, the owner and the time must be those that the images' trailers say; else it unpacks by --rootless. Where
+can keep them, the mode, the owner, the time and the extended attributes must be those that the images' trailers say; else it
+unpacks by --rootless. Where
 there is no umoci, a line says so. The status is 0 where nothing differs.
 """
 import os
 import shutil
 import stat
+import struct
 import subprocess
 import sys
 import tarfile
@@ -22,6 +24,10 @@ from checks.shared.layer_files import archive, directory, file, hard, images_in,
 
 IMAGE = "layout:made"
 IS_ROOT = os.geteuid() == 0
+XATTR = "SCHILY.xattr."
+# acl(5): the user 1234 reads, and of the file's group nobody
+CLOSED = struct.pack("<I" + "HHI" * 5, 2, 1, 6, 2 ** 32 - 1, 2, 4, 1234, 4, 0, 2 ** 32 - 1, 16, 4, 2 ** 32 - 1,
+                     32, 0, 2 ** 32 - 1)
 ROOTLESS = ["--rootless"] * (not IS_ROOT)
 
 
@@ -144,6 +150,24 @@ def by_archives(umoci):
     umoci.add(archive([directory("p"), file("p/t", b"t"), file("m", b"m")], tarfile.USTAR_FORMAT))
 
 
+def texts(data):
+    return data.decode("utf-8", "surrogateescape")
+
+
+def by_attributes(umoci):
+    """Capabilities, lists of rights and users' own, in two layers."""
+    ability = struct.pack("<5I", 0x02000001, 1 << 13, 0, 0, 0)
+    umoci.add(archive([
+        directory("./"), directory("d", pax_headers={XATTR + "user.low": "1", XATTR + "user.both": "1"}),
+        file("d/ping", b"1", mode=0o755, pax_headers={XATTR + "security.capability": texts(ability)}), hard("d/ping4", "d/ping"),
+        file("d/acl", b"2", mode=0o640, pax_headers={XATTR + "system.posix_acl_access": texts(CLOSED)}),
+        file("d/many", b"3", pax_headers={XATTR + "user.%d" % number: "v" * number for number in range(1, 40)}),
+        symlink("l", "d", pax_headers={XATTR + "trusted.link": "x"})], tarfile.PAX_FORMAT))
+    umoci.add(archive([
+        directory("d", pax_headers={XATTR + "user.both": "2"}), file("d/acl", b"4"),
+        file("d/new", b"5", pax_headers={XATTR + "user.low": "a\nb=c"})], tarfile.PAX_FORMAT))
+
+
 def unpacked_tree(root):
     """What stands at each path below a folder."""
     found, todo = {(): shape(root)}, [()]
@@ -188,14 +212,23 @@ def hold_attributes(root, images):
     for path, number in stack.paths.items():
         image, header = stack.header(number)
         if header in image.rows:
-            it = os.lstat(os.path.join(os.fsencode(root), *path))
+            whole = os.path.join(os.fsencode(root), *path)
+            it = os.lstat(whole)
             wanted = (it.st_mode, it.st_uid, it.st_gid, *divmod(it.st_mtime_ns, 10 ** 9))
             got, most = stack.attributes(number), 3 if path in changed else 5
             if wanted[:most] != got[:most]:
                 raise Unlike("%r: umoci has %r, the trailers %r" % (b"/".join(path), wanted, got))
+            hold_extended(path, whole, stack.xattrs(number))
             count += 1
     if count < len(stack.paths) // 3:
         raise Unlike("%d of %d paths have a row" % (count, len(stack.paths)))
+
+
+def hold_extended(path, whole, got):
+    wanted = {os.fsencode(name): os.getxattr(whole, name, follow_symlinks=False)
+              for name in os.listxattr(whole, follow_symlinks=False)}
+    if wanted != dict(got):
+        raise Unlike("%r: umoci has %.300r, the trailers %.300r" % (b"/".join(path), wanted, dict(got)))
 
 
 def held(strata, make):
@@ -226,7 +259,7 @@ def main(strata):
         print("layers and umoci: left out, since there is no umoci on the path")
         return True
     failed = 0
-    for make in (by_repack, by_insert, by_archives):
+    for make in (by_repack, by_insert, by_archives, by_attributes):
         name = make.__name__.replace("_", " ")
         try:
             print("layers and umoci, %s: %d layers show the same %d paths" % (name, *held(strata, make)))

@@ -61,7 +61,7 @@ def test_group_of_an_acl(room):
     made = archive([file(name, b"1", mode=mode, pax_headers=headers) for name, (mode, headers, _) in wanted.items()])
     image = room.name()
     layout = layout_of(room.name(), [made]).path
-    status, _, told = run_tool(layout, image)
+    status, _, told = run_tool("--no-xattrs", layout, image)
     lines = ["extended attributes are not kept: 13 entries (14 ACLs)"]
     expect((status, told[:1]) == (0, lines), "told %r" % told)
     got = modes_of(images_in(image)[0])
@@ -87,19 +87,19 @@ def test_acls_of_folders(room):
     expect(os.stat(folder + "/closed").st_mode & 0o777 == 0o640, "the mask is no mode here")
     wanted = {"": os.stat(folder).st_mode & 0o777, "closed": 0o600, "plain": 0o664}
     lines = ["extended attributes are not kept: 1 entry (1 ACL)", "  closed: " + ACCESS]
-    image, told = image_of(room, folder)
+    image, told = image_of(room, "--no-xattrs", folder)
     expect((modes_of(image), told) == (wanted, lines), "shown %r, told %r" % (modes_of(image), told))
     if shutil.which("genromfs") is None:
         raise LeftOut("genromfs: there is no such program")
     image = room.name()
     subprocess.run(["genromfs", "-d", folder, "-f", image, "-V", "x"], check=True)
-    status, _, told = run_tool("attributes", folder, image)
+    status, _, told = run_tool("attributes", "--no-xattrs", folder, image)
     lines[1] = "  %s/closed: %s" % (folder, ACCESS)
     expect((status, modes_of(image), told) == (0, wanted, lines), "shown %r, told %r" % (modes_of(image), told))
     for words in (["--acls"], ["--xattrs", "--xattrs-include=*"]):
         made = subprocess.run(["tar", "-C", folder, *words, "-c", "closed", "plain"], check=True, capture_output=True).stdout
         image = room.name()
-        status, _, told = run_tool(layout_of(room.name(), [made]).path, image)
+        status, _, told = run_tool("--no-xattrs", layout_of(room.name(), [made]).path, image)
         got = modes_of(images_in(image)[0])
         expect((status, got) == (0, {**wanted, "": 0o755}), "tar %s: %r" % (words, got))
         expect(told[0] == lines[0], "told %r" % told)
@@ -115,15 +115,15 @@ def test_counts(room):
     whole = [line, "  layer 0: ping: security.capability", "  layer 0: l: security.selinux,trusted.x",
              "  layer 1: o: user.y", own, "  layer 1: o: user.overlay.opaque"]
     layout, place = layout_of(room.name(), made).path, room.name()
-    for words in (["pull", "--store", place, "oci:" + layout, "x:1"],
-                  ["convert", "--store", place, layout, room.name() + ":1"],
-                  ["pull", "--store", place, "oci:" + layout, "x:2"]):
+    for words in (["pull", "--no-xattrs", "--store", place, "oci:" + layout, "x:1"],
+                  ["convert", "--no-xattrs", "--store", place, layout, room.name() + ":1"],
+                  ["pull", "--no-xattrs", "--store", place, "oci:" + layout, "x:2"]):
         status, _, told = run_tool(*words)
         expect((status, told) == (0, whole), "%r: %d, told %r" % (words, status, told))
         whole = [line, own]
     # a layer that several images have is reported once
     new = layout_of(room.name(), [made[0], made[0]], ("gzip",)).path
-    status, _, told = run_tool("convert", "--store", place, new, room.name() + ":1")
+    status, _, told = run_tool("convert", "--no-xattrs", "--store", place, new, room.name() + ":1")
     expect(told == [line.replace("3 entries", "2 entries").replace(", 1 user attribute", "")], "told %r" % told)
 
 
@@ -132,10 +132,10 @@ def test_fails_on_lost(room):
     made = archive([file("a", pax_headers={"SCHILY.xattr.user.y": "1"})])
     layout, place, out = layout_of(room.name(), [made]).path, room.name(), room.name()
     line = "--fail-on-lost: extended attributes are not kept: 1 entry (1 user attribute)"
-    for words in (["convert", "--fail-on-lost", "--store", place, layout, out],
-                  ["convert", "--fail-on-lost", "--store", place, layout, out],
-                  ["pull", "--store", place, "--fail-on-lost", "oci:" + layout, "x:1"],
-                  ["--fail-on-lost", layout, out]):
+    for words in (["convert", "--fail-on-lost", "--no-xattrs", "--store", place, layout, out],
+                  ["convert", "--fail-on-lost", "--no-xattrs", "--store", place, layout, out],
+                  ["pull", "--store", place, "--no-xattrs", "--fail-on-lost", "oci:" + layout, "x:1"],
+                  ["--no-xattrs", "--fail-on-lost", layout, out]):
         status, output, told = run_tool(*words)
         expect((status, output, told[0]) == (1, "", line), "%r: %d, told %r" % (words, status, told))
         expect(told[1:] in ([], ["layer 0: a: user.y"]), "told %r" % told)
@@ -143,7 +143,7 @@ def test_fails_on_lost(room):
     expect(run_tool("images", "--store", place)[1] == "", "there is an image")
     folder = room.name()
     set_mark(put(folder, "a", b"1"), "user.y", b"1")
-    refuse_image(room, ("--fail-on-lost", folder, room.name()), line, "a: user.y")
+    refuse_image(room, ("--fail-on-lost", "--no-xattrs", folder, room.name()), line, "a: user.y")
     os.removexattr(folder + "/a", "user.y")
     expect(image_of(room, "--fail-on-lost", folder)[1] == [], "nothing is lost")
     good = layout_of(room.name(), [archive([directory("d")], PAX)]).path

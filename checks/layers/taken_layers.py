@@ -153,8 +153,8 @@ def random_archive(rng):
 
 def test_lost(room):
     told = room.take(archive([directory("d", mode=0o1777, mtime=0), file("a", mode=0o4755, mtime=7), file("b", mode=0o444, uid=5)]),
-                     archive([file("c", gid=7, pax_headers={"SCHILY.xattr.user.x": "1"}), symlink("l", "x", mode=0o700, mtime=9)]))
-    expect(told == ["extended attributes are not kept: 1 entry (1 user attribute)", "  layer 1: c: user.x"], "told %r" % told)
+                     archive([file("c", gid=7, pax_headers={"SCHILY.xattr.user.x": "1", "SCHILY.xattr.security.capability": "1"}), symlink("l", "x", mode=0o700, mtime=9)]))
+    expect(told == ["extended attributes are not kept: 1 entry (1 capability)", "  layer 1: c: security.capability"], "told %r" % told)
     kept = archive([file("a"), directory("d"), file("x", mode=0o755), hard("h", "a"), file(".wh.y", mode=0, uid=5, mtime=7)])
     expect(room.take(kept) == [], "something was lost")
 

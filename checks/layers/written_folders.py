@@ -78,7 +78,7 @@ def test_command(room):
     expect((done.returncode, done.stdout.decode(), done.stderr) == (0, line, b""), "ended with %r" % (done,))
     for word in ("-h", "--help"):
         done = subprocess.run([tool, word], cwd=room.path, capture_output=True, check=False)
-        usage = b"usage: tools/layers.py [--fail-on-lost] LAYOUT[:TAG] FOLDER\n"
+        usage = b"usage: tools/layers.py [OPTIONS] LAYOUT[:TAG] FOLDER\n"
         expect((done.returncode, done.stderr) == (0, b"") and done.stdout.startswith(usage), "ended with %r" % (done,))
 
 

@@ -21,12 +21,13 @@ from checks.mounts import mounted_readers as several
 from checks.mounts import mounted_sealed
 from checks.mounts import mounted_sharing
 from checks.mounts import mounted_trees as trees
+from checks.mounts import mounted_xattrs
 from checks.shared.mounting import Room, adopt, apart, try_mount
 
 CHECKS = (trees.tree, trees.whiteouts, trees.directory, trees.reads, trees.mapped, trees.many, trees.names, trees.writes,
           trees.silent, ends.again, ends.killed, ends.aborted, ends.lazily, ends.waiting, ends.refused, ends.shared, ends.helped,
           several.readers, several.busy, *mounted_sharing.CHECKS, *mounted_files.CHECKS, *mounted_attributes.CHECKS,
-          *mounted_sealed.CHECKS)
+          *mounted_xattrs.CHECKS, *mounted_sealed.CHECKS)
 
 
 def told_of(check, program, scratch):

@@ -86,6 +86,14 @@ def attributes():
     yield bytes(1024)
 
 
+def lists():
+    """A different list of extended attributes for each of many entries."""
+    for number in range(100):
+        yield extended(b"x", [(b"SCHILY.xattr.user.%02d" % name, b"%03d" % number + bytes(65000)) for name in range(14)])
+        yield header(b"0", "f%d" % number)
+    yield bytes(1024)
+
+
 def deep():
     """Entries that each imply hundreds of folders."""
     for number in range(60):
@@ -101,7 +109,7 @@ def links():
 
 def check_much_of_little(room):
     """A few bytes that unpack to much take little memory, and few lines."""
-    for pieces, status in ((keywords, 0), (attributes, 0), (deep, 0), (links, 1)):
+    for pieces, status in ((keywords, 0), (attributes, 0), (lists, 1), (deep, 0), (links, 1)):
         done = bounded(room, "pull", "oci:" + layout_of(room, pieces()).path, "a:1")
         hold("%s: %s" % (pieces.__name__, done.stderr[-300:]), status, done.returncode)
     hold("lines", 11, done.stderr.count("\n"))

@@ -153,6 +153,13 @@ class Image(Tree):
                 number = found.part
             self.place(path, Link(path[-1], found), number)
 
+    def extend(self, it, items):
+        """Gives a node or a directory its extended attributes, pairs of name and value in order."""
+        it.extended = items
+        if items:
+            for part in self.parts:
+                part.claim_list(items)
+
     # --- the end ---
 
     def name_volume(self, name):
@@ -215,9 +222,10 @@ class Image(Tree):
         for it in itertools.chain(*classes):
             part.write_member(it)
         part.write_again(self.root, self.name)
-        rows = {it.at: it.said for it in [self.root, *self.standing_in(number), *nameless]
-                if not isinstance(it, Link) and it.said is not None}
-        part.end(full, rows)
+        every = [it for it in [self.root, *self.standing_in(number), *nameless]
+                 if not isinstance(it, Link) and it.said is not None]
+        part.end(full, {it.at: it.said for it in every},
+                 {it.at: it.extended for it in every if it.extended})
 
     def join(self, number):
         """Lets the headers of a part name those that come next in their directories."""

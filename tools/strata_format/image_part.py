@@ -16,6 +16,8 @@ from strata_format.romfs import (DIRECTORY, EXECUTABLE, HARD, HEAD_SIZE, MAGIC, 
 # so many bytes are gathered before they are written, and copied from a file at once
 ROOM = 1 << 20
 HOLE_LEAST = 1 << 16
+# a stranger may write different lists of extended attributes without end, and they stay in memory
+LISTS_MOST = 64 << 20
 # a directory's `.` and `..`
 DOTS_SIZE = 64
 
@@ -43,6 +45,8 @@ class Part:
         self.put(bytes(DOTS_SIZE))
         # the bytes of all that has come, and how many rows a trailer has at most
         self.claimed, self.nodes = self.at, 1
+        # lists of extended attributes, and the bytes that they take behind the rows at most
+        self.lists, self.lists_size, self.list = set(), 32, None
 
     # --- bytes ---
 
@@ -84,7 +88,25 @@ class Part:
 
     def end_with(self, size):
         """Where the trailer would end, if one more header came, with what is behind it."""
-        return trailer.end_of(self.claimed + size, self.nodes + 1)
+        return trailer.end_of(self.claimed + size, self.nodes + 1) + self.room_of_lists(1)
+
+    def room_of_lists(self, more):
+        """The bytes of extended attributes, if so many more headers came."""
+        return self.lists_size + 4 * (self.nodes + more) if self.lists else 0
+
+    def claim_list(self, items):
+        """Claims room for a list of extended attributes; equal ones take it once. What is beyond is
+        noticed with the next header, or at the end."""
+        if items is self.list:
+            return
+        self.list = items
+        if items in self.lists:
+            return
+        self.lists.add(items)
+        self.lists_size += list_size(items)
+        if self.lists_size > LISTS_MOST:
+            raise Refused("the extended attributes of its files take more than %d bytes; --no-xattrs"
+                          " leaves them out" % LISTS_MOST)
 
     def claim(self, path, size):
         """Claims room for a header with all that stands behind it. The image must hold it, and
@@ -174,13 +196,20 @@ class Part:
         for it in self.written:
             write_at(self.out.fileno(), self.node_header(it), it.at)
 
-    def end(self, full, rows):
+    def end(self, full, rows, lists):
         """Ends the image, all of whose headers are written: its full size, its checksum, and its
-        trailer, with rows by the offsets of headers."""
+        trailer, with rows and extended attributes by the offsets of headers."""
+        if trailer.end_of(full, len(rows)) + self.room_of_lists(0) > self.most:
+            raise Refused(self.too_large(()))
         number, begin = self.out.fileno(), MAGIC + struct.pack(">2I", full, 0)
         summed = begin + os.pread(number, min(full, 512) - 16, 16)
         write_at(number, begin[:12] + struct.pack(">I", -trailer.words_sum(summed) & 0xffffffff), 0)
-        trailer.write_trailer(number, full, rows)
+        trailer.write_trailer(number, full, rows, lists)
+
+
+def list_size(items):
+    """The bytes that a list takes, with its places."""
+    return 8 + sum(8 + len(name) + len(value) for name, value in items)
 
 
 def other_size(path, size, said):

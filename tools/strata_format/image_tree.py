@@ -13,13 +13,15 @@ from strata_format.romfs import NAME_MOST, NAMES_MOST, path_text
 
 class Directory:
     """A directory: its members by their names, what its row of the trailer says, where it has one,
-    and the parts that it stands in, a bit each. Of the part that is being written: where its header
+    with its extended attributes, and the parts that it stands in, a bit each. Of the part that is being written: where its header
     stands, that of the next member of the directory above, and that of its first member, or 0."""
 
-    __slots__ = ("name", "above", "executable", "said", "members", "parts", "at", "next", "first")
+    __slots__ = ("name", "above", "executable", "said", "extended", "members", "parts", "at",
+                 "next", "first")
 
     def __init__(self, name, above, executable):
         self.name, self.above, self.executable, self.said = name, above, executable, None
+        self.extended = ()
         self.members, self.parts, self.at, self.next, self.first = {}, 0, 0, 0, 0
 
 
@@ -27,12 +29,13 @@ class Node:
     """What is neither a directory nor a hard link. Its data stand behind its header: where they
     have not been written, `data` has them, or a source that has a method `copy`."""
 
-    __slots__ = ("kind", "executable", "name", "spec", "size", "said", "data", "part", "at", "next",
-                 "is_named")
+    __slots__ = ("kind", "executable", "name", "spec", "size", "said", "extended", "data", "part",
+                 "at", "next", "is_named")
 
     def __init__(self, kind, name, executable=False, spec=0, size=0, data=b""):
         self.kind, self.name, self.executable, self.spec = kind, name, executable, spec
         self.size, self.data, self.said, self.part = size, data, None, 0
+        self.extended = ()
         # without a place it is written at the end; a hard link may lead to what has no name more
         self.at = self.next = 0
         self.is_named = False

@@ -53,6 +53,10 @@ class ReadImage:
         """What the trailer's row says of the node whose header stands there, or None."""
         return self.rows.said(at)
 
+    def list_of(self, at):
+        """The extended attributes of that node."""
+        return self.rows.list_of(at)
+
     def members(self, folder):
         """The headers in a folder by their names, but for `.` and `..`."""
         if folder not in self.opened:

@@ -7,7 +7,8 @@ import os
 import struct
 
 from strata_format.files import write_at
-from strata_format.xattrs import Part, part_of
+from strata_format.xattrs import Part, part_of, words_sum
+from strata_format.xattrs import is_good as are_good
 
 MAGIC = b"-attr01-"
 HEAD_SIZE, ROW_SIZE = 16, 32
@@ -18,7 +19,6 @@ MODE_MOST, OWNER_MOST, SECOND = 0o7777, 2 ** 32 - 1, 10 ** 9
 END_MOST = 2 ** 32 - 16
 # a block device gives whole blocks only
 BLOCK_SIZE = 1024
-PIECE = 1 << 20
 
 
 def said(mode, uid, gid, seconds, nanoseconds):
@@ -40,11 +40,6 @@ def place_of(full):
 def end_of(full, count):
     """Where the trailer of an image of this full size ends, if it has so many rows."""
     return place_of(full) + HEAD_SIZE + ROW_SIZE * count
-
-
-def words_sum(data):
-    pieces = (data[at:at + PIECE] for at in range(0, len(data), PIECE))
-    return sum(sum(struct.unpack(">%dI" % (len(piece) // 4), piece)) for piece in pieces)
 
 
 def trailer_of(rows, lists):
@@ -80,16 +75,34 @@ class Rows:
         at = self.at + ROW_SIZE * number
         return PLACE.unpack_from(self.data, at)[0], self.data[at + 4:at + ROW_SIZE]
 
-    def said(self, header):
-        """What a good row says of the node whose header stands there, or None."""
+    def find(self, header):
+        """The number of the row of the node whose header stands there, or None."""
         low, high = 0, self.count
         while low < high:
             middle = (low + high) // 2
-            place, row = self.row(middle)
+            place = self.row(middle)[0]
             if place == header:
-                return row if is_good(row) else None
+                return middle
             low, high = (middle + 1, high) if place < header else (low, middle)
         return None
+
+    def said(self, header):
+        """What a good row says of the node whose header stands there, or None."""
+        number = self.find(header)
+        row = self.row(number)[1] if number is not None else None
+        return row if row is not None and is_good(row) else None
+
+    def list_of(self, header):
+        """The extended attributes of the node whose header stands there; none where they break the rules."""
+        row = self.said(header)
+        try:
+            items = self.part().of_row(self.find(header)) if row is not None else ()
+        except struct.error:
+            return ()
+        return items if items and are_good(items, SAID.unpack(row)[0]) else ()
+
+    def part(self):
+        return Part(self.data, self.at + ROW_SIZE * self.count, self.count)
 
     def every(self):
         """What all rows say, by the offsets of headers."""
@@ -97,6 +110,6 @@ class Rows:
 
     def lists(self):
         """The extended attributes of a good trailer, by the offsets of headers."""
-        part = Part(self.data, self.at + ROW_SIZE * self.count, self.count)
+        part = self.part()
         found = ((self.row(number)[0], part.of_row(number)) for number in range(self.count))
         return {at: items for at, items in found if items}

@@ -10,6 +10,7 @@ ACCESS, DEFAULT, CAPABILITY = b"system.posix_acl_access", b"system.posix_acl_def
 # what an overlay notes for itself; it would read these as its own
 OVERLAYS = b"trusted.overlay.", b"user.overlay."
 NAME_MOST, VALUE_MOST, NAMES_MOST, ACL_MOST = 255, 65536, 65536, 4096
+PIECE = 1 << 20
 ENTRY = struct.Struct("<2HI")
 USER_OBJ, USER, GROUP_OBJ, GROUP, MASK, OTHER = 1, 2, 4, 8, 16, 32
 # the id of entries that name nobody
@@ -21,7 +22,8 @@ def words(numbers):
 
 
 def words_sum(data):
-    return sum(struct.unpack(">%dI" % (len(data) // 4), data))
+    pieces = (data[at:at + PIECE] for at in range(0, len(data), PIECE))
+    return sum(sum(struct.unpack(">%dI" % (len(piece) // 4), piece)) for piece in pieces)
 
 
 def list_of(attributes):
@@ -77,7 +79,10 @@ class Part:
         number = WORD.unpack_from(self.data, self.rows + 4 * number)[0] if self.lists else 0
         if number == 0:
             return ()
-        return tuple((self.text(2 * at), self.text(2 * at + 1)) for at in range(self.word(number), self.word(number + 1)))
+        first, end = self.word(number), self.word(number + 1)
+        # of a stranger's image no more are read than a good list may have
+        end = min(end, first + NAMES_MOST // 2)
+        return tuple((self.text(2 * at), self.text(2 * at + 1)) for at in range(first, end))
 
 
 def acl_entries(value):

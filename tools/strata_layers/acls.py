@@ -1,38 +1,27 @@
-"""POSIX access control lists: their binary form, as Linux has it in an extended attribute
-(linux/posix_acl_xattr.h), and their text, as archives have it (acl_to_text(3)).
+"""POSIX access control lists: their text, as archives have it (acl_to_text(3)), and what stays of
+one that is lost.
 
 An entry is its tag, the rights of `rwx` as three bits, and for a named user or group the number, or
-None where only a name is said.
+None where only a name is said; for others NOBODY.
 """
-import struct
+from strata_format.xattrs import GROUP, GROUP_OBJ, MASK, NOBODY, OTHER, USER, USER_OBJ, acl_entries, acl_of
 
-ACCESS, DEFAULT = b"system.posix_acl_access", b"system.posix_acl_default"
-OWNER, USER, GROUP, NAMED_GROUP, MASK, OTHER = 1, 2, 4, 8, 16, 32
-NAMED = (USER, NAMED_GROUP)
-VERSION, NO_ID = 2, 0xffffffff
-HEAD, ENTRY = struct.Struct("<I"), struct.Struct("<HHI")
+NAMED = (USER, GROUP)
 # a tag by its word in a text, without and with a qualifier
-WORDS = {b"user": (OWNER, USER), b"u": (OWNER, USER), b"group": (GROUP, NAMED_GROUP),
-         b"g": (GROUP, NAMED_GROUP), b"mask": (MASK, None), b"m": (MASK, None),
+WORDS = {b"user": (USER_OBJ, USER), b"u": (USER_OBJ, USER), b"group": (GROUP_OBJ, GROUP),
+         b"g": (GROUP_OBJ, GROUP), b"mask": (MASK, None), b"m": (MASK, None),
          b"other": (OTHER, None), b"o": (OTHER, None)}
 
 
-def of_value(value):
-    """The entries of a list in its binary form; None where it is none."""
-    if len(value) % ENTRY.size != HEAD.size or HEAD.unpack_from(value) != (VERSION,):
-        return None
-    found = list(ENTRY.iter_unpack(value[HEAD.size:]))
-    tags = {tag for pair in WORDS.values() for tag in pair}
-    return found if all(tag in tags and perms <= 7 for tag, perms, _ in found) else None
-
-
 def value_of(found):
-    """The binary form of entries, in Linux's order; None where a number is missing."""
-    if any(tag in NAMED and number is None for tag, _, number in found):
-        return None
-    packed = [(tag, perms, number if tag in NAMED else NO_ID) for tag, perms, number in found]
-    packed.sort(key=lambda it: (it[0], it[2]))
-    return HEAD.pack(VERSION) + b"".join(ENTRY.pack(*it) for it in packed)
+    """The binary form of entries; None where a number is missing."""
+    return None if any(number is None for _, _, number in found) else acl_of(found)
+
+
+def is_more_than_a_mode(value):
+    """Whether a good list in its binary form names somebody, or has a mask: else it says what a mode
+    says, and Linux keeps it as that."""
+    return any(tag in (*NAMED, MASK) for tag, _, _ in acl_entries(value))
 
 
 def of_text(text):
@@ -52,9 +41,11 @@ def entry_of(words):
     if tag not in WORDS or bits is None:
         return None
     kind = WORDS[tag][qualifier != b""]
+    if kind not in NAMED:
+        return None if kind is None else (kind, bits, NOBODY)
     digits = number[0] if number else qualifier
-    is_number = digits.isdigit() and len(digits) <= 10 and int(digits) < NO_ID
-    return None if kind is None else (kind, bits, int(digits) if is_number else None)
+    is_number = digits.isdigit() and len(digits) <= 10 and int(digits) < NOBODY
+    return kind, bits, int(digits) if is_number else None
 
 
 def bits_of(perms):
@@ -76,7 +67,7 @@ def mode_without(mode, found):
         if tag == MASK:
             mask &= perms
     for tag, perms, _ in found:
-        if tag == GROUP:
+        if tag == GROUP_OBJ:
             group = perms & mask & mode >> 3
         elif tag in NAMED:
             other &= perms & mask

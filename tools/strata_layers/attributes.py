@@ -8,14 +8,16 @@ import binascii
 import errno
 import os
 
+from strata_format.xattrs import (ACCESS, DEFAULT, acl_entries, acl_mode, acl_of, is_good, is_kept,
+                                  list_of)
 from strata_layers import acls
 
 # keywords of records: behind each front stands a name
 SCHILY, LIBARCHIVE, RHT = b"SCHILY.xattr.", b"LIBARCHIVE.xattr.", b"RHT."
 SCHILY_ACL, ACCESS_TEXT = b"SCHILY.acl.", b"acl.access"
-# an overlay's own, which would hide files of an overlay on top: root's mounts have the first, those
-# of other users the second
-OVERLAYS = (b"trusted.overlay.", b"user.overlay.")
+# the front of names of records, which no attribute has
+UNREAD = b"acl."
+TEXTS = {ACCESS_TEXT: ACCESS, b"acl.default": DEFAULT}
 # what is reported about an attribute, by the front of its name, in the singular and the plural
 KINDS = {
     b"security.capability": ("capability", "capabilities"),
@@ -73,20 +75,55 @@ def of_file(path):
     return {name: os.getxattr(path, name, follow_symlinks=False) for name in names}
 
 
-def acl_entries(attributes):
-    """The entries of each list of rights that a file has: None of one that nobody can read."""
-    found = []
-    if acls.ACCESS in attributes:
-        found.append(acls.of_value(attributes[acls.ACCESS]))
-    if ACCESS_TEXT in attributes:
-        found.append(acls.of_text(attributes[ACCESS_TEXT]))
+def settled(mode, attributes, keeps):
+    """The mode of a file, its extended attributes that an image keeps, in order, and those that it
+    loses, by what `keeps` says of a name."""
+    if not any(map(keeps, attributes)):
+        return mode_without(mode, attributes), (), attributes
+    found, lost = with_binary_acls(attributes), {}
+    for name, value in [*found.items()]:
+        value = sorted_acl(name, value)
+        if keeps(name) and is_kept(name, value) and not name.startswith(UNREAD):
+            found[name] = value
+        else:
+            lost[name] = found.pop(name)
+    mode = mode_without(mode, lost)
+    if ACCESS in found:
+        mode = mode & ~0o777 | acl_mode(found[ACCESS])
+        if not acls.is_more_than_a_mode(found[ACCESS]):
+            del found[ACCESS]
+    items = list_of(found)
+    if not is_good(items, mode):
+        return mode_without(mode, attributes), (), attributes
+    return mode, items, lost
+
+
+def with_binary_acls(attributes):
+    """Attributes in which lists of rights in their text are in their binary form, where this can be
+    said, and is not there already."""
+    found = dict(attributes)
+    for text, name in TEXTS.items():
+        entries = acls.of_text(found[text]) if text in found else None
+        value = found.get(name) or (acls.value_of(entries) if entries else None)
+        if value is not None:
+            found[name] = value
+            found.pop(text, None)
     return found
+
+
+def sorted_acl(name, value):
+    """The value of an attribute; of a list of rights, which may have its entries in any order, as
+    Linux has it."""
+    entries = acl_entries(value) if name in TEXTS.values() else None
+    return acl_of(entries) if entries is not None else value
 
 
 def mode_without(mode, attributes):
     """The mode of a file that loses its attributes."""
-    for found in acl_entries(attributes):
-        mode = acls.mode_without(mode, found)
+    if ACCESS in attributes:
+        mode = acls.mode_without(mode, acl_entries(attributes[ACCESS]))
+    if ACCESS_TEXT in attributes:
+        mode = acls.mode_without(mode, acls.of_text(attributes[ACCESS_TEXT]))
     return mode
 
 

@@ -30,9 +30,12 @@ class Below:
         return self.found[-1]
 
     def said(self, path):
-        """What a row says of the folder that is shown at a path, or None."""
+        """What a row says of the folder that is shown at a path, or None, and its extended attributes."""
         folders = self.folders(path)
-        return folders[0][0].said(folders[0][1]) if folders else None
+        if not folders:
+            return None, ()
+        image, at = folders[0]
+        return image.said(at), image.list_of(at)
 
 
 def common(path, other):

@@ -4,13 +4,16 @@ LAYOUT is an OCI image layout, as `skopeo copy docker://IMAGE oci:LAYOUT:TAG` or
 FOLDER is created if necessary. It gets 00.romfs, 01.romfs and so on, the lowest layer first, or
 nothing; existing images are never overwritten. The command that mounts them is printed. What
 romfs cannot hold is reported on standard error, once for each kind. A layout that would lose data
-is refused with one line and status 1; with --fail-on-lost, so is anything that is not kept, such
-as extended attributes. Status 2 means a wrong command line.
+is refused with one line and status 1. Status 2 means a wrong command line.
+
+OPTIONS are --fail-on-lost, to refuse a layout of which anything is lost, and --no-xattrs, to leave
+out extended attributes.
 
 It needs no root and unpacks nothing: file data goes straight from the archive into the image.
 Modes, owners and times follow each image, as in strata-attributes(5).
 """
 import _signal as signal  # without enum, which takes longer to load than all of this
+import itertools
 import os
 import sys
 
@@ -22,8 +25,8 @@ from strata_format.words import quoted
 VERBS = ("image", "convert", "pull", "images", "verify", "remove", "prune", "config", "attributes",
          "seal", "podman")
 HELP_WIDTH = 100
-# what may stand before a layout
-FAIL_ON_LOST = "--fail-on-lost"
+# what may stand before a layout, by the fields of Lost
+OPTIONS = {"--fail-on-lost": "fails", "--no-xattrs": "bare"}
 
 
 def say(line):
@@ -38,8 +41,8 @@ def help_text():
     import shutil
     import textwrap
     name = command("layers")
-    lines = ["usage: %s [%s] LAYOUT[:TAG] FOLDER" % (name, FAIL_ON_LOST),
-             "       %s VERB .." % name, "       %s -h|--help|-V|--version" % name]
+    lines = ["usage: %s [OPTIONS] LAYOUT[:TAG] FOLDER" % name, "       %s VERB .." % name,
+             "       %s -h|--help|-V|--version" % name]
     # as wide as the terminal, as the help of a verb is
     width = min(HELP_WIDTH, shutil.get_terminal_size().columns)
     verbs = "Each VERB has a --help: %s." % ", ".join(VERBS)
@@ -63,11 +66,11 @@ def wrong_words(words):
     return "%s: unexpected after LAYOUT[:TAG] FOLDER" % shown(os.fsencode(words[2])) if len(words) > 2 else None
 
 
-def images_of_layout(words, fails):
+def images_of_layout(words, options):
     """`LAYOUT[:TAG] FOLDER`."""
     from strata_layers.image_folder import write_images
     from strata_layers.lost import Lost
-    lost = Lost(fails=fails)
+    lost = Lost(**{OPTIONS[it]: True for it in options})
     paths = write_images(*words, lost)
     for line in lost.lines():
         say(line)
@@ -86,13 +89,13 @@ def run(words):
     if first in VERBS:
         from strata_layers import verbs
         return verbs.run(first, words[1:])
-    fails = first == FAIL_ON_LOST
-    words = words[fails:]
+    options = list(itertools.takewhile(OPTIONS.__contains__, words))
+    words = words[len(options):]
     wrong = wrong_words(words)
     if wrong is not None:
         say_fault("%s; see --help" % wrong)
         return 2
-    return images_of_layout(words, fails)
+    return images_of_layout(words, options)
 
 
 def main(words):

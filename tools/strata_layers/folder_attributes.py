@@ -5,7 +5,8 @@ import stat
 from strata_format import romfs, trailer
 from strata_format.read_romfs import ReadImage
 from strata_format.refused import Refused, shown
-from strata_layers.attributes import mode_without, of_file
+from strata_format.xattrs import part_of
+from strata_layers.attributes import of_file, settled
 
 KINDS = {romfs.DIRECTORY: stat.S_IFDIR, romfs.REGULAR: stat.S_IFREG, romfs.SYMLINK: stat.S_IFLNK,
          romfs.BLOCK: stat.S_IFBLK, romfs.CHARACTER: stat.S_IFCHR, romfs.SOCKET: stat.S_IFSOCK,
@@ -13,10 +14,9 @@ KINDS = {romfs.DIRECTORY: stat.S_IFDIR, romfs.REGULAR: stat.S_IFREG, romfs.SYMLI
 PIECE = 1 << 20
 
 
-def said_by(found, there):
-    """What the row of a file says, by what the system says of that, and its extended attributes."""
+def said_by(found, mode):
+    """What the row of a file of a mode says, by what the system says of that."""
     seconds, nanoseconds = divmod(found.st_mtime_ns, trailer.SECOND)
-    mode = mode_without(stat.S_IMODE(found.st_mode), there)
     mode = 0o777 if stat.S_ISLNK(found.st_mode) else mode
     return trailer.said(mode, found.st_uid, found.st_gid, seconds, nanoseconds)
 
@@ -36,7 +36,7 @@ class Reading:
     """An image, the folder that it was made of, and what is said of the one by the other."""
 
     def __init__(self, image, folder, lost):
-        self.image, self.folder, self.lost, self.rows = image, folder, lost, {}
+        self.image, self.folder, self.lost, self.rows, self.lists = image, folder, lost, {}, {}
 
     def read(self):
         """What all rows say, by the offsets of headers."""
@@ -72,10 +72,12 @@ class Reading:
             raise Refused("%s: is of another kind in the image" % shown(place))
         if kind == romfs.REGULAR and found.st_size != size:
             raise Refused("%s: has %d bytes, and %d in the image" % (shown(place), found.st_size, size))
-        there = of_file(place)
-        self.rows[at] = said_by(found, there)
-        if there:
-            self.lost.note_attributes(shown(place), there)
+        mode, items, lost = settled(stat.S_IMODE(found.st_mode), of_file(place), self.lost.keeps)
+        self.rows[at] = said_by(found, mode)
+        if items:
+            self.lists[at] = items
+        if lost:
+            self.lost.note_attributes(shown(place), lost)
 
 
 def check_behind(number, full):
@@ -95,11 +97,13 @@ def add_attributes(folder, path, lost):
         try:
             image = ReadImage(file.fileno())
             check_behind(file.fileno(), image.full)
-            rows = Reading(image, os.fsencode(folder), lost).read()
-            if trailer.end_of(image.full, len(rows)) > trailer.END_MOST:
+            reading = Reading(image, os.fsencode(folder), lost)
+            rows = reading.read()
+            lists = part_of([reading.lists.get(at, ()) for at in sorted(rows)])
+            if trailer.end_of(image.full, len(rows)) + len(lists) > trailer.END_MOST:
                 raise Refused("with its attributes it would be larger than %d bytes" % trailer.END_MOST)
         except Refused as refused:
             raise Refused("%s: %s" % (shown(os.fsencode(path)), refused)) from None
         lost.settle()
-        trailer.write_trailer(file.fileno(), image.full, rows)
+        trailer.write_trailer(file.fileno(), image.full, rows, reading.lists)
     return len(rows)

@@ -14,7 +14,7 @@ from strata_format.progress import unheard
 from strata_format.refused import BadEntry, Faults, NotHeld, Refused, shown
 from strata_format.romfs import path_text
 from strata_layers import entries
-from strata_layers.attributes import mode_without
+from strata_layers.attributes import settled
 from strata_layers.entries import MARKER, said_by
 from strata_layers.folder_entries import Folder
 
@@ -44,25 +44,29 @@ def is_about_layers_below(path):
     return any(name.startswith(MARKER) for name in path)
 
 
-def put(image, path, entry):
-    """Puts an entry into an image."""
+def put(image, path, entry, items):
+    """Puts an entry into an image, with these extended attributes."""
+    if entry.kind == entries.HARD:
+        image.hard_link(path, path_of(entry.link))
+        return
+    it = put_node(image, path, entry)
+    it.said = said_by(entry)
+    image.extend(it, items)
+
+
+def put_node(image, path, entry):
     executable = entry.mode & 0o111 != 0
     if entry.kind in entries.FILES:
-        image.file(path, executable, entry.size, entry.data).said = said_by(entry)
-    elif entry.kind == entries.DIRECTORY:
-        image.directory(path, executable).said = said_by(entry)
-    elif entry.kind == entries.SYMBOLIC:
-        image.symlink(path, entry.link).said = said_by(entry)
-    elif entry.kind == entries.HARD:
-        image.hard_link(path, path_of(entry.link))
-    elif entry.kind in DEVICES:
-        kind = DEVICES[entry.kind]
-        image.device(path, kind, entry.major, entry.minor).said = said_by(entry)
-    elif entry.kind in SPECIALS:
-        image.special(path, SPECIALS[entry.kind]).said = said_by(entry)
-    else:
-        raise BadEntry("%s: an entry of the unknown type '%s'"
-                       % (shown(entry.name), shown(entry.kind)))
+        return image.file(path, executable, entry.size, entry.data)
+    if entry.kind == entries.DIRECTORY:
+        return image.directory(path, executable)
+    if entry.kind == entries.SYMBOLIC:
+        return image.symlink(path, entry.link)
+    if entry.kind in DEVICES:
+        return image.device(path, DEVICES[entry.kind], entry.major, entry.minor)
+    if entry.kind in SPECIALS:
+        return image.special(path, SPECIALS[entry.kind])
+    raise BadEntry("%s: an entry of the unknown type '%s'" % (shown(entry.name), shown(entry.kind)))
 
 
 class Maker:
@@ -72,6 +76,8 @@ class Maker:
     def __init__(self, image, lost, where=""):
         self.image, self.lost, self.where = image, lost, where
         self.faults, self.left_out, self.refused = Faults(), set(), set()
+        # what was settled last: of which attributes and mode, and what came of it
+        self.settled = None, None, None
 
     def put_archive(self, entries):
         """All entries of an archive of tar."""
@@ -119,8 +125,7 @@ class Maker:
             if self.is_left_out(entry):
                 self.leave_out(path)
                 return
-            entry.mode = mode_without(entry.mode, entry.attributes)
-            put(self.image, path, entry)
+            put(self.image, path, entry, self.settle(entry))
         except NotHeld as refused:
             if not self.lost.leaves_out:
                 self.refuse(path, refused)
@@ -136,6 +141,18 @@ class Maker:
         """Notes what is wrong with the entry at a path."""
         self.refused.add(path)
         self.faults.note(bad)
+
+    def settle(self, entry):
+        """The extended attributes of an entry that are kept, which has those that are lost then, and
+        the mode that goes with this. Very many entries may have the very same many."""
+        there = entry.attributes
+        if not there:
+            return ()
+        keeps = self.lost.keeps_of_link if entry.kind == entries.SYMBOLIC else self.lost.keeps
+        if self.settled[0] is not there or self.settled[1] != (entry.mode, keeps):
+            self.settled = there, (entry.mode, keeps), settled(entry.mode, there, keeps)
+        entry.mode, items, entry.attributes = self.settled[2]
+        return items
 
     def is_left_out(self, entry):
         """Whether an entry is a hard link to what was left out."""

@@ -31,7 +31,7 @@ def filled(folders, below):
     are very long together: a few deep entries imply very many."""
     paths, left = [], IMPLIED_MOST
     for path, folder in folders:
-        folder.said = below.said(path)
+        folder.said, folder.extended = below.said(path)
         left -= sum(map(len, path)) + len(path)
         if left >= 0:
             paths.append(path)

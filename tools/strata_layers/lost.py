@@ -1,6 +1,7 @@
 """What an image and its attribute trailer don't hold of the entries of layers."""
 from strata_format.refused import SHOWN, Refused, shown
 from strata_format.romfs import path_text
+from strata_format.xattrs import ACCESS, DEFAULT, OVERLAYS
 from strata_layers import attributes
 from strata_layers.entries import HARD, TIME_LEAST, TIME_MOST, is_owner
 
@@ -30,8 +31,8 @@ class Parts:
     are."""
 
     def __init__(self, names):
-        self.own = [it for it in names if it.startswith(attributes.OVERLAYS)]
-        self.others = [it for it in names if not it.startswith(attributes.OVERLAYS)]
+        self.own = [it for it in names if it.startswith(OVERLAYS)]
+        self.others = [it for it in names if not it.startswith(OVERLAYS)]
         self.counts = {}
         for kind, _ in map(attributes.kind_of, self.others):
             self.counts[kind] = self.counts.get(kind, 0) + 1
@@ -40,13 +41,22 @@ class Parts:
 class Lost:
     """Of each kind of loss how many entries, and their names, as far as they are not very many; and
     of each kind of extended attribute how many. `leaves_out` says that entries that no image holds
-    are left out, and not refused; `fails` that nothing may be lost."""
+    are left out, and not refused; `fails` that nothing may be lost, `bare` that all extended
+    attributes are."""
 
-    def __init__(self, leaves_out=False, fails=False):
+    def __init__(self, leaves_out=False, fails=False, bare=False):
         self.counts, self.named = {}, {}
-        self.leaves_out, self.fails = leaves_out, fails
+        self.leaves_out, self.fails, self.bare = leaves_out, fails, bare
         # the extended attributes that were noted last, and what there is among them
         self.last = self.parts = None
+
+    def keeps(self, _name):
+        """Whether an extended attribute of a name is kept, if its value may be."""
+        return not self.bare
+
+    def keeps_of_link(self, name):
+        """The same of a symbolic link, for which Linux knows no lists of rights."""
+        return name not in (ACCESS, DEFAULT) and self.keeps(name)
 
     def add(self, counts):
         """Adds so many of some kinds, as they were counted before."""

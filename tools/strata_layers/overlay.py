@@ -5,7 +5,7 @@ import stat
 
 from strata_format.refused import BadEntry
 from strata_format.romfs import path_text
-from strata_layers.attributes import OVERLAYS
+from strata_format.xattrs import OVERLAYS
 from strata_layers.entries import MARKER
 
 # with these, what is shown at a path is not what stands there, but something of the layers below

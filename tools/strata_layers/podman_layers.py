@@ -23,7 +23,7 @@ from strata_layers.image_maker import VOLUME_NAME
 from strata_layers.store_images import held_layer
 
 # a record of the store is named by the digest of the blob of which layers were made
-RECORD = re.compile("sha256-([0-9a-f]{64})")
+RECORD = re.compile("(sha256-[0-9a-f]{64})(-bare)?")
 WHITEOUT = 0, 0
 PIECE = 1 << 20
 
@@ -43,7 +43,7 @@ class Layer:
         while todo:
             path = todo.pop()
             at = self.read.found(path)
-            self.image.directory(path, True).said = self.read.said(at)
+            self.attribute(self.image.directory(path, True), at)
             members = self.read.members(at)
             if OPAQUE in members:
                 self.put_whiteouts(path, members)
@@ -74,8 +74,12 @@ class Layer:
             self.links.append((path, self.read.end(at)))
         elif kind != romfs.DIRECTORY:
             self.paths[at] = path
-            self.node(path, at, kind, spec, size).said = self.read.said(at)
+            self.attribute(self.node(path, at, kind, spec, size), at)
         return kind == romfs.DIRECTORY
+
+    def attribute(self, it, at):
+        it.said = self.read.said(at)
+        self.image.extend(it, self.read.list_of(at))
 
     def node(self, path, at, kind, spec, size):
         if kind == romfs.REGULAR:
@@ -94,11 +98,12 @@ def blobs_by_layers(store):
     """The digests of blobs by what they unpack to and the image that was made of them."""
     found = {}
     for name in os.listdir(store.records):
-        value = store.small_json(store.records, name) if RECORD.fullmatch(name) else None
+        blob = RECORD.fullmatch(name)
+        value = store.small_json(store.records, name) if blob else None
         layers = value.get("layers") if value is not None else None
         if isinstance(layers, list) and len(layers) == 1 and isinstance(layers[0], dict):
             key = value.get("archive"), layers[0].get("digest")
-            found.setdefault(key, []).append(name.replace("-", ":"))
+            found.setdefault(key, set()).add(blob[1].replace("-", ":"))
     return found
 
 
@@ -118,7 +123,7 @@ class LayerStore:
                 read = ReadImage(number)
             finally:
                 os.close(number)
-            for blob in blobs.get((archive, "sha256:" + layer.digits), ()):
+            for blob in sorted(blobs.get((archive, "sha256:" + layer.digits), ())):
                 found.append(self.write_layer(blob, archive, layer, read, lowers))
             lowers.append(read)
         if not found:

@@ -21,15 +21,13 @@ from strata_layers.store_seals import keep_seal, made_digest, noted_digest
 from strata_layers.verity import Sealing, sealed_pieces
 
 # a layer that was made by other rules is made anew
-MAKER = 4
+MAKER = 5
+# by these extended attributes were lost; else its layers are the same
+BEFORE = 4
 # above what an image of romfs can have, with all that stands behind it
 UNPACKED_MOST = 1 << 33
 BROKEN = "%s: the layer sha256:%s is broken"
 PIECE = 1 << 20
-
-
-def record_name(it):
-    return "%s-%s" % (it.algorithm, it.digits)
 
 
 # what is known of a blob: the images that were made of it, the lowest first, or None; the digest of
@@ -51,6 +49,12 @@ class Maker:
 
     # --- what is there ---
 
+    def record_name(self, it):
+        """The name of what is noted of a blob; another one for images that lose extended
+        attributes."""
+        is_bare = self.lost.bare and it.media not in PACKED_ROMFS
+        return "%s-%s%s" % (it.algorithm, it.digits, "-bare" * is_bare)
+
     def stored(self, layer):
         """Whether an image is there with its size."""
         return self.store.size_of(layer.digits) == layer.size
@@ -61,14 +65,16 @@ class Maker:
             images = [StoredLayer(it.digits, it.size, part)]
             is_there = self.stored(images[0])
             return Made(images if is_there else None, "sha256:" + it.digits, [], {})
-        value = self.store.small_json(self.store.records, record_name(it))
-        if value is None or value.get("maker") != MAKER:
+        value = self.store.small_json(self.store.records, self.record_name(it))
+        if value is None or value.get("maker") not in (MAKER, BEFORE):
             return NOTHING
-        where = "%s: %s" % (self.store.name, record_name(it))
+        where = "%s: %s" % (self.store.name, self.record_name(it))
         images = layers_said(value.get("layers"), where)
         if it.media in PACKED_ROMFS:
             images = [images[0]._replace(part=part)]
         lost = counts_said(value.get("lost"), where)
+        if value["maker"] == BEFORE and "attributes" in lost:
+            return NOTHING
         is_taken = self.lost.leaves_out or "entries" not in lost
         is_there = all(map(self.stored, images)) and is_taken
         return Made(images if is_there else None, value.get("archive"),
@@ -127,7 +133,7 @@ class Maker:
             self.tell(it, found.lost)
             return self.fitted(it, found, below) if found.implied else found.images
         before = dict(self.lost.counts)
-        self.told.add(record_name(it))
+        self.told.add(self.record_name(it))
         with contextlib.ExitStack() as opened:
             files = []
 
@@ -145,13 +151,13 @@ class Maker:
                 self.hold_unpacked(it, "sha256:" + read[0][0], archive)
             images = [self.kept(new, *both, image.parts[number] + at)
                       for at, (new, both) in enumerate(zip(files, read))]
-        self.note(record_name(it), Made(images, archive, implied, self.lost.since(before)))
+        self.note(self.record_name(it), Made(images, archive, implied, self.lost.since(before)))
         return images
 
     def tell(self, it, lost):
         """Tells what was lost of a blob that isn't read again; once, if several images have it."""
-        if record_name(it) not in self.told:
-            self.told.add(record_name(it))
+        if self.record_name(it) not in self.told:
+            self.told.add(self.record_name(it))
             self.lost.add(lost)
 
     def kept(self, new, digits, seal, part):
@@ -178,7 +184,7 @@ class Maker:
         if len(read) < len(found.implied):
             raise Refused(BROKEN % (self.store.name, found.images[0].digits))
         if images != found.images:
-            self.note(record_name(it), found._replace(images=images))
+            self.note(self.record_name(it), found._replace(images=images))
         return images
 
     def fitted_image(self, layer, number, implied, below, read):
@@ -191,13 +197,14 @@ class Maker:
             raise Refused(BROKEN % (self.store.name, layer.digits)) from None
         wanted = {place: below.said(path) for path, place in there.items() if place is not None}
         read.update(path for path, place in there.items() if place is not None)
-        if all(image.said(place) == row for place, row in wanted.items()):
+        if all((image.said(at), image.list_of(at)) == it for at, it in wanted.items()):
             return layer
-        rows = {**image.rows.every(), **wanted}
+        rows = {**image.rows.every(), **{at: row for at, (row, _) in wanted.items()}}
+        lists = {**image.rows.lists(), **{at: items for at, (_, items) in wanted.items()}}
         with self.store.new_file() as new:
             copy_front(number, new.file.fileno(), image.full)
             trailer.write_trailer(new.file.fileno(), image.full,
-                                  {at: row for at, row in rows.items() if row is not None})
+                                  {at: row for at, row in rows.items() if row is not None}, lists)
             return self.kept(new, *sealed_pieces(pieces_of(new.file.fileno())), layer.part)
 
     def sealed(self, layer):

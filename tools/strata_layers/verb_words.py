@@ -20,15 +20,17 @@ LEAVE_OUT = ("--leave-out", {
     "action": SWITCH, "help": "leave out entries that romfs cannot hold, and name them"})
 FAIL_ON_LOST = ("--fail-on-lost", {
     "action": SWITCH, "help": "fail if anything is lost, such as extended attributes"})
+NO_XATTRS = ("--no-xattrs", {
+    "action": SWITCH, "help": "leave out extended attributes, with a line that counts them"})
 STORE = ("--store", {"metavar": "DIR", "help": "where layers are kept (default: %(default)s)"})
 NAME = ("name", {"metavar": "NAME[:TAG]"})
 # options, and behind them what has no name of its own
 WORDS = {
-    "image": [LEAVE_OUT, FAIL_ON_LOST, ("--upper", {
+    "image": [LEAVE_OUT, FAIL_ON_LOST, NO_XATTRS, ("--upper", {
         "action": SWITCH, "help": "FOLDER is the upper directory of an overlayfs mount: convert its"
                                   " whiteouts and opaque directories"}),
         ("folder", {"metavar": "FOLDER|-"}), ("image", {"metavar": "IMAGE"})],
-    "convert": [STORE, LEAVE_OUT, FAIL_ON_LOST, ("--platform", {
+    "convert": [STORE, LEAVE_OUT, FAIL_ON_LOST, NO_XATTRS, ("--platform", {
         "metavar": "PLATFORM", "type": platform_or_all, "help": PLATFORM + "; all for every one"}),
         ("--compress", {"dest": "packing", "choices": ("gzip", "zstd"), "default": "",
                         "help": "compress layers; pull decompresses them once"}),
@@ -36,7 +38,7 @@ WORDS = {
                    "help": "write each layer as a tar archive of its image, which containerd pulls"
                            " and strata-snapshotter takes"}),
         ("layout", {"metavar": "LAYOUT[:TAG]"}), ("new_layout", {"metavar": "LAYOUT2[:TAG2]"})],
-    "pull": [STORE, LEAVE_OUT, FAIL_ON_LOST, ("--platform", {
+    "pull": [STORE, LEAVE_OUT, FAIL_ON_LOST, NO_XATTRS, ("--platform", {
         "metavar": "PLATFORM", "type": platform_asked, "help": PLATFORM}),
         ("source", {"metavar": "SOURCE", "help": "oci:LAYOUT[:TAG] or docker://HOST/NAME[:TAG]"}),
         ("name", {"metavar": "NAME[:TAG]", "nargs": "?"})],
@@ -51,7 +53,7 @@ WORDS = {
                                       " image's user"}),
         ("options", {"metavar": "OPTION", "nargs": "...",
                      "help": "an option of bwrap, such as --ro-bind /mnt /"})],
-    "attributes": [FAIL_ON_LOST, ("folder", {"metavar": "FOLDER"}),
+    "attributes": [FAIL_ON_LOST, NO_XATTRS, ("folder", {"metavar": "FOLDER"}),
                    ("image", {"metavar": "IMAGE"})],
     "seal": [("--hash-alg", {
         "dest": "algorithm", "choices": ("sha256", "sha512"), "default": "sha256",

@@ -31,7 +31,7 @@ def store_of(asked, make=False):
 
 def run_image(asked):
     from strata_layers.image_file import write_image_file
-    lost = Lost(asked.leave_out, asked.fail_on_lost)
+    lost = Lost(asked.leave_out, asked.fail_on_lost, asked.no_xattrs)
     write_image_file(asked.folder, asked.image, lost, asked.upper)
     told(lost)
     print_line(quoted([command("mount"), asked.image, "DIR"]), "the image is made")
@@ -42,7 +42,7 @@ def run_convert(asked):
     from strata_layers.convert import convert
     from strata_layers.open_layout import open_layout
     layout, tag = open_layout(asked.layout)
-    lost, store = Lost(asked.leave_out, asked.fail_on_lost), store_of(asked, make=True)
+    lost, store = Lost(asked.leave_out, asked.fail_on_lost, asked.no_xattrs), store_of(asked, make=True)
     folder, tag = convert(store, layout, tag, asked.new_layout, asked, lost)
     told(lost)
     print_line("oci:%s:%s" % (folder, tag), "the layout is written")
@@ -53,7 +53,7 @@ def run_pull(asked):
     from strata_layers.layer_order import wrong_order_of
     from strata_layers.pull import pull
     from strata_layers.store_images import image_in, layers_text
-    lost, store = Lost(asked.leave_out, asked.fail_on_lost), store_of(asked, make=True)
+    lost, store = Lost(asked.leave_out, asked.fail_on_lost, asked.no_xattrs), store_of(asked, make=True)
     name, count, new = pull(store, asked.source, asked.name, asked.platform, lost)
     told(lost)
     for line in wrong_order_of(image_in(store, name).layers):
@@ -131,7 +131,7 @@ def sandbox_words(store, name, config, asked):
 
 def run_attributes(asked):
     from strata_layers.folder_attributes import add_attributes
-    lost = Lost(fails=asked.fail_on_lost)
+    lost = Lost(False, asked.fail_on_lost, asked.no_xattrs)
     count = add_attributes(asked.folder, asked.image, lost)
     told(lost)
     print_line("%s: attributes of %d files" % (asked.image, count), "the image has them")

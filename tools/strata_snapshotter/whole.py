@@ -10,8 +10,11 @@ LABELS = (b"security.selinux",)
 class Nothing(Lost):
     """What may be lost of a layer: nothing but labels. Anything else is Refused by name."""
 
+    def keeps(self, name):
+        return name not in LABELS
+
     def note(self, kind, where, names=()):
-        names = [it for it in names if it not in LABELS]
+        names = [it for it in names if self.keeps(it)]
         if kind == "attributes" and names:
             raise Refused("%s: has the extended attribute %s, which an image does not hold"
                           % (where, shown(names[0])))

@@ -16,6 +16,7 @@ complete -c strata-layers -n "not __fish_seen_subcommand_from $verbs" -l version
 complete -c strata-layers -n "__fish_seen_subcommand_from image" -l upper -d 'The upper directory of an overlayfs mount'
 complete -c strata-layers -n "__fish_seen_subcommand_from image convert pull" -l leave-out -d 'Leave out what romfs cannot hold'
 complete -c strata-layers -n "__fish_seen_subcommand_from image convert pull attributes" -l fail-on-lost -d 'Fail if anything is lost'
+complete -c strata-layers -n "__fish_seen_subcommand_from image convert pull attributes" -l no-xattrs -d 'Leave out extended attributes'
 complete -c strata-layers -l help -d 'Print the usage'
 complete -c strata-layers -n "__fish_seen_subcommand_from $stored" -l store -r -d 'The store of container images'
 complete -c strata-layers -n "__fish_seen_subcommand_from convert pull" -l platform -x -a 'linux/amd64 linux/arm64' -d 'Select an image from an index'
