@@ -1,6 +1,7 @@
 """Tests of images that keep extended attributes, in version 2 of the trailer: they are held against
 the plain reading of it. A test is a function of a room."""
 import base64
+import json
 import os
 import shutil
 import struct
@@ -117,6 +118,23 @@ def test_kept_of_implied_folders(room):
         expect((status, told) == (0, []), "told %r" % told)
         names = [os.path.join(place, "blobs", "sha256", it) for it in os.listdir(place + "/blobs/sha256")]
         expect(read(images_in(out)[1]) in map(read, names), "a store has another")
+
+
+def test_kept_of_older_stores(room):
+    """A store of older rules, by which attributes were lost, makes the layers anew that lost some, and no other."""
+    made = [archive([file("a", b"1", pax_headers={"SCHILY.xattr.user.x": "1"})]), archive([file("b", b"2")])]
+    layout, place = layout_of(room.name(), made).path, room.name()
+    run_tool("pull", "--store", place, "--no-xattrs", "oci:" + layout, "x:1")
+    records = os.path.join(place, "made")
+    for name in os.listdir(records):
+        front, is_bare, _ = name.partition("-bare")
+        if is_bare:
+            value = json.loads(read(os.path.join(records, name)))
+            os.unlink(os.path.join(records, name))
+            with open(os.path.join(records, front), "w", encoding="utf-8") as out:
+                json.dump({**value, "maker": 4}, out)
+    status, said, told = run_tool("pull", "--store", place, "oci:" + layout, "x:2")
+    expect((status, said, told) == (0, "x:2: 2 layers, 1 of them new\n", []), "printed %r, told %r" % (said, told))
 
 
 def test_room_for_lists(room):

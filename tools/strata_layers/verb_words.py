@@ -19,7 +19,7 @@ PLATFORM = "linux/ARCHITECTURE[/VARIANT]; by default this machine's"
 LEAVE_OUT = ("--leave-out", {
     "action": SWITCH, "help": "leave out entries that romfs cannot hold, and name them"})
 FAIL_ON_LOST = ("--fail-on-lost", {
-    "action": SWITCH, "help": "fail if anything is lost, such as extended attributes"})
+    "action": SWITCH, "help": "fail if anything is lost"})
 NO_XATTRS = ("--no-xattrs", {
     "action": SWITCH, "help": "leave out extended attributes, with a line that counts them"})
 STORE = ("--store", {"metavar": "DIR", "help": "where layers are kept (default: %(default)s)"})
