@@ -7,7 +7,7 @@ import tempfile
 
 from checks import TOOLS
 from checks.registry import made
-from checks.registry.rooms import LAYERS, LeftOut, hold, needs
+from checks.registry.rooms import LAYERS, TREE, LeftOut, hold, needs
 
 PIECE = 200 << 10
 # of four layers of such a piece two fit
@@ -96,15 +96,29 @@ def check_image_on_a_full_disk(room):
         hold("an image", (before, True), (after, at_last != before))
 
 
+def stored(tree):
+    """The files of a store on the disk, each with its SHA-256."""
+    lines = (it.split("  ./store/") for it in tree.splitlines() if "  ./store/" in it)
+    return {name: digits for digits, name in lines}
+
+
+def blobs_of(files):
+    """Layers and their trees, by the names of their files."""
+    return {name.rpartition("/")[2]: digits for name, digits in files.items() if name.startswith("blobs/")}
+
+
 def check_pull_on_a_full_disk(room):
     """A store gets no image, and keeps layers only that are whole."""
     store = os.path.join(room.path, "disk", "store")
     before, after, at_last = on_disk(room, ["pull", "--store", store, "oci:" + layout(room, 4), "a:1"])
-    files = [it.split("  ./store/") for it in after.splitlines() if "  ./store/" in it]
-    layers = {name.rpartition("/")[2]: digits for digits, name in files if name.startswith("blobs/")}
+    files = stored(after)
+    blobs = blobs_of(files)
+    layers = {name: digits for name, digits in blobs.items() if not name.endswith(TREE)}
     hold("whole layers", {it: it for it in layers}, layers)
-    hold("an image, or what was begun", [], [it for _, it in files if it.startswith(("images/", "new/"))])
-    hold("the image at last", (".", 4), (before, at_last.count("./store/blobs/sha256/")))
+    hold("trees of these alone", set(), {it.removesuffix(TREE) for it in blobs} - set(layers))
+    hold("an image, or what was begun", [], [it for it in files if it.startswith(("images/", "new/"))])
+    trees = [it for it in blobs_of(stored(at_last)) if it.endswith(TREE)]
+    hold("the image at last", (".", 4, 8), (before, len(trees), len(blobs_of(stored(at_last)))))
 
 
 def check_podman_on_a_full_disk(room):
