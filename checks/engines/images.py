@@ -54,22 +54,23 @@ def lowest():
         made.entry("dev/fifo", kind=tarfile.FIFOTYPE, mode=0o640)]
 
 
-# kinds of images: the odd one's second layer has an attribute that no image of romfs holds; the
-# linked one's third layer has hard links over those of the lowest (containerd itself refuses links
-# to files of lower layers alone)
+# kinds of images: the odd one's second layer has a device that no image of romfs holds, and an
+# attribute; the linked one's third layer has hard links over those of the lowest (containerd itself
+# refuses links to files of lower layers alone)
 PLAIN, ODD, LINKED = "plain", "odd", "linked"
 
 
 def layers(kind=PLAIN):
     """Archives of three layers."""
     more = {"SCHILY.xattr.user.colour": "green"} if kind == ODD else {}
+    device = made.entry("dev/far", kind=tarfile.CHRTYPE, devmajor=1, devminor=70000)
     second = [
         folder("opt/o", 0o711), entry("opt/o/.wh..wh..opq"), entry("opt/o/new", b"2"),
         folder("etc"),
         entry("etc/.wh.motd"), folder("var/cache", 0o750), entry("var/cache/.wh..wh..opq"),
         entry("var/cache/three", b"3"), entry("usr/.wh.nothing"),
         entry("etc/shadow", b"other\n", mode=0o640, gid=42),
-        entry("usr/sudo", b"#!/bin/sh\n", mode=0o4755, pax=more)]
+        entry("usr/sudo", b"#!/bin/sh\n", mode=0o4755, pax=more), *[device] * (kind == ODD)]
     third = [
         entry("home/u/file", b"mine\n", uid=1000, gid=1000), entry("var/.wh.cache"),
         folder("kind/file"),
