@@ -27,7 +27,7 @@ class Writer:
         struct.pack_into("=Q", self.shared, 0, WRITING)
 
     def changes(self):
-        """How many changes it has made."""
+        """How many changes it has begun."""
         return STATE.unpack_from(self.shared)[1]
 
     def end(self):
@@ -48,8 +48,9 @@ class Writer:
         opened = {name: os.open(self.path_of(name), os.O_RDWR) for name, _, _ in rights}
         while self.state() == WRITING:
             name, right, other = self.rng.choice(rights)
-            self.change(opened[name], right, other)
+            # counted before it is made, so that none is seen that is not counted
             struct.pack_into("=Q", self.shared, 8, self.changes() + 1)
+            self.change(opened[name], right, other)
 
     def change(self, file, right, other):
         """Changes a block, many blocks, or where the file ends; mostly it is mended at once."""
