@@ -89,6 +89,22 @@ def check_convert(room):
     with open(os.path.join(out, "index.json"), "rb") as file:
         tags = [it["annotations"][made.TAG] for it in json.load(file)["manifests"]]
     hold("tags", ["1", "2"], tags)
+    hold_damaged(room, source.path, made.digest(images[0]).partition(":")[2])
+
+
+def hold_damaged(room, source, digits):
+    """A layer that was damaged in the store is not copied out of it."""
+    blob, out = os.path.join(room.store, "blobs", "sha256", digits), room.name()
+    os.chmod(blob, 0o600)
+    with open(blob, "r+b") as file:
+        file.seek(200)
+        file.write(b"XXXX")
+        file.seek(0)
+        damaged = made.digest(file.read())
+    done = room.tried("convert", source, out)
+    line = "%s: the layer sha256:%s has the digest %s" % (room.store, digits, damaged)
+    hold("a damaged layer", (1, True), (done.returncode, line in done.stderr))
+    hold("no image of it", False, os.path.exists(out + "/index.json"))
 
 
 def check_compress(room):

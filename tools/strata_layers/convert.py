@@ -84,10 +84,18 @@ class Converter:
                 return self.archive_blob(layer, number)
             if self.packing:
                 return (*self.packed_blob(layer, number), layer.digits)
-            self.target.copy_of(number, layer.digits, layer.size)
+            if not self.target.has(layer.digits, layer.size):
+                self.hold_digest(layer, number)
+                self.target.copy_of(number, layer.digits)
             return layer.digits, layer.size, layer.digits
         finally:
             os.close(number)
+
+    def hold_digest(self, layer, number):
+        """Sees that a layer of the store is what its digest says, before it is copied."""
+        with Progress("checked", layer.size) as progress:
+            for _ in checked_pieces(layer, number, self.store.name, progress.add):
+                pass
 
     def archive_blob(self, layer, number):
         """The same of a layer that stands in an archive."""

@@ -135,12 +135,11 @@ class LayoutWriter:
             self.write(self.blobs, digits, data)
         return {"mediaType": media, "digest": "sha256:" + digits, "size": len(data), **more}
 
-    def copy_of(self, number, digits, size):
+    def copy_of(self, number, digits):
         """Writes a blob that is an open file, whose digest has these digits."""
-        if not self.has(digits, size):
-            with self.new_file() as new:
-                copy_file(number, new.file.fileno())
-                self.keep(new, self.blobs, digits)
+        with self.new_file() as new:
+            copy_file(number, new.file.fileno())
+            self.keep(new, self.blobs, digits)
 
     def blob(self, pieces):
         """Writes a blob; its digits and its size."""
