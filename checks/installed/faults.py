@@ -34,6 +34,8 @@ def images(root):
     """Files that can't be read, are no images, or are cut off; too many; by mount(8) too."""
     root.install()
     os.mkdir("/srv/folder")
+    os.mkdir("/srv/layout")
+    put("/srv/layout/oci-layout", b"{}")
     with open("/srv/lower.romfs", "rb") as it:
         data = it.read()
     full, = struct.unpack_from(">I", data, 8)
@@ -45,6 +47,8 @@ def images(root):
         ("none.romfs", 1, "image 1: cannot be read\n" + front % ("image", "none.romfs", "no such file or directory")),
         ("folder", 1, "image 1: cannot be read\n" + front % ("image", "folder", "it is a directory; "
                                                              "`strata-layers image FOLDER IMAGE` makes an image from a directory")),
+        ("layout", 1, "image 1: cannot be read\n" + front % ("image", "layout", "it is an OCI layout; "
+                                                             "`strata-layers LAYOUT FOLDER` makes images of its layers")),
         ("cut.romfs", 3, "layer 1 at 00000008: bad full size\n" + front % ("layer", "cut.romfs", cut)),
         ("empty.romfs", 3, "layer 1 at 00000000: too short\n" + front % ("layer", "empty.romfs", "the file is empty")))
     for name, status, lines in wanted:

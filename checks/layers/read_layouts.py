@@ -134,6 +134,9 @@ def test_documents(room):
     os.remove(os.path.join(name, "oci-layout"))
     room.refused(name, name + "/oci-layout: no such file or directory")
     room.refused(name + "x:y", name + "x:y: no such folder")
+    room.refused("oci:x", "oci:x: no such folder; name the folder without oci:")
+    room.refused("docker://x/y", "docker://x/y: no such folder; `strata-layers pull` brings images of a registry,"
+                 " and `skopeo copy` makes a layout of one")
 
 
 def test_blobs_elsewhere(room):

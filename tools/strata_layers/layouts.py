@@ -328,5 +328,12 @@ def split_name(word):
     """The folder and the tag of `LAYOUT[:TAG]`, where LAYOUT must be there."""
     found = split_at_folder(word)
     if found is None:
-        raise Refused("%s: no such folder" % shown(os.fsencode(word)))
+        raise Refused("%s: no such folder%s" % (shown(os.fsencode(word)), hint_of(word)))
     return found
+
+
+def hint_of(word):
+    """What helps where a word was meant as what `pull` and skopeo take."""
+    if word.startswith("docker://"):
+        return "; `strata-layers pull` brings images of a registry, and `skopeo copy` makes a layout of one"
+    return "; name the folder without oci:" if word.startswith("oci:") else ""

@@ -28,6 +28,7 @@ TAR_MOST = 10000
 # so many files strata may have open besides its images
 FILES_BESIDE = 16
 MAKE = "`strata-layers image FOLDER IMAGE` makes an image from a directory"
+OF_LAYOUT = "`strata-layers LAYOUT FOLDER` makes images of its layers"
 BROKEN_IMAGE = "the file is damaged or was badly made: make it again"
 # what each rule means, in the order in which rules are named
 RULES = {
@@ -117,7 +118,8 @@ def unsealed(path):
     except OSError as fault:
         how = "pull the image again" if split_blob(path)[0] else "`strata-layers seal` makes the tree of an image"
         return "its tree %s: %s; %s" % (shown(os.fsencode(path + TREE)), fault.strerror.lower(), how)
-    return "the image or its tree was changed, or the digest is another image's"
+    how = "; run `strata-layers verify`, and pull again" if split_blob(path)[0] else ""
+    return "the image or its tree was changed, or the digest is another image's" + how
 
 
 def fault_told(path, fault, store):
@@ -125,7 +127,8 @@ def fault_told(path, fault, store):
     if isinstance(fault, FileNotFoundError):
         return not_there(path, store)
     if isinstance(fault, IsADirectoryError):
-        return "it is a directory; " + MAKE
+        is_layout = os.path.exists(os.path.join(path, "oci-layout"))
+        return "it is %s" % ("an OCI layout; " + OF_LAYOUT if is_layout else "a directory; " + MAKE)
     if fault.errno in dead_mounts.GONE:
         return dead_mounts.told(os.path.realpath(path), False)
     return fault.strerror.lower()
