@@ -359,18 +359,21 @@ def check_manifests_without_digests(room):
 
 
 def check_wrong_trees(room):
-    """verify names a tree that was changed, and makes it again."""
+    """verify names a tree that was changed or removed, and makes it again; `pull` makes a missing one."""
     out, _, digests = converted(room)
     room.layers("pull", "oci:" + out, "app:1")
     tree = mounted_layers(room, "app:1")[1] + ".verity"
     hold("a tree of more than a block", True, os.path.getsize(tree) > 0)
     flip(tree)
     hold_not_mounted(room, 3, "image 1: not as sealed\n", "app:1")
-    done = room.tried("verify")
-    hold("verify", (1, "%s: it was changed; it is made again; mount again what is mounted of it; needed by app:1\n" % tree),
-         (done.returncode, done.stdout))
-    hold("verified", "", room.layers("verify"))
-    hold_sealed(room, digests, "app:1")
+    line = "%s: it was changed or removed; it is made again; mount again what is mounted of it; needed by app:1\n" % tree
+    for is_there in (True, False):
+        if not is_there:
+            os.unlink(tree)
+        done = room.tried("verify")
+        hold("verify", (1, line), (done.returncode, done.stdout))
+        hold("verified", "", room.layers("verify"))
+        hold_sealed(room, digests, "app:1")
     os.unlink(tree)
     hold_not_mounted(room, 3, "image 1: not as sealed\n", "app:1")
     room.layers("pull", "oci:" + out, "app:1")

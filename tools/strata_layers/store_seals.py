@@ -42,16 +42,17 @@ def made_digest(store, number, digits):
 
 
 def has_wrong_seal(store, digits, seal):
-    """Whether a layer has another tree or digest than this one; one that has none has no wrong
-    one."""
+    """Whether a layer has another tree or digest than this one, or has lost its tree; one that never
+    had any has no wrong one."""
     number = store.open_layer(digits + TREE)
-    if number is None:
-        return False
     try:
-        value = store.small_json(store.records, record_of(digits)) or {}
+        noted = store.small_json(store.records, record_of(digits))
+        if number is None:
+            return noted is not None
         tree = b"".join(pieces_of(number))
-        return tree != b"".join(seal.levels) or value.get("digest") != seal.digest
+        return tree != b"".join(seal.levels) or (noted or {}).get("digest") != seal.digest
     except Refused:
         return True  # no record that can be read
     finally:
-        os.close(number)
+        if number is not None:
+            os.close(number)

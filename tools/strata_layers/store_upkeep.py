@@ -76,7 +76,7 @@ def wrong_layer(store, digits, heard):
                 "sets it aside")
         elif has_wrong_seal(store, digits, seal):
             yield from mended(
-                store, lambda: keep_seal(store, digits, seal), "%s%s: it was changed; " % (where, TREE),
+                store, lambda: keep_seal(store, digits, seal), "%s%s: it was changed or removed; " % (where, TREE),
                 "it is made again; mount again what is mounted of it", "makes it again")
     finally:
         os.close(number)
