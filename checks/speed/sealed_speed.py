@@ -71,7 +71,8 @@ def held(algorithm, size):
 
 
 def large(folder, size):
-    data = random.Random(1).randbytes(size)
+    rng = random.Random(1)
+    data = b"".join(rng.randbytes(min(MIB, size - at)) for at in range(0, size, MIB))
     return Image(folder + "/large", [Item((b"x",), "regular", False, data=data)])
 
 
